@@ -1,0 +1,57 @@
+-- The finder program: its output as a function of its input.
+use Prim.Native.Nat.{ℕ, _-_}
+use mathlib.Core.Bool.{Bool, true, false, cond}
+use mathlib.Core.Option.{Option, none, some}
+use mathlib.Core.List.{List, [], _∷_, _++_}
+use Rattle.theory.specs.Bytes.{bytes, LF, zeroDigit, isDigit, decimal}
+use Rattle.theory.specs.Lines.{cutLine, afterKey}
+use Rattle.theory.specs.Refusals.{Refusal, Answer, answer, refused, unplaced}
+use Rattle.theory.specs.Operations.{Search, found, nothing, findResult}
+
+-- the numbers of work
+abbrev pub programWork : ℕ
+programWork = 16000
+
+-- the bytes of output: the length of the longest case
+abbrev pub programOutput : ℕ
+programOutput = 24902
+
+-- one digit
+abbrev pub digitOf : List ℕ → Option ℕ
+digitOf [] = none
+digitOf (b ∷ []) = cond (isDigit b) (some (b - zeroDigit)) none
+digitOf (b ∷ c ∷ bs) = none
+
+-- go on with what was read, if anything was
+infixl 20 _>>?_
+unfoldable pub _>>?_ : {A B : Type 0} → Option A → (A → Option B) → Option B
+_>>?_ none k = none
+_>>?_ (some a) k = k a
+
+-- a line of a key and one digit: the digit, and the text after the line
+unfoldable pub digitLine : List ℕ → List ℕ → Option (ℕ × List ℕ)
+digitLine key text = cutLine text >>? λ p. afterKey key (p .0) >>? λ v. digitOf v >>? λ d. some (d, p .1)
+
+-- yes or no
+abbrev pub yesNo : Bool → List ℕ
+yesNo true = bytes "yes"
+yesNo false = bytes "no"
+
+-- what the program prints for an answer
+unfoldable pub printed : Answer Search → List ℕ
+printed (answer (found s text)) = bytes "answer=found\n" ++ text
+printed (answer (nothing b)) = bytes "answer=none\nsettled=" ++ (yesNo b ++ (LF ∷ []))
+printed (refused r) = bytes "answer=refused\nreason=" ++ (decimal (r .number) ++ (bytes "\nline=" ++ (decimal (r .place .line) ++ (LF ∷ []))))
+
+-- the two sizes and the sheet
+abbrev pub sized : List ℕ → Option (ℕ × ℕ × List ℕ)
+sized input = digitLine (bytes "low=") input >>? λ a. digitLine (bytes "high=") (a .1) >>? λ b. some (a .0, b .0, b .1)
+
+-- the answer to the input; a digit line that is not so laid out is 8, before the sheet is read
+abbrev pub answered : Option (ℕ × ℕ × List ℕ) → Answer Search
+answered none = refused (unplaced 8)
+answered (some i) = findResult (i .2) (i .0) (i .1) programWork programOutput
+
+-- the output for an input
+unfoldable pub program : List ℕ → List ℕ
+program input = printed (answered (sized input))
