@@ -9,7 +9,7 @@ use Rattle.theory.specs.Lists.{upFrom}
 use Rattle.theory.specs.Bytes.{bytes, decimal}
 use Rattle.theory.specs.Syntax.{Symbol, Clause}
 use Rattle.theory.specs.Cells.{cellKinds, judged, isModel}
-use Rattle.theory.specs.Flattening.{FlatVariable, own, new, FlatAtom, flatPredicate, flatResult, flatEquality, FlatLiteral, FlatClause, merged, flatten, variableCount}
+use Rattle.theory.specs.Flattening.{FlatVariable, own, new, FlatAtom, flatPredicate, flatResult, flatEquality, FlatLiteral, FlatClause, merged, liftedTerms, flatten, variableCount}
 use Rattle.theory.specs.Propositional.{propBase, propCount}
 use Rattle.theory.specs.Instances.{instances}
 use Rattle.theory.specs.PropClauses.{functionPart, clausePart, parts, propClauses, instanceCount, literalCount, workNeeded}
@@ -96,7 +96,7 @@ pub record Examples : Type 0 where
   pub only-a : findIn onlyA 2 2 ≡ answer (found 2 (bytes "case=1\nsize=2\na=1\np=1 0\n"))
 
 pub examples : Examples
-unfolding twoConstants oneClause nothingAtAll nestedTerms noFixedPoint onlyA findIn writeIn readBackIn flatClauses nestedFlat decimal cellKinds judged isModel merged flatten variableCount propBase propCount instances functionPart clausePart parts propClauses instanceCount literalCount workNeeded literalText clauseText header dimacs isValuation isFunctional readBack _>>=_ grammar readClause countLine isName symbolLines wordOf withinLimits clauseOf clauseLines readProblem tableText tablesText caseText caseLength readTable readTables readCase leastModel smallestModel settled contentOf writtenText readBackText judgeAnswer findResult _>>?_ digitLine printed program
+unfolding twoConstants oneClause nothingAtAll nestedTerms noFixedPoint onlyA findIn writeIn readBackIn flatClauses nestedFlat decimal cellKinds judged isModel merged liftedTerms flatten variableCount propBase propCount instances functionPart clausePart parts propClauses instanceCount literalCount workNeeded literalText clauseText header dimacs isValuation isFunctional readBack _>>=_ grammar readClause countLine isName symbolLines wordOf withinLimits clauseOf clauseLines readProblem tableText tablesText caseText caseLength readTable readTables readCase leastModel smallestModel settled contentOf writtenText readBackText judgeAnswer findResult _>>?_ digitLine printed program
 examples =
     record {
       two-constants-1 = refl;

@@ -5,7 +5,7 @@ use mathlib.Core.Option.{Option, none, some}
 use mathlib.Core.List.{List, [], _∷_, _++_, map}
 use lib.ListN.{length}
 use lib.Dec.{eqb}
-use Rattle.theory.specs.Lists.{placeThat}
+use Rattle.theory.specs.Lists.{any, concatMap, placeThat}
 use Rattle.theory.specs.Syntax.{Term, variable, apply, Terms, empty, cons, Atom, equal, holds, Literal, Clause, variables}
 
 -- Step 1. Put x for y.
@@ -70,33 +70,79 @@ merge (suc n) c = mergeFound (merge n) c (leftmost c)
 unfoldable pub merged : Clause → Clause
 merged c = merge (length c) c
 
--- Step 2. A variable of a flattened clause: one of the clause's own, or the i-th new one.
+-- Step 2. An equality with a function on one side only is turned so that it stands left.
+abbrev pub turnedAtom : Atom → Atom
+turnedAtom (equal (variable x) (variable y)) = equal (variable x) (variable y)
+turnedAtom (equal (variable x) (apply f ts)) = equal (apply f ts) (variable x)
+turnedAtom (equal (apply f ts) u) = equal (apply f ts) u
+turnedAtom (holds p ts) = holds p ts
+
+-- a literal with its atom turned
+abbrev pub turned : Literal → Literal
+turned l = record { sign = l .sign; atom = turnedAtom (l .atom) }
+
+-- the function terms of a term, left to right, inner terms first, the term itself last
+abbrev mutual
+  pub functionTerms : Term → List Term
+  functionTerms (variable x) = []
+  functionTerms (apply f ts) = allFunctionTerms ts ++ (apply f ts ∷ [])
+
+  pub allFunctionTerms : Terms → List Term
+  allFunctionTerms empty = []
+  allFunctionTerms (cons t ts) = functionTerms t ++ allFunctionTerms ts
+
+-- the terms to lift from a turned atom: those that are arguments, and the right side; the left side's own outer term stays
+abbrev pub toLift : Atom → List Term
+toLift (equal (variable x) u) = []
+toLift (equal (apply f ts) u) = allFunctionTerms ts ++ functionTerms u
+toLift (holds p ts) = allFunctionTerms ts
+
+-- the two terms are equal: written alike
+abbrev mutual
+  pub sameTerm : Term → Term → Bool
+  sameTerm (variable x) (variable y) = eqb x y
+  sameTerm (variable x) (apply h us) = false
+  sameTerm (apply f ts) (variable y) = false
+  sameTerm (apply f ts) (apply h us) = eqb f h && sameTerms ts us
+
+  pub sameTerms : Terms → Terms → Bool
+  sameTerms empty empty = true
+  sameTerms empty (cons u us) = false
+  sameTerms (cons t ts) empty = false
+  sameTerms (cons t ts) (cons u us) = sameTerm t u && sameTerms ts us
+
+-- a term after those found before, unless an equal one is among them
+abbrev pub addTerm : List Term → Term → List Term
+addTerm found t = cond (any (sameTerm t) found) found (found ++ (t ∷ []))
+
+-- the terms after those found before, equal ones once, in order of first appearance
+abbrev pub addTerms : List Term → List Term → List Term
+addTerms found [] = found
+addTerms found (t ∷ ts) = addTerms (addTerm found t) ts
+
+-- the lifted terms of a clause of turned literals
+unfoldable pub liftedTerms : Clause → List Term
+liftedTerms c = addTerms [] (concatMap (λ (l : Literal). toLift (l .atom)) c)
+
+-- a variable of a flattened clause: one of the clause's own, or the new one of the i-th lifted term
 pub data FlatVariable : Type 0 where
   own : ℕ → FlatVariable
   new : ℕ → FlatVariable
 
--- the two are the same variable
-abbrev pub sameVariable : FlatVariable → FlatVariable → Bool
-sameVariable (own x) (own y) = eqb x y
-sameVariable (own x) (new j) = false
-sameVariable (new i) (own y) = false
-sameVariable (new i) (new j) = eqb i j
+-- the place that was found
+abbrev pub placeOr0 : Option ℕ → ℕ
+placeOr0 none = 0
+placeOr0 (some i) = i
 
--- the same variables in the same order
-abbrev pub sameVariables : List FlatVariable → List FlatVariable → Bool
-sameVariables [] [] = true
-sameVariables [] (y ∷ ys) = false
-sameVariables (x ∷ xs) [] = false
-sameVariables (x ∷ xs) (y ∷ ys) = sameVariable x y && sameVariables xs ys
+-- the variable that stands for a term, among the lifted terms: equal terms share one
+abbrev pub variableFor : List Term → Term → FlatVariable
+variableFor lifted (variable x) = own x
+variableFor lifted (apply f ts) = new (placeOr0 (placeThat (sameTerm (apply f ts)) lifted))
 
--- a lifted term: a function at variables; the i-th lifted term has the new variable i
-pub record Lifted : Type 0 where
-  pub function : ℕ
-  pub arguments : List FlatVariable
-
--- the two are the same function at the same variables
-abbrev pub sameLifted : Lifted → Lifted → Bool
-sameLifted s t = eqb (s .function) (t .function) && sameVariables (s .arguments) (t .arguments)
+-- the variables that stand for the terms
+abbrev pub variablesFor : List Term → Terms → List FlatVariable
+variablesFor lifted empty = []
+variablesFor lifted (cons t ts) = variableFor lifted t ∷ variablesFor lifted ts
 
 -- the three shallow shapes (000, Definition 1): a predicate at variables, a function's result, an equality of variables
 pub data FlatAtom : Type 0 where
@@ -109,56 +155,24 @@ pub record FlatLiteral : Type 0 where
   pub sign : Bool
   pub atom : FlatAtom
 
--- the place of a term among the lifted ones
-abbrev pub placeOf : Lifted → List Lifted → Option ℕ
-placeOf t ts = placeThat (sameLifted t) ts
+-- t = y, for a term t and a variable y
+abbrev pub termEquals : List Term → Term → FlatVariable → FlatAtom
+termEquals lifted (variable x) y = flatEquality (own x) y
+termEquals lifted (apply f ts) y = flatResult f (variablesFor lifted ts) y
 
--- the variable that an equal term has, or else a new one
-abbrev pub shareAt : Lifted → List Lifted → Option ℕ → FlatVariable × List Lifted
-shareAt t ts (some i) = (new i, ts)
-shareAt t ts none = (new (length ts), ts ++ (t ∷ []))
+-- a turned atom with variables for the terms that were lifted
+abbrev pub shallowAtom : List Term → Atom → FlatAtom
+shallowAtom lifted (equal t u) = termEquals lifted t (variableFor lifted u)
+shallowAtom lifted (holds p ts) = flatPredicate p (variablesFor lifted ts)
 
--- the variable of a lifted term, and the lifted terms with it: equal terms share one new variable
-abbrev pub share : Lifted → List Lifted → FlatVariable × List Lifted
-share t ts = shareAt t ts (placeOf t ts)
+-- the same of a literal
+abbrev pub shallow : List Term → Literal → FlatLiteral
+shallow lifted l = record { sign = l .sign; atom = shallowAtom lifted (l .atom) }
 
--- a term's variable, and the terms lifted so far with those of this term: left to right, inner terms first
-abbrev mutual
-  pub lift : Term → List Lifted → FlatVariable × List Lifted
-  lift (variable x) ls = (own x, ls)
-  lift (apply f ts) ls = let r = liftAll ts ls in share (record { function = f; arguments = r .0 }) (r .1)
-
-  pub liftAll : Terms → List Lifted → (List FlatVariable) × List Lifted
-  liftAll empty ls = ([], ls)
-  liftAll (cons t ts) ls = let r = lift t ls in let q = liftAll ts (r .1) in (r .0 ∷ q .0, q .1)
-
--- f at the terms ts, equal to y; the outer term itself stays
-abbrev pub result : ℕ → Terms → FlatVariable → List Lifted → FlatAtom × List Lifted
-result f ts y ls = let r = liftAll ts ls in (flatResult f (r .0) y, r .1)
-
--- an atom made shallow: an equality is turned so that a function stands left; of two functions the right one is lifted
-abbrev pub flatAtom : Atom → List Lifted → FlatAtom × List Lifted
-flatAtom (holds p ts) ls = let r = liftAll ts ls in (flatPredicate p (r .0), r .1)
-flatAtom (equal (variable x) (variable y)) ls = (flatEquality (own x) (own y), ls)
-flatAtom (equal (variable x) (apply f ts)) ls = result f ts (own x) ls
-flatAtom (equal (apply f ts) (variable y)) ls = result f ts (own y) ls
-flatAtom (equal (apply f ts) (apply h us)) ls =
-    let r = liftAll ts ls in
-    let q = lift (apply h us) (r .1) in
-    (flatResult f (r .0) (q .0), q .1)
-
--- the literals made shallow, left to right
-abbrev pub flatLiterals : Clause → List Lifted → (List FlatLiteral) × List Lifted
-flatLiterals [] ls = ([], ls)
-flatLiterals (l ∷ c) ls =
-    let r = flatAtom (l .atom) ls in
-    let q = flatLiterals c (r .1) in
-    (record { sign = l .sign; atom = r .0 } ∷ q .0, q .1)
-
--- t ≠ y for each lifted term t and its new variable y, in order of the new variables, counted from i
-abbrev pub definitions : ℕ → List Lifted → List FlatLiteral
-definitions i [] = []
-definitions i (t ∷ ts) = record { sign = false; atom = flatResult (t .function) (t .arguments) (new i) } ∷ definitions (suc i) ts
+-- t ≠ y for each lifted term t and its new variable y, counted from i, in order
+abbrev pub definitions : List Term → ℕ → List Term → List FlatLiteral
+definitions lifted i [] = []
+definitions lifted i (t ∷ ts) = record { sign = false; atom = termEquals lifted t (new i) } ∷ definitions lifted (suc i) ts
 
 -- a flattened clause: its own variables in order, the number of new ones, its literals
 pub record FlatClause : Type 0 where
@@ -166,13 +180,13 @@ pub record FlatClause : Type 0 where
   pub news : ℕ
   pub literals : List FlatLiteral
 
--- the clause after steps 1 and 2
+-- the clause after steps 1 and 2; its own variables are ordered as they stand after step 1
 unfoldable pub flatten : Clause → FlatClause
 flatten c =
-    let m = merged c in
-    let r = flatLiterals m [] in
-    record { owns = variables m; news = length (r .1); literals = definitions 0 (r .1) ++ r .0 }
+    let m = map turned (merged c) in
+    let lifted = liftedTerms m in
+    record { owns = variables (merged c); news = length lifted; literals = definitions lifted 0 lifted ++ map (shallow lifted) m }
 
--- k: the number of variables of the flattened clause
+-- k: the number of variables of a flattened clause
 unfoldable pub variableCount : FlatClause → ℕ
 variableCount c = length (c .owns) + c .news

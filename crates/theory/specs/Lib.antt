@@ -20,3 +20,4 @@ pub mod Walk
 pub mod Operations
 pub mod Program
 pub mod Examples
+pub mod Claims

@@ -1,0 +1,10 @@
+-- What is proved of the definitions: each file states one theorem, to be read alone; proofs/ has its proof under the same name.
+pub mod Truth
+pub mod Numbering
+pub mod Grammar
+pub mod Flattening
+pub mod Encoding
+pub mod Demand3
+pub mod Least
+pub mod Walk
+pub mod Counts
