@@ -1,5 +1,5 @@
 -- Argument vectors: lists of numbers below s. Document 01: the last argument runs fastest.
-use Prim.Native.Nat.{ℕ, zero, suc, _+_, _*_, _^_}
+use Prim.Native.Nat.{ℕ, zero, suc, _+_, _*_, _^_, _<_}
 use mathlib.Core.Bool.{Bool}
 use mathlib.Core.List.{List, [], _∷_, map}
 use lib.ListN.{length}
@@ -14,3 +14,8 @@ vectors s (suc k) = concatMap (λ d. map (λ v. d ∷ v) (vectors s k)) (upTo s)
 abbrev pub rank : ℕ → List ℕ → ℕ
 rank s [] = 0
 rank s (d ∷ v) = d * s ^ length v + rank s v
+
+-- every number of the list is below s
+abbrev pub AllBelow : ℕ → List ℕ → Type 0
+AllBelow s [] = Unit {0}
+AllBelow s (d ∷ v) = (d < s) × AllBelow s v

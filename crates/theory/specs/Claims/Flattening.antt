@@ -8,6 +8,7 @@ use mathlib.Core.List.{List, [], _∷_, map}
 use lib.Dec.{eqb}
 use lib.ListN.{length}
 use Rattle.theory.specs.Lists.{any}
+use Rattle.theory.specs.Vectors.{AllBelow}
 use Rattle.theory.specs.Syntax.{Signature, Clause, functionOf, clauseOk}
 use Rattle.theory.specs.Truth.{Interpretation}
 use Rattle.theory.specs.Flattening.{FlatVariable, FlatAtom, flatPredicate, flatResult, flatEquality, FlatLiteral, FlatClause, leftmost, merged, flatten, variableCount}
@@ -27,11 +28,6 @@ flatLiteralTrue I ν l = Bool·beq (l .sign) (flatAtomTrue I ν (l .atom))
 -- one of the literals is true
 abbrev pub flatTrue : Interpretation → (FlatVariable → ℕ) → List FlatLiteral → Bool
 flatTrue I ν ls = any (flatLiteralTrue I ν) ls
-
--- every number of the list is below s
-abbrev pub AllBelow : ℕ → List ℕ → Type 0
-AllBelow s [] = Unit {0}
-AllBelow s (d ∷ v) = (d < s) × AllBelow s v
 
 -- a flattened clause is true under all values of its own and its new variables
 abbrev pub FlatValid : Interpretation → ℕ → FlatClause → Type 0

@@ -1,0 +1,158 @@
+-- Laws of the list functions that the definitions share.
+use Prim.Native.Nat.{ℕ, zero, suc, _+_, _*_, _≤_, _<_}
+use mathlib.Core.Path.{_≡_, refl, sym, ap, _∙_}
+use mathlib.Core.Logic.{_⊎_, inl, inr}
+use mathlib.Core.Bool.{Bool, true, false, cond, _&&_, _||_, false≢true, or-assoc, and-assoc}
+use mathlib.Core.List.{List, [], _∷_, _++_, map, map-append}
+use native.Mathlib.Nat.{add-zero, zero-add, suc-add, suc-mul, zero-mul, eq-or-lt-of-le}
+use native.Mathlib.Omega.{arith}
+use lib.Dec.{eqb}
+use lib.ListN.{length, getD, drop}
+use Rattle.theory.specs.Lists.{any, all, concatMap, upFrom, upTo, elem, remove, distinct}
+use Rattle.theory.proofs.Tests.{eqb-true, and-left, and-right, and-join, or-cases, or-left, or-right}
+
+-- any and all
+module _ {A : Type 0} where
+  pub any-append : (p : A → Bool) (xs ys : List A) → any p (xs ++ ys) ≡ (any p xs || any p ys)
+  any-append p [] ys = refl
+  any-append p (x ∷ xs) ys = ap (λ (b : Bool). p x || b) (any-append p xs ys) ∙ sym (or-assoc (p x) (any p xs) (any p ys))
+
+  pub all-append : (p : A → Bool) (xs ys : List A) → all p (xs ++ ys) ≡ (all p xs && all p ys)
+  all-append p [] ys = refl
+  all-append p (x ∷ xs) ys = ap (λ (b : Bool). p x && b) (all-append p xs ys) ∙ sym (and-assoc (p x) (all p xs) (all p ys))
+
+pub elem-append : (x : ℕ) (xs ys : List ℕ) → elem x (xs ++ ys) ≡ (elem x xs || elem x ys)
+elem-append x [] ys = refl
+elem-append x (y ∷ xs) ys = ap (λ (b : Bool). eqb x y || b) (elem-append x xs ys) ∙ sym (or-assoc (eqb x y) (elem x xs) (elem x ys))
+
+elem-remove : (x y : ℕ) (xs : List ℕ) → eqb x y ≡ false → elem x (remove y xs) ≡ elem x xs
+elem-remove x y [] h = refl
+elem-remove x y (z ∷ zs) h = go (eqb y z) refl (elem-remove x y zs h)
+  where
+    go : (b : Bool) → eqb y z ≡ b → elem x (remove y zs) ≡ elem x zs → elem x (cond b (remove y zs) (z ∷ remove y zs)) ≡ (eqb x z || elem x zs)
+    go true e ih =
+        let k : eqb x z ≡ false = ap (eqb x) (sym (eqb-true y z e)) ∙ h in
+        ih ∙ ap (λ (b : Bool). b || elem x zs) (sym k)
+    go false e ih = ap (λ (b : Bool). eqb x z || b) ih
+
+pub elem-distinct : (x : ℕ) (xs : List ℕ) → elem x xs ≡ true → elem x (distinct xs) ≡ true
+elem-distinct x [] h = h
+elem-distinct x (y ∷ ys) h = go (eqb x y) refl h (elem-distinct x ys)
+  where
+    go : (b : Bool) → eqb x y ≡ b → (b || elem x ys) ≡ true → (elem x ys ≡ true → elem x (distinct ys) ≡ true) → (b || elem x (remove y (distinct ys))) ≡ true
+    go true e k ih = refl
+    go false e k ih = elem-remove x y (distinct ys) e ∙ ih k
+
+pub all-map : {A B : Type 0} (p : B → Bool) (f : A → B) (xs : List A) → all p (map f xs) ≡ all (λ x. p (f x)) xs
+all-map p f [] = refl
+all-map p f (x ∷ xs) = ap (λ (b : Bool). p (f x) && b) (all-map p f xs)
+
+pub all-concatMap : {A B : Type 0} (p : B → Bool) (f : A → List B) (xs : List A) → all p (concatMap f xs) ≡ all (λ x. all p (f x)) xs
+all-concatMap p f [] = refl
+all-concatMap p f (x ∷ xs) = all-append p (f x) (concatMap f xs) ∙ ap (λ (b : Bool). all p (f x) && b) (all-concatMap p f xs)
+
+pub all-upFrom : (p : ℕ → Bool) (a n : ℕ) → all p (upFrom a n) ≡ true → (i : ℕ) → a ≤ i → i < a + n → p i ≡ true
+all-upFrom p a zero h i lo hi = absurd (omega arith)
+all-upFrom p a (suc n) h i lo hi = go (eq-or-lt-of-le lo) (λ lt. all-upFrom p (suc a) n (and-right (p a) (all p (upFrom (suc a) n)) h) i lt (omega arith))
+  where
+    go : (a ≡ i) ⊎ (a < i) → (a < i → p i ≡ true) → p i ≡ true
+    go (inl e) ih = ap p (sym e) ∙ and-left (p a) (all p (upFrom (suc a) n)) h
+    go (inr lt) ih = ih lt
+
+pub upFrom-all : (p : ℕ → Bool) (a n : ℕ) → ((i : ℕ) → a ≤ i → i < a + n → p i ≡ true) → all p (upFrom a n) ≡ true
+upFrom-all p a zero h = refl
+upFrom-all p a (suc n) h =
+    and-join (p a) (all p (upFrom (suc a) n)) (h a (omega arith) (omega arith)) (upFrom-all p (suc a) n (λ i lo hi. h i (omega arith) (omega arith)))
+
+pub all-upTo : (p : ℕ → Bool) (n : ℕ) → all p (upTo n) ≡ true → (i : ℕ) → i < n → p i ≡ true
+all-upTo p n h i hi = all-upFrom p 0 n h i (omega arith) (omega arith)
+
+pub upTo-all : (p : ℕ → Bool) (n : ℕ) → ((i : ℕ) → i < n → p i ≡ true) → all p (upTo n) ≡ true
+upTo-all p n h = upFrom-all p 0 n (λ i lo hi. h i (omega arith))
+
+pub any-map : {A B : Type 0} (p : B → Bool) (f : A → B) (xs : List A) → any p (map f xs) ≡ any (λ x. p (f x)) xs
+any-map p f [] = refl
+any-map p f (x ∷ xs) = ap (λ (b : Bool). p (f x) || b) (any-map p f xs)
+
+pub any-cong : {A : Type 0} (p q : A → Bool) (xs : List A) → ((x : A) → p x ≡ q x) → any p xs ≡ any q xs
+any-cong p q [] h = refl
+any-cong p q (x ∷ xs) h = ap (λ (b : Bool). b || any p xs) (h x) ∙ ap (λ (b : Bool). q x || b) (any-cong p q xs h)
+
+pub any-upFrom : (q : ℕ → Bool) (a n : ℕ) → any q (upFrom a n) ≡ true → (d : ℕ) × (a ≤ d) × (d < a + n) × (q d ≡ true)
+any-upFrom q a zero h = absurd (false≢true h)
+any-upFrom q a (suc n) h = go (or-cases (q a) (any q (upFrom (suc a) n)) h) (λ k. any-upFrom q (suc a) n k)
+  where
+    go : (q a ≡ true) ⊎ (any q (upFrom (suc a) n) ≡ true) → (any q (upFrom (suc a) n) ≡ true → (d : ℕ) × (suc a ≤ d) × (d < suc a + n) × (q d ≡ true))
+        → (d : ℕ) × (a ≤ d) × (d < a + suc n) × (q d ≡ true)
+    go (inl e) ih = (a, omega arith, omega arith, e)
+    go (inr k) ih = let r = ih k in (r .0, omega (arith, r .1), omega (arith, r .2), r .3)
+
+pub upFrom-any : (q : ℕ → Bool) (a n d : ℕ) → a ≤ d → d < a + n → q d ≡ true → any q (upFrom a n) ≡ true
+upFrom-any q a zero d lo hi e = absurd (omega arith)
+upFrom-any q a (suc n) d lo hi e = go (eq-or-lt-of-le lo) (λ k. upFrom-any q (suc a) n d k (omega arith) e)
+  where
+    go : (a ≡ d) ⊎ (a < d) → (a < d → any q (upFrom (suc a) n) ≡ true) → (q a || any q (upFrom (suc a) n)) ≡ true
+    go (inl k) ih = or-left (q a) (any q (upFrom (suc a) n)) (ap q k ∙ e)
+    go (inr k) ih = or-right (q a) (any q (upFrom (suc a) n)) (ih k)
+
+pub map-concatMap : {A B C : Type 0} (h : B → C) (f : A → List B) (xs : List A) → map h (concatMap f xs) ≡ concatMap (λ x. map h (f x)) xs
+map-concatMap h f [] = refl
+map-concatMap h f (x ∷ xs) = map-append h (f x) (concatMap f xs) ∙ ap (λ l. map h (f x) ++ l) (map-concatMap h f xs)
+
+pub concatMap-cong : {A B : Type 0} (f g : A → List B) (xs : List A) → ((x : A) → f x ≡ g x) → concatMap f xs ≡ concatMap g xs
+concatMap-cong f g [] h = refl
+concatMap-cong f g (x ∷ xs) h = let p : f x ≡ g x = h x in let q : concatMap f xs ≡ concatMap g xs = concatMap-cong f g xs h in cc
+
+pub upFrom-append : (a m n : ℕ) → upFrom a m ++ upFrom (a + m) n ≡ upFrom a (m + n)
+upFrom-append a zero n = rw (add-zero, zero-add)
+upFrom-append a (suc m) n =
+    let e : a + suc m ≡ suc a + m = omega arith in
+    ap (λ (k : ℕ). a ∷ (upFrom (suc a) m ++ upFrom k n)) e ∙ ap (λ (l : List ℕ). a ∷ l) (upFrom-append (suc a) m n) ∙ ap (upFrom a) (sym (suc-add m n))
+
+pub map-add-upFrom : (b a n : ℕ) → map (λ i. b + i) (upFrom a n) ≡ upFrom (b + a) n
+map-add-upFrom b a zero = refl
+map-add-upFrom b a (suc n) =
+    let e : b + suc a ≡ suc (b + a) = omega arith in
+    ap (λ (l : List ℕ). (b + a) ∷ l) (map-add-upFrom b (suc a) n ∙ ap (λ (m : ℕ). upFrom m n) e)
+
+pub blocks : (m a n : ℕ) → concatMap (λ d. upFrom (d * m) m) (upFrom a n) ≡ upFrom (a * m) (n * m)
+blocks m a zero = rw zero-mul
+blocks m a (suc n) =
+    let e : m + n * m ≡ suc n * m = omega (arith, suc-mul n m) in
+    ap (λ (l : List ℕ). upFrom (a * m) m ++ l) (blocks m (suc a) n ∙ ap (λ (k : ℕ). upFrom k (n * m)) (suc-mul a m))
+    ∙ upFrom-append (a * m) m (n * m) ∙ ap (upFrom (a * m)) e
+
+pub concatMap-shift : {B : Type 0} (f : ℕ → List B) (a n : ℕ) → concatMap f (upFrom (suc a) n) ≡ concatMap (λ i. f (suc i)) (upFrom a n)
+concatMap-shift f a zero = refl
+concatMap-shift {B = B} f a (suc n) = ap (λ (l : List B). f (suc a) ++ l) (concatMap-shift f (suc a) n)
+
+pub map-cong : {A B : Type 0} (f g : A → B) (xs : List A) → ((x : A) → f x ≡ g x) → map f xs ≡ map g xs
+map-cong f g [] h = refl
+map-cong f g (x ∷ xs) h = let p : f x ≡ g x = h x in let q : map f xs ≡ map g xs = map-cong f g xs h in cc
+
+pub length-upFrom : (a n : ℕ) → length (upFrom a n) ≡ n
+length-upFrom a zero = refl
+length-upFrom a (suc n) = ap suc (length-upFrom (suc a) n)
+
+pub getD-upFrom : (a n i : ℕ) → i < n → getD (upFrom a n) i 0 ≡ a + i
+getD-upFrom a zero i h = absurd (omega arith)
+getD-upFrom a (suc n) zero h = sym (add-zero a)
+getD-upFrom a (suc n) (suc i) h = getD-upFrom (suc a) n i (omega arith) ∙ omega arith
+
+pub getD-map : (f : ℕ → ℕ) (xs : List ℕ) (i : ℕ) → i < length xs → getD (map f xs) i 0 ≡ f (getD xs i 0)
+getD-map f [] i h = absurd (omega arith)
+getD-map f (x ∷ xs) zero h = refl
+getD-map f (x ∷ xs) (suc i) h = getD-map f xs i (omega arith)
+
+pub getD-map-upTo : (f : ℕ → ℕ) (n i : ℕ) → i < n → getD (map f (upTo n)) i 0 ≡ f i
+getD-map-upTo f n i h = getD-map f (upTo n) i (omega (arith, length-upFrom 0 n)) ∙ ap f (getD-upFrom 0 n i h ∙ zero-add i)
+
+pub all-getD : (p : ℕ → Bool) (xs : List ℕ) (i : ℕ) → all p xs ≡ true → i < length xs → p (getD xs i 0) ≡ true
+all-getD p [] i h k = absurd (omega arith)
+all-getD p (x ∷ xs) zero h k = and-left (p x) (all p xs) h
+all-getD p (x ∷ xs) (suc i) h k = all-getD p xs i (and-right (p x) (all p xs) h) (omega arith)
+
+pub all-drop : (p : ℕ → Bool) (n : ℕ) (xs : List ℕ) → all p xs ≡ true → all p (drop n xs) ≡ true
+all-drop p zero xs h = h
+all-drop p (suc n) [] h = h
+all-drop p (suc n) (x ∷ xs) h = all-drop p n xs (and-right (p x) (all p xs) h)
