@@ -1,3 +1,5 @@
 pub mod Tests
 pub mod Lists
 pub mod Vectors
+pub mod Finding
+pub mod Truth

@@ -5,11 +5,12 @@ use mathlib.Core.Bool.{Bool, true, false, _&&_}
 use mathlib.Core.List.{List, [], _∷_, _++_, map, map-map}
 use native.Mathlib.Nat.{add-zero, zero-add, suc-inj, pow-zero, pow-succ', pow-suc, zero-lt-suc, zero-mul, mul-one, mul-assoc, add-mul}
 use native.Mathlib.Omega.{arith}
+use lib.Dec.{ltb}
 use lib.Arith.{digits-lt, digits-div, digits-mod}
 use lib.ListN.{length, length-append}
 use Rattle.theory.specs.Lists.{all, concatMap, upFrom, upTo}
 use Rattle.theory.specs.Vectors.{vectors, rank, AllBelow}
-use Rattle.theory.proofs.Tests.{and-left, and-join}
+use Rattle.theory.proofs.Tests.{and-left, and-right, and-join, ltb-true, ltb-of-<}
 use Rattle.theory.proofs.Lists.{all-map, all-concatMap, all-upTo, upTo-all, map-concatMap, concatMap-cong, map-add-upFrom, blocks}
 
 pub all-vectors : (s k : ℕ) (p : List ℕ → Bool) → all p (vectors s k) ≡ true → (v : List ℕ) → length v ≡ k → AllBelow s v → p v ≡ true
@@ -77,3 +78,20 @@ rank-snoc s (e ∷ v) d =
     let l : length (v ++ (d ∷ [])) ≡ suc n = length-append v (d ∷ []) ∙ omega arith in
     let p : e * s ^ length (v ++ (d ∷ [])) ≡ e * s ^ n * s = ap (λ (m : ℕ). e * s ^ m) l ∙ ap (λ (m : ℕ). e * m) (pow-suc s n) ∙ sym (mul-assoc e (s ^ n) s) in
     omega (arith, p, rank-snoc s v d, add-mul (e * s ^ n) (rank s v) s)
+
+-- numbers below s
+pub allBelow-map : {A : Type 0} (s : ℕ) (f : A → ℕ) → ((x : A) → f x < s) → (xs : List A) → AllBelow s (map f xs)
+allBelow-map s f h [] = tt
+allBelow-map s f h (x ∷ xs) = (h x, allBelow-map s f h xs)
+
+pub allBelow-append : (s : ℕ) (u v : List ℕ) → AllBelow s u → AllBelow s v → AllBelow s (u ++ v)
+allBelow-append s [] v a b = b
+allBelow-append s (d ∷ u) v a b = (a .0, allBelow-append s u v (a .1) b)
+
+pub all→AllBelow : (s : ℕ) (v : List ℕ) → all (λ d. ltb d s) v ≡ true → AllBelow s v
+all→AllBelow s [] h = tt
+all→AllBelow s (d ∷ v) h = (ltb-true d s (and-left (ltb d s) (all (λ d. ltb d s) v) h), all→AllBelow s v (and-right (ltb d s) (all (λ d. ltb d s) v) h))
+
+pub AllBelow→all : (s : ℕ) (v : List ℕ) → AllBelow s v → all (λ d. ltb d s) v ≡ true
+AllBelow→all s [] b = refl
+AllBelow→all s (d ∷ v) b = and-join (ltb d s) (all (λ d. ltb d s) v) (ltb-of-< d s (b .0)) (AllBelow→all s v (b .1))
