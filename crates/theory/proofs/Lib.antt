@@ -3,3 +3,4 @@ pub mod Lists
 pub mod Vectors
 pub mod Finding
 pub mod Truth
+pub mod Grammar
