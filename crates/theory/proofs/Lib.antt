@@ -4,3 +4,5 @@ pub mod Vectors
 pub mod Finding
 pub mod Truth
 pub mod Grammar
+pub mod First
+pub mod Least

@@ -1,7 +1,7 @@
 -- Laws of the list functions that the definitions share.
 use Prim.Native.Nat.{ℕ, zero, suc, _+_, _*_, _≤_, _<_}
 use mathlib.Core.Path.{_≡_, refl, sym, ap, _∙_}
-use mathlib.Core.Logic.{_⊎_, inl, inr}
+use mathlib.Core.Logic.{_⊎_, inl, inr, _≢_}
 use mathlib.Core.Bool.{Bool, true, false, cond, _&&_, _||_, false≢true, or-assoc, and-assoc}
 use mathlib.Core.List.{List, [], _∷_, _++_, map, map-append}
 use native.Mathlib.Nat.{add-zero, zero-add, suc-add, suc-mul, zero-mul, eq-or-lt-of-le}
@@ -9,7 +9,7 @@ use native.Mathlib.Omega.{arith}
 use lib.Dec.{eqb}
 use lib.ListN.{length, getD, drop}
 use Rattle.theory.specs.Lists.{any, all, concatMap, upFrom, upTo, elem, remove, distinct}
-use Rattle.theory.proofs.Tests.{eqb-true, and-left, and-right, and-join, or-cases, or-left, or-right}
+use Rattle.theory.proofs.Tests.{true-or-false, eqb-true, eqb-same, eqb-ne, and-left, and-right, and-join, or-cases, or-left, or-right}
 
 -- any and all
 module _ {A : Type 0} where
@@ -24,6 +24,36 @@ module _ {A : Type 0} where
 pub elem-append : (x : ℕ) (xs ys : List ℕ) → elem x (xs ++ ys) ≡ (elem x xs || elem x ys)
 elem-append x [] ys = refl
 elem-append x (y ∷ xs) ys = ap (λ (b : Bool). eqb x y || b) (elem-append x xs ys) ∙ sym (or-assoc (eqb x y) (elem x xs) (elem x ys))
+
+-- the elements of a list of numbers
+pub elem-here : (d : ℕ) (ds : List ℕ) → elem d (d ∷ ds) ≡ true
+elem-here d ds = or-left (eqb d d) (elem d ds) (eqb-same d)
+
+pub elem-there : (d e : ℕ) (ds : List ℕ) → elem d ds ≡ true → elem d (e ∷ ds) ≡ true
+elem-there d e ds h = or-right (eqb d e) (elem d ds) h
+
+pub elem-single : (d e : ℕ) → elem d (e ∷ []) ≡ true → d ≡ e
+elem-single d e h = go (or-cases (eqb d e) false h)
+  where
+    go : (eqb d e ≡ true) ⊎ (false ≡ true) → d ≡ e
+    go (inl k) = eqb-true d e k
+    go (inr k) = absurd (false≢true k)
+
+pub elem-upFrom : (d a n : ℕ) → elem d (upFrom a n) ≡ true → (a ≤ d) × (d < a + n)
+elem-upFrom d a zero h = absurd (false≢true h)
+elem-upFrom d a (suc n) h = go (or-cases (eqb d a) (elem d (upFrom (suc a) n)) h) (λ k. elem-upFrom d (suc a) n k)
+  where
+    go : (eqb d a ≡ true) ⊎ (elem d (upFrom (suc a) n) ≡ true) → (elem d (upFrom (suc a) n) ≡ true → (suc a ≤ d) × (d < suc a + n)) → (a ≤ d) × (d < a + suc n)
+    go (inl k) ih = let z : d ≡ a = eqb-true d a k in (omega arith, omega arith)
+    go (inr k) ih = let r = ih k in (omega (arith, r .0), omega (arith, r .1))
+
+pub upFrom-elem : (d a n : ℕ) → a ≤ d → d < a + n → elem d (upFrom a n) ≡ true
+upFrom-elem d a zero lo hi = absurd (omega arith)
+upFrom-elem d a (suc n) lo hi = go (true-or-false (eqb d a)) (λ k. upFrom-elem d (suc a) n k (omega arith))
+  where
+    go : (eqb d a ≡ true) ⊎ (eqb d a ≡ false) → (suc a ≤ d → elem d (upFrom (suc a) n) ≡ true) → elem d (a ∷ upFrom (suc a) n) ≡ true
+    go (inl k) ih = or-left (eqb d a) (elem d (upFrom (suc a) n)) k
+    go (inr k) ih = let ne : d ≢ a = eqb-ne d a k in elem-there d a (upFrom (suc a) n) (ih (omega arith))
 
 elem-remove : (x y : ℕ) (xs : List ℕ) → eqb x y ≡ false → elem x (remove y xs) ≡ elem x xs
 elem-remove x y [] h = refl
