@@ -6,3 +6,4 @@ pub mod Truth
 pub mod Grammar
 pub mod First
 pub mod Least
+pub mod Merging
