@@ -7,3 +7,4 @@ pub mod Grammar
 pub mod First
 pub mod Least
 pub mod Merging
+pub mod Numbering

@@ -8,7 +8,7 @@ use native.Mathlib.Nat.{add-zero, zero-add, suc-add, suc-mul, zero-mul, eq-or-lt
 use native.Mathlib.Omega.{arith}
 use lib.Dec.{eqb}
 use lib.ListN.{length, getD, drop}
-use Rattle.theory.specs.Lists.{any, all, concatMap, upFrom, upTo, elem, remove, distinct}
+use Rattle.theory.specs.Lists.{any, all, concatMap, upFrom, upTo, sum, elem, remove, distinct}
 use Rattle.theory.proofs.Tests.{true-or-false, eqb-true, eqb-same, eqb-ne, and-left, and-right, and-join, or-cases, or-left, or-right}
 
 -- any and all
@@ -133,6 +133,10 @@ pub concatMap-cong : {A B : Type 0} (f g : A → List B) (xs : List A) → ((x :
 concatMap-cong f g [] h = refl
 concatMap-cong f g (x ∷ xs) h = let p : f x ≡ g x = h x in let q : concatMap f xs ≡ concatMap g xs = concatMap-cong f g xs h in cc
 
+pub concatMap-map : {A B C : Type 0} (f : B → List C) (h : A → B) (xs : List A) → concatMap f (map h xs) ≡ concatMap (λ x. f (h x)) xs
+concatMap-map f h [] = refl
+concatMap-map {C = C} f h (x ∷ xs) = ap (λ (l : List C). f (h x) ++ l) (concatMap-map f h xs)
+
 pub upFrom-append : (a m n : ℕ) → upFrom a m ++ upFrom (a + m) n ≡ upFrom a (m + n)
 upFrom-append a zero n = rw (add-zero, zero-add)
 upFrom-append a (suc m) n =
@@ -186,3 +190,7 @@ pub all-drop : (p : ℕ → Bool) (n : ℕ) (xs : List ℕ) → all p xs ≡ tru
 all-drop p zero xs h = h
 all-drop p (suc n) [] h = h
 all-drop p (suc n) (x ∷ xs) h = all-drop p n xs (and-right (p x) (all p xs) h)
+
+pub sum-map-append : {A : Type 0} (f : A → ℕ) (xs ys : List A) → sum (map f (xs ++ ys)) ≡ sum (map f xs) + sum (map f ys)
+sum-map-append f [] ys = sym (zero-add (sum (map f ys)))
+sum-map-append f (x ∷ xs) ys = omega (arith, sum-map-append f xs ys)
