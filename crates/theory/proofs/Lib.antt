@@ -8,3 +8,4 @@ pub mod First
 pub mod Least
 pub mod Merging
 pub mod Numbering
+pub mod Answers
