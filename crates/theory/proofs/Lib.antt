@@ -9,3 +9,4 @@ pub mod Least
 pub mod Merging
 pub mod Numbering
 pub mod Answers
+pub mod Names

@@ -8,7 +8,7 @@ use native.Mathlib.Nat.{add-zero, zero-add, suc-add, suc-mul, zero-mul, eq-or-lt
 use native.Mathlib.Omega.{arith}
 use lib.Dec.{eqb}
 use lib.ListN.{length, getD, drop}
-use Rattle.theory.specs.Lists.{any, all, concatMap, upFrom, upTo, sum, elem, remove, distinct}
+use Rattle.theory.specs.Lists.{any, all, concatMap, upFrom, upTo, sum, elem, remove, distinct, same}
 use Rattle.theory.proofs.Tests.{true-or-false, eqb-true, eqb-same, eqb-ne, and-left, and-right, and-join, or-cases, or-left, or-right}
 
 -- any and all
@@ -20,6 +20,12 @@ module _ {A : Type 0} where
   pub all-append : (p : A → Bool) (xs ys : List A) → all p (xs ++ ys) ≡ (all p xs && all p ys)
   all-append p [] ys = refl
   all-append p (x ∷ xs) ys = ap (λ (b : Bool). p x && b) (all-append p xs ys) ∙ sym (and-assoc (p x) (all p xs) (all p ys))
+
+  -- a test that all elements pass, at a place
+  pub all-at : (p : A → Bool) (d : A) (xs : List A) (i : ℕ) → all p xs ≡ true → i < length xs → p (getD xs i d) ≡ true
+  all-at p d [] i h k = absurd (omega arith)
+  all-at p d (x ∷ xs) zero h k = and-left (p x) (all p xs) h
+  all-at p d (x ∷ xs) (suc i) h k = all-at p d xs i (and-right (p x) (all p xs) h) (omega arith)
 
 pub elem-append : (x : ℕ) (xs ys : List ℕ) → elem x (xs ++ ys) ≡ (elem x xs || elem x ys)
 elem-append x [] ys = refl
@@ -182,9 +188,7 @@ pub getD-map-upTo : (f : ℕ → ℕ) (n i : ℕ) → i < n → getD (map f (upT
 getD-map-upTo f n i h = getD-map f (upTo n) i (omega (arith, length-upFrom 0 n)) ∙ ap f (getD-upFrom 0 n i h ∙ zero-add i)
 
 pub all-getD : (p : ℕ → Bool) (xs : List ℕ) (i : ℕ) → all p xs ≡ true → i < length xs → p (getD xs i 0) ≡ true
-all-getD p [] i h k = absurd (omega arith)
-all-getD p (x ∷ xs) zero h k = and-left (p x) (all p xs) h
-all-getD p (x ∷ xs) (suc i) h k = all-getD p xs i (and-right (p x) (all p xs) h) (omega arith)
+all-getD p xs i h k = all-at p 0 xs i h k
 
 pub all-drop : (p : ℕ → Bool) (n : ℕ) (xs : List ℕ) → all p xs ≡ true → all p (drop n xs) ≡ true
 all-drop p zero xs h = h
@@ -194,3 +198,44 @@ all-drop p (suc n) (x ∷ xs) h = all-drop p n xs (and-right (p x) (all p xs) h)
 pub sum-map-append : {A : Type 0} (f : A → ℕ) (xs ys : List A) → sum (map f (xs ++ ys)) ≡ sum (map f xs) + sum (map f ys)
 sum-map-append f [] ys = sym (zero-add (sum (map f ys)))
 sum-map-append f (x ∷ xs) ys = omega (arith, sum-map-append f xs ys)
+
+module _ {A : Type 0} where
+  -- some element passes the test where the one at a place does
+  pub any-at : (p : A → Bool) (d : A) (xs : List A) (i : ℕ) → i < length xs → p (getD xs i d) ≡ true → any p xs ≡ true
+  any-at p d [] i h k = absurd (omega arith)
+  any-at p d (x ∷ xs) zero h k = or-left (p x) (any p xs) k
+  any-at p d (x ∷ xs) (suc i) h k = or-right (p x) (any p xs) (any-at p d xs i (omega arith) k)
+
+  pub all-imply : (p q : A → Bool) (xs : List A) → ((x : A) → p x ≡ true → q x ≡ true) → all p xs ≡ true → all q xs ≡ true
+  all-imply p q [] f h = refl
+  all-imply p q (x ∷ xs) f h = and-join (q x) (all q xs) (f x (and-left (p x) (all p xs) h)) (all-imply p q xs f (and-right (p x) (all p xs) h))
+
+  pub all-cong : (p q : A → Bool) (xs : List A) → ((x : A) → p x ≡ q x) → all p xs ≡ all q xs
+  all-cong p q [] h = refl
+  all-cong p q (x ∷ xs) h = ap (λ (b : Bool). b && all p xs) (h x) ∙ ap (λ (b : Bool). q x && b) (all-cong p q xs h)
+
+all-remove : (p : ℕ → Bool) (y : ℕ) (xs : List ℕ) → all p xs ≡ true → all p (remove y xs) ≡ true
+all-remove p y [] h = refl
+all-remove p y (x ∷ xs) h = go (eqb y x) (all-remove p y xs (and-right (p x) (all p xs) h))
+  where
+    go : (b : Bool) → all p (remove y xs) ≡ true → all p (cond b (remove y xs) (x ∷ remove y xs)) ≡ true
+    go true ih = ih
+    go false ih = and-join (p x) (all p (remove y xs)) (and-left (p x) (all p xs) h) ih
+
+pub all-distinct : (p : ℕ → Bool) (xs : List ℕ) → all p xs ≡ true → all p (distinct xs) ≡ true
+all-distinct p [] h = refl
+all-distinct p (x ∷ xs) h =
+    and-join (p x) (all p (remove x (distinct xs))) (and-left (p x) (all p xs) h) (all-remove p x (distinct xs) (all-distinct p xs (and-right (p x) (all p xs) h)))
+
+pub same-refl : (xs : List ℕ) → same xs xs ≡ true
+same-refl [] = refl
+same-refl (x ∷ xs) = and-join (eqb x x) (same xs xs) (eqb-same x) (same-refl xs)
+
+pub same-true : (xs ys : List ℕ) → same xs ys ≡ true → xs ≡ ys
+same-true [] [] e = refl
+same-true [] (y ∷ ys) e = absurd (false≢true e)
+same-true (x ∷ xs) [] e = absurd (false≢true e)
+same-true (x ∷ xs) (y ∷ ys) e =
+    let p : x ≡ y = eqb-true x y (and-left (eqb x y) (same xs ys) e) in
+    let q : xs ≡ ys = same-true xs ys (and-right (eqb x y) (same xs ys) e) in
+    cc
