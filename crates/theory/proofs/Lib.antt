@@ -10,3 +10,5 @@ pub mod Merging
 pub mod Numbering
 pub mod Answers
 pub mod Names
+pub mod Status
+pub mod Propagation

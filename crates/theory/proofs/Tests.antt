@@ -132,3 +132,13 @@ beq-true false = refl
 pub beq-not : (b : Bool) → Bool·beq false b ≡ not b
 beq-not true = refl
 beq-not false = refl
+
+pub beq-same : (b : Bool) → Bool·beq b b ≡ true
+beq-same true = refl
+beq-same false = refl
+
+pub beq-≡ : (a b : Bool) → Bool·beq a b ≡ true → a ≡ b
+beq-≡ true true e = refl
+beq-≡ true false e = absurd (false≢true e)
+beq-≡ false true e = absurd (false≢true e)
+beq-≡ false false e = refl
