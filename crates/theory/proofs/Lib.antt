@@ -12,3 +12,5 @@ pub mod Answers
 pub mod Names
 pub mod Status
 pub mod Propagation
+pub mod OneHot
+pub mod Valuations

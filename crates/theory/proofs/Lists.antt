@@ -7,7 +7,7 @@ use mathlib.Core.List.{List, [], _∷_, _++_, map, map-append}
 use native.Mathlib.Nat.{add-zero, zero-add, suc-add, suc-mul, zero-mul, eq-or-lt-of-le}
 use native.Mathlib.Omega.{arith}
 use lib.Dec.{eqb}
-use lib.ListN.{length, getD, drop}
+use lib.ListN.{length, getD, drop, take}
 use Rattle.theory.specs.Lists.{any, all, concatMap, upFrom, upTo, sum, elem, remove, distinct, same}
 use Rattle.theory.proofs.Tests.{true-or-false, eqb-true, eqb-same, eqb-ne, and-left, and-right, and-join, or-cases, or-left, or-right}
 
@@ -194,6 +194,11 @@ pub all-drop : (p : ℕ → Bool) (n : ℕ) (xs : List ℕ) → all p xs ≡ tru
 all-drop p zero xs h = h
 all-drop p (suc n) [] h = h
 all-drop p (suc n) (x ∷ xs) h = all-drop p n xs (and-right (p x) (all p xs) h)
+
+pub all-take : (p : ℕ → Bool) (n : ℕ) (xs : List ℕ) → all p xs ≡ true → all p (take n xs) ≡ true
+all-take p zero xs h = refl
+all-take p (suc n) [] h = h
+all-take p (suc n) (x ∷ xs) h = and-join (p x) (all p (take n xs)) (and-left (p x) (all p xs) h) (all-take p n xs (and-right (p x) (all p xs) h))
 
 pub sum-map-append : {A : Type 0} (f : A → ℕ) (xs ys : List A) → sum (map f (xs ++ ys)) ≡ sum (map f xs) + sum (map f ys)
 sum-map-append f [] ys = sym (zero-add (sum (map f ys)))
