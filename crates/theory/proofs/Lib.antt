@@ -14,3 +14,6 @@ pub mod Status
 pub mod Propagation
 pub mod OneHot
 pub mod Valuations
+pub mod Completions
+pub mod Unset
+pub mod Walking
