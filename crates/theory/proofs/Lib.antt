@@ -17,3 +17,5 @@ pub mod Valuations
 pub mod Completions
 pub mod Unset
 pub mod Walking
+pub mod LiftedTerms
+pub mod WellFormed

@@ -27,6 +27,16 @@ module _ {A : Type 0} where
   all-at p d (x ∷ xs) zero h k = and-left (p x) (all p xs) h
   all-at p d (x ∷ xs) (suc i) h k = all-at p d xs i (and-right (p x) (all p xs) h) (omega arith)
 
+  pub all-mono : (p q : A → Bool) (xs : List A) → ((x : A) → p x ≡ true → q x ≡ true) → all p xs ≡ true → all q xs ≡ true
+  all-mono p q [] f h = refl
+  all-mono p q (x ∷ xs) f h = and-join (q x) (all q xs) (f x (and-left (p x) (all p xs) h)) (all-mono p q xs f (and-right (p x) (all p xs) h))
+
+  pub all-and : (p q : A → Bool) (xs : List A) → all p xs ≡ true → all q xs ≡ true → all (λ x. p x && q x) xs ≡ true
+  all-and p q [] h k = refl
+  all-and p q (x ∷ xs) h k =
+      and-join (p x && q x) (all (λ x. p x && q x) xs) (and-join (p x) (q x) (and-left (p x) (all p xs) h) (and-left (q x) (all q xs) k))
+      (all-and p q xs (and-right (p x) (all p xs) h) (and-right (q x) (all q xs) k))
+
 pub elem-append : (x : ℕ) (xs ys : List ℕ) → elem x (xs ++ ys) ≡ (elem x xs || elem x ys)
 elem-append x [] ys = refl
 elem-append x (y ∷ xs) ys = ap (λ (b : Bool). eqb x y || b) (elem-append x xs ys) ∙ sym (or-assoc (eqb x y) (elem x xs) (elem x ys))
@@ -70,6 +80,12 @@ elem-remove x y (z ∷ zs) h = go (eqb y z) refl (elem-remove x y zs h)
         let k : eqb x z ≡ false = ap (eqb x) (sym (eqb-true y z e)) ∙ h in
         ih ∙ ap (λ (b : Bool). b || elem x zs) (sym k)
     go false e ih = ap (λ (b : Bool). eqb x z || b) ih
+
+-- a test that each number of the list passes
+pub elem-all : (p : ℕ → Bool) (xs : List ℕ) → ((x : ℕ) → elem x xs ≡ true → p x ≡ true) → all p xs ≡ true
+elem-all p [] h = refl
+elem-all p (x ∷ xs) h =
+    and-join (p x) (all p xs) (h x (or-left (eqb x x) (elem x xs) (eqb-same x))) (elem-all p xs (λ y e. h y (or-right (eqb y x) (elem y xs) e)))
 
 pub elem-distinct : (x : ℕ) (xs : List ℕ) → elem x xs ≡ true → elem x (distinct xs) ≡ true
 elem-distinct x [] h = h
@@ -179,10 +195,14 @@ getD-upFrom a zero i h = absurd (omega arith)
 getD-upFrom a (suc n) zero h = sym (add-zero a)
 getD-upFrom a (suc n) (suc i) h = getD-upFrom (suc a) n i (omega arith) ∙ omega arith
 
+-- the element at a place within a mapped list
+pub map-at : {A B : Type 0} (f : A → B) (xs : List A) (i : ℕ) (d : A) (e : B) → i < length xs → getD (map f xs) i e ≡ f (getD xs i d)
+map-at f [] i d e h = absurd (omega arith)
+map-at f (x ∷ xs) zero d e h = refl
+map-at f (x ∷ xs) (suc i) d e h = map-at f xs i d e (omega arith)
+
 pub getD-map : (f : ℕ → ℕ) (xs : List ℕ) (i : ℕ) → i < length xs → getD (map f xs) i 0 ≡ f (getD xs i 0)
-getD-map f [] i h = absurd (omega arith)
-getD-map f (x ∷ xs) zero h = refl
-getD-map f (x ∷ xs) (suc i) h = getD-map f xs i (omega arith)
+getD-map f xs i h = map-at f xs i 0 0 h
 
 pub getD-map-upTo : (f : ℕ → ℕ) (n i : ℕ) → i < n → getD (map f (upTo n)) i 0 ≡ f i
 getD-map-upTo f n i h = getD-map f (upTo n) i (omega (arith, length-upFrom 0 n)) ∙ ap f (getD-upFrom 0 n i h ∙ zero-add i)
