@@ -19,3 +19,4 @@ pub mod Unset
 pub mod Walking
 pub mod LiftedTerms
 pub mod WellFormed
+pub mod CellClauses

@@ -8,7 +8,7 @@ use native.Mathlib.Nat.{add-zero, zero-add, suc-add, suc-mul, zero-mul, eq-or-lt
 use native.Mathlib.Omega.{arith}
 use lib.Dec.{eqb}
 use lib.ListN.{length, getD, drop, take}
-use Rattle.theory.specs.Lists.{any, all, concatMap, upFrom, upTo, sum, elem, remove, distinct, same}
+use Rattle.theory.specs.Lists.{any, all, select, concatMap, upFrom, upTo, sum, elem, remove, distinct, same}
 use Rattle.theory.proofs.Tests.{true-or-false, eqb-true, eqb-same, eqb-ne, and-left, and-right, and-join, or-cases, or-left, or-right}
 
 -- any and all
@@ -102,6 +102,15 @@ all-map p f (x ∷ xs) = ap (λ (b : Bool). p (f x) && b) (all-map p f xs)
 pub all-concatMap : {A B : Type 0} (p : B → Bool) (f : A → List B) (xs : List A) → all p (concatMap f xs) ≡ all (λ x. all p (f x)) xs
 all-concatMap p f [] = refl
 all-concatMap p f (x ∷ xs) = all-append p (f x) (concatMap f xs) ∙ ap (λ (b : Bool). all p (f x) && b) (all-concatMap p f xs)
+
+pub all-select : {A : Type 0} (p q : A → Bool) (xs : List A) → all q (select p xs) ≡ all (λ x. cond (p x) (q x) true) xs
+all-select p q [] = refl
+all-select p q (x ∷ xs) = go (p x) (all-select p q xs)
+  where
+    go : (b : Bool) → all q (select p xs) ≡ all (λ x. cond (p x) (q x) true) xs
+        → all q (cond b (x ∷ select p xs) (select p xs)) ≡ (cond b (q x) true && all (λ x. cond (p x) (q x) true) xs)
+    go true ih = ap (λ (b : Bool). q x && b) ih
+    go false ih = ih
 
 pub all-upFrom : (p : ℕ → Bool) (a n : ℕ) → all p (upFrom a n) ≡ true → (i : ℕ) → a ≤ i → i < a + n → p i ≡ true
 all-upFrom p a zero h i lo hi = absurd (omega arith)

@@ -126,6 +126,9 @@ pub propBase-suc : (s : ℕ) (g : Signature) (i : ℕ) → i < length g → prop
 unfolding propBase propCount
 propBase-suc s g i h = before-suc (blockSize s) g i h
 
+pub row-within : (s : ℕ) (g : Signature) (i r : ℕ) → i < length g → r < tableSize s (symbolAt g i) → cellBase s g i + r < cellCount s g
+row-within s g i r h k = row-below (tableSize s) g i r h k
+
 -- every cell is in some symbol's table
 pub cell-found : (s : ℕ) (g : Signature) (c : ℕ) → c < cellCount s g
     → (i : ℕ) × (r : ℕ) × (i < length g) × (r < tableSize s (symbolAt g i)) × (c ≡ cellBase s g i + r)
