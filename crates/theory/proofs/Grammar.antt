@@ -55,11 +55,11 @@ ok-drop g zero ts h = h
 ok-drop g (suc n) empty h = refl
 ok-drop g (suc n) (cons t ts) h = ok-drop g n ts (and-right (termOk g t) (termsOk g ts) h)
 
-function-kind : (k : Kind) → isFunction k ≡ true → k ≡ function
+pub function-kind : (k : Kind) → isFunction k ≡ true → k ≡ function
 function-kind function h = refl
 function-kind predicate h = absurd (false≢true h)
 
-predicate-kind : (k : Kind) → isPredicate k ≡ true → k ≡ predicate
+pub predicate-kind : (k : Kind) → isPredicate k ≡ true → k ≡ predicate
 predicate-kind function h = absurd (false≢true h)
 predicate-kind predicate h = refl
 

@@ -20,3 +20,4 @@ pub mod Walking
 pub mod LiftedTerms
 pub mod WellFormed
 pub mod CellClauses
+pub mod Parsing

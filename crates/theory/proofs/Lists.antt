@@ -2,7 +2,7 @@
 use Prim.Native.Nat.{ℕ, zero, suc, _+_, _*_, _≤_, _<_}
 use mathlib.Core.Path.{_≡_, refl, sym, ap, _∙_}
 use mathlib.Core.Logic.{_⊎_, inl, inr, _≢_}
-use mathlib.Core.Bool.{Bool, true, false, cond, _&&_, _||_, false≢true, or-assoc, and-assoc}
+use mathlib.Core.Bool.{Bool, true, false, cond, not, _&&_, _||_, false≢true, or-assoc, and-assoc}
 use mathlib.Core.List.{List, [], _∷_, _++_, map, map-append}
 use native.Mathlib.Nat.{add-zero, zero-add, suc-add, suc-mul, zero-mul, eq-or-lt-of-le}
 use native.Mathlib.Omega.{arith}
@@ -247,6 +247,29 @@ module _ {A : Type 0} where
   pub all-cong : (p q : A → Bool) (xs : List A) → ((x : A) → p x ≡ q x) → all p xs ≡ all q xs
   all-cong p q [] h = refl
   all-cong p q (x ∷ xs) h = ap (λ (b : Bool). b && all p xs) (h x) ∙ ap (λ (b : Bool). q x && b) (all-cong p q xs h)
+
+module _ {A : Type 0} where
+  pub select-append : (p : A → Bool) (xs ys : List A) → select p (xs ++ ys) ≡ select p xs ++ select p ys
+  select-append p [] ys = refl
+  select-append p (x ∷ xs) ys = go (p x) (select-append p xs ys)
+    where
+      go : (b : Bool) → select p (xs ++ ys) ≡ select p xs ++ select p ys
+          → cond b (x ∷ select p (xs ++ ys)) (select p (xs ++ ys)) ≡ cond b (x ∷ select p xs) (select p xs) ++ select p ys
+      go true ih = ap (λ (l : List A). x ∷ l) ih
+      go false ih = ih
+
+  pub select-all : (p : A → Bool) (xs : List A) → all p xs ≡ true → select p xs ≡ xs
+  select-all p [] h = refl
+  select-all p (x ∷ xs) h =
+      ap (λ (b : Bool). cond b (x ∷ select p xs) (select p xs)) (and-left (p x) (all p xs) h) ∙ ap (λ (l : List A). x ∷ l) (select-all p xs (and-right (p x) (all p xs) h))
+
+  pub select-none : (p : A → Bool) (xs : List A) → all (λ x. not (p x)) xs ≡ true → select p xs ≡ []
+  select-none p [] h = refl
+  select-none p (x ∷ xs) h = go (p x) (and-left (not (p x)) (all (λ x. not (p x)) xs) h) (select-none p xs (and-right (not (p x)) (all (λ x. not (p x)) xs) h))
+    where
+      go : (b : Bool) → not b ≡ true → select p xs ≡ [] → cond b (x ∷ select p xs) (select p xs) ≡ []
+      go true k ih = absurd (false≢true k)
+      go false k ih = ih
 
 all-remove : (p : ℕ → Bool) (y : ℕ) (xs : List ℕ) → all p xs ≡ true → all p (remove y xs) ≡ true
 all-remove p y [] h = refl

@@ -142,3 +142,7 @@ beq-≡ true true e = refl
 beq-≡ true false e = absurd (false≢true e)
 beq-≡ false true e = absurd (false≢true e)
 beq-≡ false false e = refl
+
+pub false-of-not : (b : Bool) → not b ≡ true → b ≡ false
+false-of-not true e = absurd (false≢true e)
+false-of-not false e = refl
