@@ -1,19 +1,21 @@
 -- The valuations that complete a partial one, and what a status under it says of all of them.
-use Prim.Native.Nat.{ℕ, zero, suc}
+use Prim.Native.Nat.{ℕ, zero, suc, _<_}
 use mathlib.Core.Path.{_≡_, refl, sym, ap, _∙_}
 use mathlib.Core.Logic.{_⊎_, inl, inr}
 use mathlib.Core.Bool.{Bool, true, false, cond, not, Bool·beq, true≢false, false≢true}
 use mathlib.Core.Option.{Option, none, some, Option·some-injective}
 use mathlib.Core.List.{List, [], _∷_}
-use lib.Dec.{eqb}
-use lib.ListN.{getD}
+use native.Mathlib.Omega.{arith}
+use lib.Dec.{eqb, ltb}
+use lib.ListN.{length, getD}
 use Rattle.theory.specs.Lists.{any, all, elem, select}
 use Rattle.theory.specs.Propositional.{PropLiteral, PropClause}
 use Rattle.theory.specs.Valuation.{says, satisfiesLiteral, satisfiesClause, satisfies}
 use Rattle.theory.specs.Walk.{Partial, lookup, isUnset, isSetTo, literalIsTrue, literalIsUnset, sameLiteral, failed, forces, quiet, status}
 use Rattle.theory.specs.Claims.Walk.{Member, here, there}
-use Rattle.theory.proofs.Tests.{not-true, both-false, and-left, and-right, and-join, or-cases, or-false-left, or-false-right}
+use Rattle.theory.proofs.Tests.{not-true, both-false, eqb-true, ltb-of-<, and-left, and-right, and-join, or-cases, or-false-left, or-false-right}
 use Rattle.theory.proofs.Lists.{elem-single, any-cong}
+use Rattle.theory.proofs.OneHot.{areBits}
 use Rattle.theory.proofs.First.{In}
 use Rattle.theory.proofs.Status.{sameLiteral-parts, OnlyUnset, status-failed, status-forces, status-quiet}
 
@@ -45,6 +47,42 @@ completion-getD first (o ∷ π) (d ∷ v) (suc i) b m e = completion-getD (λ i
 completion-says : (first : ℕ → Bool) (π : Partial) (v : List ℕ) (n : ℕ) (b : Bool) → In v (completions first π) → lookup π n ≡ some b → says v n ≡ b
 completion-says first π v zero b m e = Option·some-injective false b e
 completion-says first π v (suc i) b m e = completion-getD first π v i b m e
+
+-- a byte of a completion is 0 or 1
+option-byte : (a : Bool) (o : Option Bool) (d : ℕ) → elem d (options a o) ≡ true → d ≡ cond (eqb d 1) 1 0
+option-byte a o d h = pick o h
+  where
+    one : (v : Bool) → d ≡ cond v 1 0 → d ≡ cond (eqb d 1) 1 0
+    one true e = e ∙ ap (λ (n : ℕ). cond (eqb n 1) 1 0) (sym e)
+    one false e = e ∙ ap (λ (n : ℕ). cond (eqb n 1) 1 0) (sym e)
+
+    two : (eqb d (cond a 1 0) ≡ true) ⊎ (elem d (cond (not a) 1 0 ∷ []) ≡ true) → d ≡ cond (eqb d 1) 1 0
+    two (inl k) = one a (eqb-true d (cond a 1 0) k)
+    two (inr k) = one (not a) (elem-single d (cond (not a) 1 0) k)
+
+    pick : (o : Option Bool) → elem d (options a o) ≡ true → d ≡ cond (eqb d 1) 1 0
+    pick (some v) h = one v (elem-single d (cond v 1 0) h)
+    pick none h = two (or-cases (eqb d (cond a 1 0)) (elem d (cond (not a) 1 0 ∷ [])) h)
+
+pub completion-byte : (first : ℕ → Bool) (π : Partial) (v : List ℕ) (i : ℕ) → In v (completions first π) → getD v i 0 ≡ cond (eqb (getD v i 0) 1) 1 0
+completion-byte first [] [] i m = refl
+completion-byte first [] (d ∷ v) i m = absurd m
+completion-byte first (o ∷ π) [] i m = absurd m
+completion-byte first (o ∷ π) (d ∷ v) zero m = option-byte (first 0) o d (m .0)
+completion-byte first (o ∷ π) (d ∷ v) (suc i) m = completion-byte (λ i. first (suc i)) π v i (m .1)
+
+-- a completion has a byte, 0 or 1, for each variable
+pub completion-bits : (first : ℕ → Bool) (π : Partial) (v : List ℕ) → In v (completions first π) → (length v ≡ length π) × (areBits v ≡ true)
+completion-bits first [] [] m = (refl, refl)
+completion-bits first [] (d ∷ v) m = absurd m
+completion-bits first (o ∷ π) [] m = absurd m
+completion-bits first (o ∷ π) (d ∷ v) m =
+    let r = completion-bits (λ i. first (suc i)) π v (m .1) in
+    (ap suc (r .0), and-join (ltb d 2) (areBits v) (ltb-of-< d 2 (bit (eqb d 1) (option-byte (first 0) o d (m .0)))) (r .1))
+  where
+    bit : (b : Bool) → d ≡ cond b 1 0 → d < 2
+    bit true e = omega arith
+    bit false e = omega arith
 
 -- a valuation satisfies clauses exactly if it satisfies each of them
 pub satisfies-member : (v : List ℕ) (cs : List PropClause) (c : PropClause) → satisfies v cs ≡ true → Member c cs → satisfiesClause v c ≡ true

@@ -21,3 +21,4 @@ pub mod LiftedTerms
 pub mod WellFormed
 pub mod CellClauses
 pub mod Parsing
+pub mod Chunks

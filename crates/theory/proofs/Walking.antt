@@ -1,7 +1,6 @@
 -- The walk's answer is the first valuation, in the order of its choices, that satisfies the clauses.
 use Prim.Native.Nat.{ℕ, zero, suc, pred, _<_}
 use mathlib.Core.Path.{_≡_, refl, sym, ap, _∙_}
-use mathlib.Core.Logic.{_⊎_, inl, inr}
 use mathlib.Core.Bool.{Bool, true, false, cond, not, Bool·beq}
 use mathlib.Core.Option.{Option, none, some, Option·some-injective}
 use mathlib.Core.List.{List, [], _∷_}
@@ -14,13 +13,13 @@ use Rattle.theory.specs.Valuation.{says, satisfies}
 use Rattle.theory.specs.Least.{orElse, firstList}
 use Rattle.theory.specs.Walk.{Partial, Status, failed, forces, quiet, status, event, lowest, bytesOf, Walked, choose, walkStep, walk, walked}
 use Rattle.theory.specs.Claims.Walk.{Member}
-use Rattle.theory.proofs.Tests.{not-true, both-false, beq-≡, eqb-true, or-cases}
-use Rattle.theory.proofs.Lists.{elem-here, elem-single}
+use Rattle.theory.proofs.Tests.{not-true, both-false, beq-≡}
+use Rattle.theory.proofs.Lists.{elem-here}
 use Rattle.theory.proofs.First.{In, orElse-none, prefix-orElse, first-none, narrow}
 use Rattle.theory.proofs.Status.{EventMeans, event-means, status-forces}
 use Rattle.theory.proofs.Propagation.{withLiteral}
 use Rattle.theory.proofs.Unset.{unsetCount, unsetCount-replicate, unsetCount-set, unsetCount-withLiteral, literal-place, lowest-unset, all-set}
-use Rattle.theory.proofs.Completions.{options, completions, satisfies-member, member-satisfies, failed-not-satisfied, forced-satisfied, quiet-satisfied}
+use Rattle.theory.proofs.Completions.{options, completions, completion-byte, satisfies-member, member-satisfies, failed-not-satisfied, forced-satisfied, quiet-satisfied}
 
 -- setting a variable leaves one byte for it
 completions-set : (first : ℕ → Bool) (π : Partial) (i : ℕ) (b : Bool) → completions first (set π i (some b)) ≡ set (completions first π) i (cond b 1 0 ∷ [])
@@ -39,29 +38,6 @@ unset-options first (o ∷ π) zero b e = ap (λ (o : Option Bool). elem (cond b
     both false true = refl
     both false false = refl
 unset-options first (o ∷ π) (suc i) b e = unset-options (λ i. first (suc i)) π i b e
-
--- a byte of a completion is 0 or 1
-option-byte : (a : Bool) (o : Option Bool) (d : ℕ) → elem d (options a o) ≡ true → d ≡ cond (eqb d 1) 1 0
-option-byte a o d h = pick o h
-  where
-    one : (v : Bool) → d ≡ cond v 1 0 → d ≡ cond (eqb d 1) 1 0
-    one true e = e ∙ ap (λ (n : ℕ). cond (eqb n 1) 1 0) (sym e)
-    one false e = e ∙ ap (λ (n : ℕ). cond (eqb n 1) 1 0) (sym e)
-
-    two : (eqb d (cond a 1 0) ≡ true) ⊎ (elem d (cond (not a) 1 0 ∷ []) ≡ true) → d ≡ cond (eqb d 1) 1 0
-    two (inl k) = one a (eqb-true d (cond a 1 0) k)
-    two (inr k) = one (not a) (elem-single d (cond (not a) 1 0) k)
-
-    pick : (o : Option Bool) → elem d (options a o) ≡ true → d ≡ cond (eqb d 1) 1 0
-    pick (some v) h = one v (elem-single d (cond v 1 0) h)
-    pick none h = two (or-cases (eqb d (cond a 1 0)) (elem d (cond (not a) 1 0 ∷ [])) h)
-
-completion-byte : (first : ℕ → Bool) (π : Partial) (v : List ℕ) (i : ℕ) → In v (completions first π) → getD v i 0 ≡ cond (eqb (getD v i 0) 1) 1 0
-completion-byte first [] [] i m = refl
-completion-byte first [] (d ∷ v) i m = absurd m
-completion-byte first (o ∷ π) [] i m = absurd m
-completion-byte first (o ∷ π) (d ∷ v) zero m = option-byte (first 0) o d (m .0)
-completion-byte first (o ∷ π) (d ∷ v) (suc i) m = completion-byte (λ i. first (suc i)) π v i (m .1)
 
 -- a choice splits the completions in two
 branch : (first : ℕ → Bool) (π : Partial) (i : ℕ) (p : List ℕ → Bool) → lowest π ≡ some i
