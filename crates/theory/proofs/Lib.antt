@@ -22,3 +22,5 @@ pub mod WellFormed
 pub mod CellClauses
 pub mod Parsing
 pub mod Chunks
+pub mod Walk
+pub mod AnyOrder
