@@ -1,7 +1,7 @@
 -- The words that are read as a clause are exactly the words of that clause.
 use Prim.Native.Nat.{ℕ, zero, suc, _+_, _≤_}
 use mathlib.Core.Path.{_≡_, refl, sym, ap, _∙_, subst}
-use mathlib.Core.Bool.{Bool, true, _&&_, false≢true}
+use mathlib.Core.Bool.{true, _&&_}
 use mathlib.Core.Option.{Option, none, some, Option·some-injective}
 use mathlib.Core.List.{List, [], _∷_, _++_, append-assoc, append-nil}
 use native.Mathlib.Nat.{add-zero, zero-add, suc-add}
@@ -13,7 +13,8 @@ use Rattle.theory.specs.Syntax.{Kind, function, predicate, isFunction, i
 use Rattle.theory.specs.Grammar.{Word, sign, equals, symbol, letter, termWords, termsWords, atomWords, clauseWords, Due, terms, atom, dueAfterFunction, dueAfterPredicate, dueAfter, Grammar, clause, misplaced, unfinished, grammarFrom, grammar, takeTerms, dropTerms, Reading, equalityOf, readSymbol, readWord, readWords, clauseIf, readClause}
 use Rattle.theory.specs.Claims.Grammar.{isDeclared}
 use Rattle.theory.specs.Claims.Grammar as claims
-use Rattle.theory.proofs.Tests.{eqb-true, eqb-of-≡, and-left, and-right, and-join}
+use Rattle.theory.proofs.Tests.{eqb-of-≡, and-left, and-right, and-join}
+use Rattle.theory.proofs.Declared.{functionOf→, predicateOf→}
 
 -- terms one after the other
 abbrev pub appendTerms : Terms → Terms → Terms
@@ -55,29 +56,7 @@ ok-drop g zero ts h = h
 ok-drop g (suc n) empty h = refl
 ok-drop g (suc n) (cons t ts) h = ok-drop g n ts (and-right (termOk g t) (termsOk g ts) h)
 
-pub function-kind : (k : Kind) → isFunction k ≡ true → k ≡ function
-function-kind function h = refl
-function-kind predicate h = absurd (false≢true h)
-
-pub predicate-kind : (k : Kind) → isPredicate k ≡ true → k ≡ predicate
-predicate-kind function h = absurd (false≢true h)
-predicate-kind predicate h = refl
-
 module _ (g : Signature) where
-  function-of : (f n : ℕ) → functionOf g f n ≡ true → (symbolAt g f .kind ≡ function) × (n ≡ symbolAt g f .arity)
-  function-of f n h =
-      let a : Bool = ltb f (length g) in
-      let b : Bool = isFunction (symbolAt g f .kind) in
-      let c : Bool = eqb n (symbolAt g f .arity) in
-      (function-kind (symbolAt g f .kind) (and-right a b (and-left (a && b) c h)), eqb-true n (symbolAt g f .arity) (and-right (a && b) c h))
-
-  predicate-of : (p n : ℕ) → predicateOf g p n ≡ true → (symbolAt g p .kind ≡ predicate) × (n ≡ symbolAt g p .arity)
-  predicate-of p n h =
-      let a : Bool = ltb p (length g) in
-      let b : Bool = isPredicate (symbolAt g p .kind) in
-      let c : Bool = eqb n (symbolAt g p .arity) in
-      (predicate-kind (symbolAt g p .kind) (and-right a b (and-left (a && b) c h)), eqb-true n (symbolAt g p .arity) (and-right (a && b) c h))
-
   -- a word that may stand there is passed
   pass : (i : ℕ) (d e : Due) (w : Word) (ws : List Word) → dueAfter g d w ≡ some e → grammarFrom g i d (w ∷ ws) ≡ grammarFrom g (suc i) e ws
   pass i d e w ws h = ap (λ (o : Option Due). elim o as (λ _. Grammar) [ some e ↦ grammarFrom g (suc i) e ws | none ↦ misplaced i ]) h
@@ -88,9 +67,9 @@ module _ (g : Signature) where
         → grammarFrom g i (terms (suc n)) (termWords t ++ ws) ≡ grammarFrom g (i + length (termWords t)) (terms n) ws
     term-passed (variable x) i n ws h = let e : suc i ≡ i + 1 = omega arith in ap (λ (j : ℕ). grammarFrom g j (terms n) ws) e
     term-passed (apply f ts) i n ws h =
-        let k = function-of f (count ts) (and-left (functionOf g f (count ts)) (termsOk g ts) h) in
+        let k = functionOf→ g f (count ts) (and-left (functionOf g f (count ts)) (termsOk g ts) h) in
         let due : dueAfter g (terms (suc n)) (symbol f) ≡ some (terms (count ts + n)) =
-        ap (λ (k : Kind). dueAfterFunction k (symbolAt g f .arity) n) (k .0) ∙ ap (λ (a : ℕ). some (terms (a + n))) (sym (k .1)) in
+        ap (λ (k : Kind). dueAfterFunction k (symbolAt g f .arity) n) (k .kind) ∙ ap (λ (a : ℕ). some (terms (a + n))) (sym (k .arity)) in
         let e : suc i + length (termsWords ts) ≡ i + suc (length (termsWords ts)) = omega arith in
         pass i (terms (suc n)) (terms (count ts + n)) (symbol f) (termsWords ts ++ ws) due
         ∙ terms-passed ts (suc i) n ws (and-right (functionOf g f (count ts)) (termsOk g ts) h)
@@ -115,9 +94,9 @@ module _ (g : Signature) where
       ∙ term-passed u (suc i + length (termWords t)) 0 ws (and-right (termOk g t) (termOk g u) h)
       ∙ ap (λ (j : ℕ). grammarFrom g j (terms 0) ws) e
   atom-passed (holds p ts) i ws h =
-      let k = predicate-of p (count ts) (and-left (predicateOf g p (count ts)) (termsOk g ts) h) in
+      let k = predicateOf→ g p (count ts) (and-left (predicateOf g p (count ts)) (termsOk g ts) h) in
       let due : dueAfter g atom (symbol p) ≡ some (terms (count ts + 0)) =
-      ap (λ (k : Kind). dueAfterPredicate k (symbolAt g p .arity)) (k .0) ∙ ap (λ (a : ℕ). some (terms a)) (sym (k .1) ∙ sym (add-zero (count ts))) in
+      ap (λ (k : Kind). dueAfterPredicate k (symbolAt g p .arity)) (k .kind) ∙ ap (λ (a : ℕ). some (terms a)) (sym (k .arity) ∙ sym (add-zero (count ts))) in
       let e : suc i + length (termsWords ts) ≡ i + suc (length (termsWords ts)) = omega arith in
       pass i atom (terms (count ts + 0)) (symbol p) (termsWords ts ++ ws) due
       ∙ terms-passed ts (suc i) 0 ws (and-right (predicateOf g p (count ts)) (termsOk g ts) h)
@@ -139,12 +118,12 @@ module _ (g : Signature) where
     pub term-read : (t : Term) (ws : List Word) → termOk g t ≡ true → readWords g (termWords t ++ ws) ≡ withTerms (cons t empty) (readWords g ws)
     term-read (variable x) ws h = refl
     term-read (apply f ts) ws h =
-        let k = function-of f (count ts) (and-left (functionOf g f (count ts)) (termsOk g ts) h) in
+        let k = functionOf→ g f (count ts) (and-left (functionOf g f (count ts)) (termsOk g ts) h) in
         let r : Reading = readWords g ws in
         let us : Terms = appendTerms ts (r .terms) in
         ap (readSymbol (symbolAt g f .kind) f (symbolAt g f .arity)) (terms-read ts ws (and-right (functionOf g f (count ts)) (termsOk g ts) h))
-        ∙ ap (λ (k : Kind). readSymbol k f (symbolAt g f .arity) (withTerms ts r)) (k .0)
-        ∙ ap (λ (a : ℕ). readSymbol function f a (withTerms ts r)) (sym (k .1))
+        ∙ ap (λ (k : Kind). readSymbol k f (symbolAt g f .arity) (withTerms ts r)) (k .kind)
+        ∙ ap (λ (a : ℕ). readSymbol function f a (withTerms ts r)) (sym (k .arity))
         ∙ ap (λ (vs : Terms). record { terms = cons (apply f vs) (dropTerms (count ts) us); atom = r .atom; clause = r .clause }) (take-append ts (r .terms))
         ∙ ap (λ (vs : Terms). record { terms = cons (apply f ts) vs; atom = r .atom; clause = r .clause }) (drop-append ts (r .terms))
 
@@ -162,12 +141,12 @@ module _ (g : Signature) where
       ∙ ap (readWord g equals) (term-read t (termWords u ++ ws) (and-left (termOk g t) (termOk g u) h)
       ∙ ap (withTerms (cons t empty)) (term-read u ws (and-right (termOk g t) (termOk g u) h)))
   atom-read (holds p ts) ws h =
-      let k = predicate-of p (count ts) (and-left (predicateOf g p (count ts)) (termsOk g ts) h) in
+      let k = predicateOf→ g p (count ts) (and-left (predicateOf g p (count ts)) (termsOk g ts) h) in
       let r : Reading = readWords g ws in
       let us : Terms = appendTerms ts (r .terms) in
       ap (readSymbol (symbolAt g p .kind) p (symbolAt g p .arity)) (terms-read ts ws (and-right (predicateOf g p (count ts)) (termsOk g ts) h))
-      ∙ ap (λ (k : Kind). readSymbol k p (symbolAt g p .arity) (withTerms ts r)) (k .0)
-      ∙ ap (λ (a : ℕ). readSymbol predicate p a (withTerms ts r)) (sym (k .1))
+      ∙ ap (λ (k : Kind). readSymbol k p (symbolAt g p .arity) (withTerms ts r)) (k .kind)
+      ∙ ap (λ (a : ℕ). readSymbol predicate p a (withTerms ts r)) (sym (k .arity))
       ∙ ap (λ (vs : Terms). record { terms = dropTerms (count ts) us; atom = holds p vs; clause = r .clause }) (take-append ts (r .terms))
       ∙ ap (λ (vs : Terms). record { terms = vs; atom = holds p ts; clause = r .clause }) (drop-append ts (r .terms))
 

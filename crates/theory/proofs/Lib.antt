@@ -24,3 +24,5 @@ pub mod Parsing
 pub mod Chunks
 pub mod Walk
 pub mod AnyOrder
+pub mod Declared
+pub mod Instances

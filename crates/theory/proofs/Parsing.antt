@@ -23,7 +23,8 @@ use Rattle.theory.proofs.Tests.{both-false, false-of-not, lt-or-eq-or-g
 use Rattle.theory.proofs.Lists.{all-append, all-concatMap, all-cong, all-imply, all-distinct, all-at, any-at, same-refl, select-append, select-all, select-none}
 use Rattle.theory.proofs.Answers.{unbind, answer-inj, check-true, orRefuse-some}
 use Rattle.theory.proofs.Names.{NamesDiffer, named-place}
-use Rattle.theory.proofs.Grammar.{function-kind, predicate-kind, readClause-sound}
+use Rattle.theory.proofs.Declared.{function-kind, predicate-kind}
+use Rattle.theory.proofs.Grammar.{readClause-sound}
 
 -- the two kinds are the same
 abbrev pub isKind : Kind → Kind → Bool
