@@ -26,3 +26,5 @@ pub mod Walk
 pub mod AnyOrder
 pub mod Declared
 pub mod Instances
+pub mod Lines
+pub mod Dimacs

@@ -244,6 +244,10 @@ module _ {A : Type 0} where
   all-imply p q [] f h = refl
   all-imply p q (x ∷ xs) f h = and-join (q x) (all q xs) (f x (and-left (p x) (all p xs) h)) (all-imply p q xs f (and-right (p x) (all p xs) h))
 
+  pub all-every : (p : A → Bool) (xs : List A) → ((x : A) → p x ≡ true) → all p xs ≡ true
+  all-every p [] h = refl
+  all-every p (x ∷ xs) h = and-join (p x) (all p xs) (h x) (all-every p xs h)
+
   pub all-cong : (p q : A → Bool) (xs : List A) → ((x : A) → p x ≡ q x) → all p xs ≡ all q xs
   all-cong p q [] h = refl
   all-cong p q (x ∷ xs) h = ap (λ (b : Bool). b && all p xs) (h x) ∙ ap (λ (b : Bool). q x && b) (all-cong p q xs h)
