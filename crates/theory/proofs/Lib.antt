@@ -28,3 +28,5 @@ pub mod Declared
 pub mod Instances
 pub mod Lines
 pub mod Dimacs
+pub mod Lifting
+pub mod Flattening

@@ -3,14 +3,14 @@ use Prim.Native.Nat.{ℕ, _<_}
 use mathlib.Core.Path.{_≡_, refl, sym, ap, _∙_}
 use mathlib.Core.Bool.{Bool, true, false, cond, _&&_, _||_, false≢true}
 use mathlib.Core.Option.{Option, some}
-use mathlib.Core.List.{List, [], _∷_, _++_}
+use mathlib.Core.List.{List, [], _∷_, _++_, map}
 use lib.Dec.{eqb}
 use lib.ListN.{length, getD}
 use Rattle.theory.specs.Lists.{any, all, concatMap, placeThat}
 use Rattle.theory.specs.Syntax.{Term, variable, apply, Terms, empty, cons, Atom, equal, holds, Literal, Clause}
-use Rattle.theory.specs.Flattening.{functionTerms, allFunctionTerms, toLift, sameTerm, sameTerms, addTerm, addTerms, liftedTerms, new, placeOr0, variableFor}
+use Rattle.theory.specs.Flattening.{turnedAtom, turned, functionTerms, allFunctionTerms, toLift, sameTerm, sameTerms, addTerm, addTerms, liftedTerms, new, placeOr0, variableFor}
 use Rattle.theory.proofs.Tests.{eqb-true, eqb-same, and-left, and-right, and-join, or-left, or-right}
-use Rattle.theory.proofs.Lists.{any-append, all-append, all-mono, all-concatMap}
+use Rattle.theory.proofs.Lists.{any-append, all-append, all-mono, all-map, all-concatMap}
 use Rattle.theory.proofs.Finding.{placeThat-some, any→placeThat}
 
 -- the test of two terms is their equality
@@ -186,6 +186,10 @@ unfolding liftedTerms
 liftedTerms-atoms c =
     let ts : List Term = concatMap (λ (l : Literal). toLift (l .atom)) c in
     sym (all-concatMap (among (addTerms [] ts)) (λ (l : Literal). toLift (l .atom)) c) ∙ addTerms-adds [] ts
+
+-- the same of a clause before its literals are turned
+pub liftedTerms-turned : (c : Clause) → all (λ (l : Literal). coveredAtom (liftedTerms (map turned c)) (turnedAtom (l .atom))) c ≡ true
+liftedTerms-turned c = sym (all-map (λ (l : Literal). coveredAtom (liftedTerms (map turned c)) (l .atom)) turned c) ∙ liftedTerms-atoms (map turned c)
 
 -- and so are the function terms within a lifted term
 pub liftedTerms-covered : (c : Clause) → all (covered (liftedTerms c)) (liftedTerms c) ≡ true

@@ -13,7 +13,7 @@ use Rattle.theory.specs.Flattening.{merged, turnedAtom, turned, toLift, 
 use Rattle.theory.proofs.Tests.{and-left, and-right, and-join, ltb-of-<}
 use Rattle.theory.proofs.Lists.{all-append, all-mono, all-and, all-map, all-concatMap, elem-all, elem-distinct}
 use Rattle.theory.proofs.Merging.{merged-ok}
-use Rattle.theory.proofs.LiftedTerms.{Sources, toLift-all, place, variableFor-place, covered, coveredAll, coveredAtom, covered-arguments, covered-among, covered-first, covered-rest, covered-left, covered-right, liftedTerms-all, liftedTerms-atoms, liftedTerms-covered}
+use Rattle.theory.proofs.LiftedTerms.{Sources, toLift-all, place, variableFor-place, covered, coveredAll, coveredAtom, covered-arguments, covered-among, covered-first, covered-rest, covered-left, covered-right, liftedTerms-all, liftedTerms-turned, liftedTerms-covered}
 
 -- one variable stands for each term
 pub length-variablesFor : (lifted : List Term) (ts : Terms) → length (variablesFor lifted ts) ≡ count ts
@@ -47,7 +47,7 @@ module _ (g : Signature) where
   turnedAtom-ok (equal (apply f ts) u) h = h
   turnedAtom-ok (holds p ts) h = h
 
-  turned-ok : (c : Clause) → clauseOk g c ≡ true → clauseOk g (map turned c) ≡ true
+  pub turned-ok : (c : Clause) → clauseOk g c ≡ true → clauseOk g (map turned c) ≡ true
   turned-ok c h =
       all-map (λ (l : Literal). atomOk g (l .atom)) turned c
       ∙ all-mono (λ (l : Literal). atomOk g (l .atom)) (λ (l : Literal). atomOk g (turnedAtom (l .atom))) c (λ l. turnedAtom-ok (l .atom)) h
@@ -209,7 +209,7 @@ flatten-scoped c =
     let q : Literal → Bool = λ l. coveredAtom lifted (turnedAtom (l .atom)) in
     let k : all p (merged c) ≡ true =
     all-mono (λ (l : Literal). within owns (atomVariables (l .atom))) p (merged c) (λ l. turnedAtom-within owns (l .atom)) (variables-within (merged c)) in
-    let a : all q (merged c) ≡ true = sym (all-map (λ (l : Literal). coveredAtom lifted (l .atom)) turned (merged c)) ∙ liftedTerms-atoms m in
+    let a : all q (merged c) ≡ true = liftedTerms-turned (merged c) in
     let d : flatScoped owns (length lifted) (definitions lifted 0 lifted) ≡ true =
     definitions-scoped owns lifted 0 lifted (zero-add (length lifted))
     (liftedTerms-within owns m (all-map (λ (l : Literal). within owns (atomVariables (l .atom))) turned (merged c) ∙ k)) (liftedTerms-covered m) in
