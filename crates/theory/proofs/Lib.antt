@@ -30,3 +30,5 @@ pub mod Lines
 pub mod Dimacs
 pub mod Lifting
 pub mod Flattening
+pub mod Interpretations
+pub mod Encoding

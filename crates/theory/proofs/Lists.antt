@@ -3,7 +3,7 @@ use Prim.Native.Nat.{ℕ, zero, suc, _+_, _*_, _≤_, _<_}
 use mathlib.Core.Path.{_≡_, refl, sym, ap, _∙_}
 use mathlib.Core.Logic.{_⊎_, inl, inr, _≢_}
 use mathlib.Core.Bool.{Bool, true, false, cond, not, _&&_, _||_, false≢true, or-assoc, and-assoc}
-use mathlib.Core.List.{List, [], _∷_, _++_, map, map-append}
+use mathlib.Core.List.{List, [], _∷_, _++_, map, map-append, append-assoc}
 use native.Mathlib.Nat.{add-zero, zero-add, suc-add, suc-mul, zero-mul, eq-or-lt-of-le}
 use native.Mathlib.Omega.{arith}
 use lib.Dec.{eqb}
@@ -163,6 +163,11 @@ map-concatMap h f (x ∷ xs) = map-append h (f x) (concatMap f xs) ∙ ap (λ l.
 pub concatMap-cong : {A B : Type 0} (f g : A → List B) (xs : List A) → ((x : A) → f x ≡ g x) → concatMap f xs ≡ concatMap g xs
 concatMap-cong f g [] h = refl
 concatMap-cong f g (x ∷ xs) h = let p : f x ≡ g x = h x in let q : concatMap f xs ≡ concatMap g xs = concatMap-cong f g xs h in cc
+
+pub concatMap-append : {A B : Type 0} (f : A → List B) (xs ys : List A) → concatMap f (xs ++ ys) ≡ concatMap f xs ++ concatMap f ys
+concatMap-append f [] ys = refl
+concatMap-append {B = B} f (x ∷ xs) ys =
+    ap (λ (l : List B). f x ++ l) (concatMap-append f xs ys) ∙ sym (append-assoc (f x) (concatMap f xs) (concatMap f ys))
 
 pub concatMap-map : {A B C : Type 0} (f : B → List C) (h : A → B) (xs : List A) → concatMap f (map h xs) ≡ concatMap (λ x. f (h x)) xs
 concatMap-map f h [] = refl
