@@ -27,10 +27,6 @@ module _ {A : Type 0} where
   all-at p d (x ∷ xs) zero h k = and-left (p x) (all p xs) h
   all-at p d (x ∷ xs) (suc i) h k = all-at p d xs i (and-right (p x) (all p xs) h) (omega arith)
 
-  pub all-mono : (p q : A → Bool) (xs : List A) → ((x : A) → p x ≡ true → q x ≡ true) → all p xs ≡ true → all q xs ≡ true
-  all-mono p q [] f h = refl
-  all-mono p q (x ∷ xs) f h = and-join (q x) (all q xs) (f x (and-left (p x) (all p xs) h)) (all-mono p q xs f (and-right (p x) (all p xs) h))
-
   pub all-and : (p q : A → Bool) (xs : List A) → all p xs ≡ true → all q xs ≡ true → all (λ x. p x && q x) xs ≡ true
   all-and p q [] h k = refl
   all-and p q (x ∷ xs) h k =

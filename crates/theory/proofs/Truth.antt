@@ -14,7 +14,7 @@ use Rattle.theory.specs.Syntax.{Term, variable, apply, Terms, empty, con
 use Rattle.theory.specs.Truth.{Interpretation, Assignment, value, values, atomTrue, literalTrue, clauseTrue, assign, failingChoice, Failure, firstFailure, noFailure}
 use Rattle.theory.specs.Cells.{interpretation, judged, isModel}
 use Rattle.theory.specs.Claims.Truth.{Valid, AllValid, Truth}
-use Rattle.theory.proofs.Tests.{eqb-true, eqb-same, eqb-of-≡, and-left, and-right, and-join, or-left, or-right, not-true}
+use Rattle.theory.proofs.Tests.{eqb-true, eqb-same, eqb-of-≡, and-left, and-right, and-join, or-left, or-right, not-true, false-of-not}
 use Rattle.theory.proofs.Lists.{elem-append, elem-distinct}
 use Rattle.theory.proofs.Vectors.{all-vectors, vectors-all, allBelow-map, all→AllBelow, AllBelow→all}
 use Rattle.theory.proofs.Finding.{firstThat-some, firstThat-all, firstThat-none, none-firstThat}
@@ -123,11 +123,7 @@ module _ (I : Interpretation) (s : ℕ) where
   -- under a failing choice the clause is false
   pub failingChoice-false : (c : Clause) (v : List ℕ) → failingChoice I s c ≡ some v → clauseTrue I (assign (variables c) v) c ≡ false
   failingChoice-false c v e =
-      go (clauseTrue I (assign (variables c) v) c) (firstThat-some (λ v. not (clauseTrue I (assign (variables c) v) c)) (vectors s (length (variables c))) v e)
-    where
-      go : (b : Bool) → not b ≡ true → b ≡ false
-      go true h = absurd (false≢true h)
-      go false h = refl
+      false-of-not (clauseTrue I (assign (variables c) v) c) (firstThat-some (λ v. not (clauseTrue I (assign (variables c) v) c)) (vectors s (length (variables c))) v e)
 
   -- a failing choice has an element for each variable
   pub failingChoice-below : (c : Clause) (v : List ℕ) → failingChoice I s c ≡ some v → (length v ≡ length (variables c)) × AllBelow s v

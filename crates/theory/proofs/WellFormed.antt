@@ -11,7 +11,7 @@ use Rattle.theory.specs.Lists.{all, concatMap, elem, distinct}
 use Rattle.theory.specs.Syntax.{Term, variable, apply, Terms, empty, cons, Atom, equal, holds, Literal, Clause, Signature, termVariables, termsVariables, atomVariables, variables, count, functionOf, predicateOf, termOk, termsOk, atomOk, clauseOk}
 use Rattle.theory.specs.Flattening.{merged, turnedAtom, turned, toLift, liftedTerms, FlatVariable, own, new, variableFor, variablesFor, FlatAtom, flatPredicate, flatResult, flatEquality, FlatLiteral, termEquals, shallowAtom, shallow, definitions, flatten}
 use Rattle.theory.proofs.Tests.{and-left, and-right, and-join, ltb-of-<}
-use Rattle.theory.proofs.Lists.{all-append, all-mono, all-and, all-map, all-concatMap, elem-all, elem-distinct}
+use Rattle.theory.proofs.Lists.{all-append, all-imply, all-and, all-map, all-concatMap, elem-all, elem-distinct}
 use Rattle.theory.proofs.Merging.{merged-ok}
 use Rattle.theory.proofs.LiftedTerms.{Sources, toLift-all, place, variableFor-place, covered, coveredAll, coveredAtom, covered-arguments, covered-among, covered-first, covered-rest, covered-left, covered-right, liftedTerms-all, liftedTerms-turned, liftedTerms-covered}
 
@@ -50,7 +50,7 @@ module _ (g : Signature) where
   pub turned-ok : (c : Clause) → clauseOk g c ≡ true → clauseOk g (map turned c) ≡ true
   turned-ok c h =
       all-map (λ (l : Literal). atomOk g (l .atom)) turned c
-      ∙ all-mono (λ (l : Literal). atomOk g (l .atom)) (λ (l : Literal). atomOk g (turnedAtom (l .atom))) c (λ l. turnedAtom-ok (l .atom)) h
+      ∙ all-imply (λ (l : Literal). atomOk g (l .atom)) (λ (l : Literal). atomOk g (turnedAtom (l .atom))) c (λ l. turnedAtom-ok (l .atom)) h
 
   atomOk-sources : (a : Atom) → atomOk g a ≡ true → Sources (termOk g) (termsOk g) a
   atomOk-sources (equal (variable x) u) h = tt
@@ -61,7 +61,7 @@ module _ (g : Signature) where
   pub liftedTerms-ok : (c : Clause) → clauseOk g c ≡ true → all (termOk g) (liftedTerms c) ≡ true
   liftedTerms-ok c h =
       liftedTerms-all (termOk g) c
-      (all-mono (λ (l : Literal). atomOk g (l .atom)) (λ (l : Literal). all (termOk g) (toLift (l .atom))) c
+      (all-imply (λ (l : Literal). atomOk g (l .atom)) (λ (l : Literal). all (termOk g) (toLift (l .atom))) c
       (λ l k. toLift-all (termOk g) (termsOk g) termOk-arguments termsOk-first termsOk-rest (l .atom) (atomOk-sources (l .atom) k)) h)
 
   module _ (lifted : List Term) where
@@ -76,7 +76,7 @@ module _ (g : Signature) where
     shallow-ok : (c : Clause) → clauseOk g c ≡ true → flatOk g (map (shallow lifted) c) ≡ true
     shallow-ok c h =
         all-map (λ (l : FlatLiteral). flatAtomOk g (l .atom)) (shallow lifted) c
-        ∙ all-mono (λ (l : Literal). atomOk g (l .atom)) (λ (l : Literal). flatAtomOk g (shallowAtom lifted (l .atom))) c (λ l. shallowAtom-ok (l .atom)) h
+        ∙ all-imply (λ (l : Literal). atomOk g (l .atom)) (λ (l : Literal). flatAtomOk g (shallowAtom lifted (l .atom))) c (λ l. shallowAtom-ok (l .atom)) h
 
     definitions-ok : (i : ℕ) (ts : List Term) → all (termOk g) ts ≡ true → flatOk g (definitions lifted i ts) ≡ true
     definitions-ok i [] h = refl
@@ -138,7 +138,7 @@ module _ (owns : List ℕ) where
   liftedTerms-within : (c : Clause) → all (λ (l : Literal). within (atomVariables (l .atom))) c ≡ true → all (λ t. within (termVariables t)) (liftedTerms c) ≡ true
   liftedTerms-within c h =
       liftedTerms-all (λ t. within (termVariables t)) c
-      (all-mono (λ (l : Literal). within (atomVariables (l .atom))) (λ (l : Literal). all (λ t. within (termVariables t)) (toLift (l .atom))) c
+      (all-imply (λ (l : Literal). within (atomVariables (l .atom))) (λ (l : Literal). all (λ t. within (termVariables t)) (toLift (l .atom))) c
       (λ l k.
       toLift-all (λ t. within (termVariables t)) (λ ts. within (termsVariables ts)) (λ f ts e. e)
       (λ t ts. within-left (termVariables t) (termsVariables ts)) (λ t ts. within-right (termVariables t) (termsVariables ts)) (l .atom) (atom-sources (l .atom) k)) h)
@@ -208,7 +208,7 @@ flatten-scoped c =
     let p : Literal → Bool = λ l. within owns (atomVariables (turnedAtom (l .atom))) in
     let q : Literal → Bool = λ l. coveredAtom lifted (turnedAtom (l .atom)) in
     let k : all p (merged c) ≡ true =
-    all-mono (λ (l : Literal). within owns (atomVariables (l .atom))) p (merged c) (λ l. turnedAtom-within owns (l .atom)) (variables-within (merged c)) in
+    all-imply (λ (l : Literal). within owns (atomVariables (l .atom))) p (merged c) (λ l. turnedAtom-within owns (l .atom)) (variables-within (merged c)) in
     let a : all q (merged c) ≡ true = liftedTerms-turned (merged c) in
     let d : flatScoped owns (length lifted) (definitions lifted 0 lifted) ≡ true =
     definitions-scoped owns lifted 0 lifted (zero-add (length lifted))
@@ -216,7 +216,7 @@ flatten-scoped c =
     let e : flatScoped owns (length lifted) (map (shallow lifted) m) ≡ true =
     all-map (λ (l : FlatLiteral). flatAtomScoped owns (length lifted) (l .atom)) (shallow lifted) m
     ∙ all-map (λ (l : Literal). flatAtomScoped owns (length lifted) (shallowAtom lifted (l .atom))) turned (merged c)
-    ∙ all-mono (λ l. p l && q l) (λ (l : Literal). flatAtomScoped owns (length lifted) (shallowAtom lifted (turnedAtom (l .atom)))) (merged c)
+    ∙ all-imply (λ l. p l && q l) (λ (l : Literal). flatAtomScoped owns (length lifted) (shallowAtom lifted (turnedAtom (l .atom)))) (merged c)
     (λ l h. shallowAtom-scoped owns lifted (l .atom) (and-left (p l) (q l) h) (and-right (p l) (q l) h)) (all-and p q (merged c) k a) in
     all-append (λ (l : FlatLiteral). flatAtomScoped owns (length lifted) (l .atom)) (definitions lifted 0 lifted) (map (shallow lifted) m)
     ∙ and-join (flatScoped owns (length lifted) (definitions lifted 0 lifted)) (flatScoped owns (length lifted) (map (shallow lifted) m)) d e
