@@ -11,18 +11,18 @@ use Rattle.theory.specs.Flattening.{flatten}
 use Rattle.theory.specs.Instances.{instances}
 use Rattle.theory.specs.PropClauses.{Part, functionPart, clausePart, functionPlaces, parts, propClauses}
 use Rattle.theory.specs.Valuation.{satisfiesClause, satisfies, isValuation, isFunctional, readBack}
-use Rattle.theory.specs.Claims.Flattening.{Flattening}
 use Rattle.theory.specs.Claims.Encoding.{Encoding, EncodingHolds}
 use Rattle.theory.proofs.Tests.{iff→≡, and-left, and-right}
 use Rattle.theory.proofs.Lists.{all-append, concatMap-append}
 use Rattle.theory.proofs.Truth.{isValid, isValid→Valid, Valid→isValid, isModel-all}
 use Rattle.theory.proofs.WellFormed.{flatten-ok}
+use Rattle.theory.proofs.Flattening.{flattening}
 use Rattle.theory.proofs.Interpretations.{interpretation-closed}
 use Rattle.theory.proofs.Valuations.{functional, valuationOf, readBack-isInterpretation, valuationOf-readBack, readBack-valuationOf}
 use Rattle.theory.proofs.CellClauses.{cells-satisfied}
 use Rattle.theory.proofs.Instances.{instances-true}
 
-module _ (flattening : Flattening) (s : ℕ) (g : Signature) (pos : zero < s) where
+module _ (s : ℕ) (g : Signature) (pos : zero < s) where
   -- a valuation in which each function cell has one result
   module _ (σ : List ℕ) (h : isValuation s g σ ≡ true) (v : isFunctional s g σ ≡ true) where
     abbrev I : Interpretation
@@ -77,5 +77,5 @@ module _ (flattening : Flattening) (s : ℕ) (g : Signature) (pos : zero < s) wh
           onto = λ vs i. let r = readBack-valuationOf s g vs i in (valuationOf s (cellKinds s g) vs, r .0, r .1, r .2);
         }
 
-pub encoding-of : Flattening → EncodingHolds
-encoding-of flattening s g cs pos ok = encoded flattening s g pos cs ok
+pub encoding : EncodingHolds
+encoding s g cs pos ok = encoded s g pos cs ok
