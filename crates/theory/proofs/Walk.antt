@@ -6,7 +6,7 @@ use mathlib.Core.Option.{Option, none, some, Option·map}
 use mathlib.Core.List.{List}
 use lib.ListN.{replicate, length-replicate}
 use Rattle.theory.specs.Lists.{all}
-use Rattle.theory.specs.Syntax.{Kind, Signature, clauseOk}
+use Rattle.theory.specs.Syntax.{Signature, clauseOk}
 use Rattle.theory.specs.Cells.{cellKinds, isModel}
 use Rattle.theory.specs.Propositional.{propCount}
 use Rattle.theory.specs.PropClauses.{propClauses}
@@ -14,11 +14,11 @@ use Rattle.theory.specs.Valuation.{satisfies, isValuation, isFunctional,
 use Rattle.theory.specs.Problem.{Problem}
 use Rattle.theory.specs.Least.{firstList, leastModel}
 use Rattle.theory.specs.Walk.{yesFirst, searched}
-use Rattle.theory.specs.Claims.Encoding.{EncodingHolds}
 use Rattle.theory.specs.Claims.Walk.{readBackFound, Walk}
 use Rattle.theory.proofs.First.{In}
 use Rattle.theory.proofs.Numbering.{widths-total}
 use Rattle.theory.proofs.Valuations.{isValuation←}
+use Rattle.theory.proofs.Encoding.{encoding}
 use Rattle.theory.proofs.Completions.{completions, completion-bits}
 use Rattle.theory.proofs.Propagation.{any-order}
 use Rattle.theory.proofs.Walking.{walked-first}
@@ -41,16 +41,16 @@ module _ (s : ℕ) (g : Signature) where
       isValuation← s g σ (r .0 ∙ length-replicate (propCount s g) none ∙ sym (widths-total s g)) (r .1)
 
 -- what the walk finds is read back as the least model, since the valuations that satisfy the clauses are the models
-walk-least-from : EncodingHolds → (s : ℕ) (p : Problem) → zero < s → all (clauseOk (p .symbols)) (p .clauses) ≡ true → readBackFound s p (searched s p .answer) ≡ leastModel s p
+walk-least : (s : ℕ) (p : Problem) → zero < s → all (clauseOk (p .symbols)) (p .clauses) ≡ true → readBackFound s p (searched s p .answer) ≡ leastModel s p
 unfolding searched leastModel readBack isFunctional
-walk-least-from encoding s p pos ok =
+walk-least s p pos ok =
     let g : Signature = p .symbols in
-    let ks : List Kind = cellKinds s g in
     let cs = propClauses s g (p .clauses) in
     readBackFound-map s p (searched s p .answer)
     ∙ ap (Option·map (readBack s g)) (walked-first cs (yesFirst s g) (propCount s g) ∙ ap (λ (dss : List (List ℕ)). firstList dss (λ σ. satisfies σ cs)) (walk-order s g))
-    ∙ chunks-first s ks (λ σ. satisfies σ cs) (isModel s g (p .clauses)) (λ σ m. encoding s g (p .clauses) pos ok .satisfying σ (tried-is-valuation s g σ m))
+    ∙ chunks-first s (cellKinds s g) (λ σ. satisfies σ cs) (isModel s g (p .clauses))
+    (λ σ m. encoding s g (p .clauses) pos ok .satisfying σ (tried-is-valuation s g σ m))
 
--- the theorem, from the theorem Encoding
-pub walk-from : EncodingHolds → Walk
-walk-from encoding = record { least = walk-least-from encoding; anyOrder = any-order }
+-- the theorem
+pub walk : Walk
+walk = record { least = walk-least; anyOrder = any-order }
