@@ -32,3 +32,5 @@ pub mod Lifting
 pub mod Flattening
 pub mod Interpretations
 pub mod Encoding
+pub mod Tables
+pub mod CaseText

@@ -16,13 +16,13 @@ use Rattle.theory.specs.Syntax.{Kind, function, predicate, isFunction, i
 use Rattle.theory.specs.Grammar.{Word, sign, equals, symbol, letter, termWords, termsWords, atomWords, clauseWords, readClause}
 use Rattle.theory.specs.Flattening.{flatten, variableCount}
 use Rattle.theory.specs.Refusals.{answer, atLine, unplaced}
-use Rattle.theory.specs.Problem.{countLine, isName, symbolOf, isNamed, symbolLines, placeOfName, nameWord, wordOf, readAll, withinLimits, clauseOf, clauseLines, Problem, readProblem}
+use Rattle.theory.specs.Problem.{countLine, isNameByte, isName, symbolOf, isNamed, symbolLines, placeOfName, nameWord, wordOf, readAll, withinLimits, clauseOf, clauseLines, Problem, readProblem}
 use Rattle.theory.specs.Least.{functions}
 use Rattle.theory.specs.Claims.Grammar.{isDeclared}
 use Rattle.theory.proofs.Tests.{both-false, false-of-not, lt-or-eq-or-gt, leb-true, ltb-true, ltb-of-<, and-left, and-right, and-join}
 use Rattle.theory.proofs.Lists.{all-append, all-concatMap, all-cong, all-imply, all-distinct, all-at, any-at, same-refl, select-append, select-all, select-none}
 use Rattle.theory.proofs.Answers.{unbind, answer-inj, check-true, orRefuse-some}
-use Rattle.theory.proofs.Names.{NamesDiffer, named-place}
+use Rattle.theory.proofs.Names.{NamesDiffer, name-without, named-place}
 use Rattle.theory.proofs.Declared.{function-kind, predicate-kind}
 use Rattle.theory.proofs.Grammar.{readClause-sound}
 
@@ -342,6 +342,11 @@ module _ (p : Problem) (w : WellFormed p) where
 
   pub name-at : (i : ℕ) → i < length g → isName (symbolAt g i .name) ≡ true
   name-at i lt = let f : Symbol = symbolAt g i in and-right (leb (f .arity) 3) (isName (f .name)) (all-at symbolOk noSymbol g i (w .symbols-ok) lt)
+
+  -- a byte that is no name byte, as LF, space and =, is in no name
+  pub names-without : (x : ℕ) → isNameByte x ≡ false → all (λ (f : Symbol). all (λ b. not (eqb b x)) (f .name)) g ≡ true
+  names-without x h =
+      all-imply symbolOk (λ (f : Symbol). all (λ b. not (eqb b x)) (f .name)) g (λ f k. name-without x (f .name) h (and-right (leb (f .arity) 3) (isName (f .name)) k)) (w .symbols-ok)
 
   pub function-at : (i : ℕ) → i < length (w .functions) → symbolAt g i .kind ≡ function
   function-at i lt =
