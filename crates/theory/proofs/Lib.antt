@@ -34,3 +34,4 @@ pub mod Interpretations
 pub mod Encoding
 pub mod Tables
 pub mod CaseText
+pub mod CaseLengths
