@@ -2,22 +2,27 @@
 use Prim.Native.Nat.{ℕ, suc, _+_, _*_, _-_, _<_}
 use mathlib.Core.Path.{_≡_, refl, sym, ap, _∙_}
 use mathlib.Core.Logic.{_⊎_, inl, inr}
-use mathlib.Core.Bool.{Bool, true, false, cond, _||_, Bool·beq, false≢true}
+use mathlib.Core.Bool.{Bool, true, false, _||_, Bool·beq, false≢true}
 use mathlib.Core.List.{List, map}
 use native.Mathlib.Omega.{arith}
 use lib.Dec.{eqb}
 use lib.ListN.{length, getD}
-use Rattle.theory.specs.Lists.{any, all, concatMap, upFrom, upTo}
-use Rattle.theory.specs.Syntax.{Kind, function, predicate, isFunction, Signature, symbolAt}
+use Rattle.theory.specs.Lists.{any, all, upFrom, upTo}
+use Rattle.theory.specs.Syntax.{Kind, function, predicate, Signature, symbolAt}
 use Rattle.theory.specs.Cells.{tableSize, cellBase, cellKinds}
 use Rattle.theory.specs.Propositional.{PropClause, width, propBase}
-use Rattle.theory.specs.PropClauses.{someResult, notBoth, notTwo, cellClauses, Part, functionPart, functionPlaces}
+use Rattle.theory.specs.PropClauses.{someResult, notBoth, notTwo, cellClauses}
 use Rattle.theory.specs.Valuation.{says, satisfiesLiteral, satisfiesClause, satisfies, isValuation, hasValue, allHaveValues, isFunctional}
 use Rattle.theory.proofs.Tests.{iff→≡, eqb-true, eqb-same, eqb-of-≡, and-left, and-right, and-join, lt-or-eq-or-gt, beq-true}
-use Rattle.theory.proofs.Lists.{any-map, any-cong, any-upFrom, upFrom-any, all-map, all-concatMap, all-upFrom, upFrom-all, all-upTo, upTo-all, all-select, concatMap-map}
+use Rattle.theory.proofs.Lists.{any-map, any-cong, any-upFrom, upFrom-any, all-map, all-concatMap, all-upFrom, upFrom-all, all-upTo, upTo-all}
+use Rattle.theory.proofs.Parts.{tables, tables→, tables←}
 use Rattle.theory.proofs.Numbering.{offset, length-cellKinds, cell-found, kind-at-row, offset-at-row, row-within}
 use Rattle.theory.proofs.OneHot.{One, hasValue→One, One→hasValue}
 use Rattle.theory.proofs.Valuations.{chunk, length-chunk, chunk-areBits, says-chunk, each-has-value, all-have-values, isValuation→}
+
+-- not d or not e, for each e > d
+abbrev pub pairs : ℕ → ℕ → ℕ → List PropClause
+pairs s n d = map (λ e. notBoth n d e) (upFrom (suc d) (s - suc d))
 
 -- the s variables from n on
 module _ (s : ℕ) (σ : List ℕ) (n : ℕ) where
@@ -44,14 +49,10 @@ module _ (s : ℕ) (σ : List ℕ) (n : ℕ) where
   not-both← true false h = refl
   not-both← false b h = refl
 
-  -- the clauses for the pairs d < e
-  abbrev pairs : ℕ → List PropClause
-  pairs d = map (λ e. notBoth n d e) (upFrom (suc d) (s - suc d))
-
   not-two→ : all (satisfiesClause σ) (notTwo s n) ≡ true → NotTwo
   not-two→ h d e lt hi =
-      let row : all (satisfiesClause σ) (pairs d) ≡ true =
-      all-upTo (λ d. all (satisfiesClause σ) (pairs d)) s (sym (all-concatMap (satisfiesClause σ) pairs (upTo s)) ∙ h) d (omega arith) in
+      let row : all (satisfiesClause σ) (pairs s n d) ≡ true =
+      all-upTo (λ d. all (satisfiesClause σ) (pairs s n d)) s (sym (all-concatMap (satisfiesClause σ) (pairs s n) (upTo s)) ∙ h) d (omega arith) in
       let pair : satisfiesClause σ (notBoth n d e) ≡ true =
       all-upFrom (λ e. satisfiesClause σ (notBoth n d e)) (suc d) (s - suc d)
       (sym (all-map (satisfiesClause σ) (λ e. notBoth n d e) (upFrom (suc d) (s - suc d))) ∙ row) e (omega arith) (omega arith) in
@@ -59,8 +60,8 @@ module _ (s : ℕ) (σ : List ℕ) (n : ℕ) where
 
   not-two← : NotTwo → all (satisfiesClause σ) (notTwo s n) ≡ true
   not-two← h =
-      all-concatMap (satisfiesClause σ) pairs (upTo s)
-      ∙ upTo-all (λ d. all (satisfiesClause σ) (pairs d)) s
+      all-concatMap (satisfiesClause σ) (pairs s n) (upTo s)
+      ∙ upTo-all (λ d. all (satisfiesClause σ) (pairs s n d)) s
       (λ d hd. all-map (satisfiesClause σ) (λ e. notBoth n d e) (upFrom (suc d) (s - suc d))
       ∙ upFrom-all (λ e. satisfiesClause σ (notBoth n d e)) (suc d) (s - suc d)
       (λ e lo hi. not-both← (yes-to d) (yes-to e) (h d e (omega arith) (omega arith))))
@@ -139,54 +140,20 @@ module _ (s : ℕ) (g : Signature) (σ : List ℕ) (h : isValuation s g σ ≡ t
   abbrev valued : ℕ → Bool
   valued c = hasValue (getD ks c predicate) (chunk s ks c σ)
 
-  -- the clauses of row r of the table at place i, and of the whole table, are satisfied
-  abbrev row : ℕ → ℕ → Bool
-  row i r = all (satisfiesClause σ) (cellClauses s (1 + (propBase s g i + r * s)))
-
-  abbrev table : ℕ → Bool
-  table i = all (satisfiesClause σ) (functionPart s g i .clauses)
-
-  abbrev functionTable : ℕ → Kind → Bool
-  functionTable i k = cond (isFunction k) (table i) true
-
-  table→ : (i : ℕ) → table i ≡ true → (r : ℕ) → r < tableSize s (symbolAt g i) → row i r ≡ true
-  unfolding functionPart
-  table→ i t =
-      let n : ℕ = tableSize s (symbolAt g i) in
-      all-upTo (row i) n (sym (all-concatMap (satisfiesClause σ) (λ r. cellClauses s (1 + (propBase s g i + r * s))) (upTo n)) ∙ t)
-
-  table← : (i : ℕ) → ((r : ℕ) → r < tableSize s (symbolAt g i) → row i r ≡ true) → table i ≡ true
-  unfolding functionPart
-  table← i t =
-      let n : ℕ = tableSize s (symbolAt g i) in
-      all-concatMap (satisfiesClause σ) (λ r. cellClauses s (1 + (propBase s g i + r * s))) (upTo n) ∙ upTo-all (row i) n t
-
-  tables→valued : ((i : ℕ) → i < length g → functionTable i (symbolAt g i .kind) ≡ true) → (c : ℕ) → c < length ks → valued c ≡ true
+  tables→valued : all (satisfiesClause σ) (tables s g) ≡ true → (c : ℕ) → c < length ks → valued c ≡ true
   tables→valued t c lt =
       let f = cell-found s g c (omega (arith, length-cellKinds s g)) in
       go (f .0) (f .1) (f .2) (f .3) (f .4) (symbolAt g (f .0) .kind) refl
     where
       go : (i r : ℕ) → i < length g → r < tableSize s (symbolAt g i) → c ≡ cellBase s g i + r → (k : Kind) → symbolAt g i .kind ≡ k → valued c ≡ true
-      go i r hi hr at function e = ap valued at ∙ sym (row-satisfied i r hi hr e) ∙ table→ i (ap (functionTable i) (sym e) ∙ t i hi) r hr
+      go i r hi hr at function e = ap valued at ∙ sym (row-satisfied i r hi hr e) ∙ tables→ s g (satisfiesClause σ) t i r hi e hr
       go i r hi hr at predicate e =
           ap (λ (k : Kind). hasValue k (chunk s ks c σ)) (ap (λ (n : ℕ). getD ks n predicate) at ∙ kind-at-row s g i r hi hr ∙ e)
 
-  valued→tables : ((c : ℕ) → c < length ks → valued c ≡ true) → (i : ℕ) → i < length g → functionTable i (symbolAt g i .kind) ≡ true
-  valued→tables v i hi = go (symbolAt g i .kind) refl
-    where
-      go : (k : Kind) → symbolAt g i .kind ≡ k → functionTable i (symbolAt g i .kind) ≡ true
-      go function e =
-          ap (functionTable i) e ∙ table← i (λ r hr. row-satisfied i r hi hr e ∙ v (cellBase s g i + r) (within i r hi hr e))
-      go predicate e = ap (functionTable i) e
-
   -- all function cells
-  pub cells-satisfied : satisfies σ (concatMap (λ (p : Part). p .clauses) (map (functionPart s g) (functionPlaces g))) ≡ isFunctional s g σ
+  pub tables-satisfied : satisfies σ (tables s g) ≡ isFunctional s g σ
   unfolding satisfies isFunctional
-  cells-satisfied =
-      let f : ℕ → Bool = λ i. functionTable i (symbolAt g i .kind) in
-      ap (all (satisfiesClause σ)) (concatMap-map (λ (p : Part). p .clauses) (functionPart s g) (functionPlaces g))
-      ∙ all-concatMap (satisfiesClause σ) (λ i. functionPart s g i .clauses) (functionPlaces g)
-      ∙ all-select (λ i. isFunction (symbolAt g i .kind)) table (upTo (length g))
-      ∙ iff→≡ (all f (upTo (length g))) (allHaveValues s ks σ)
-      (λ t. all-have-values s ks σ (tables→valued (all-upTo f (length g) t)))
-      (λ t. upTo-all f (length g) (valued→tables (each-has-value s ks σ t)))
+  tables-satisfied =
+      iff→≡ (all (satisfiesClause σ) (tables s g)) (allHaveValues s ks σ) (λ t. all-have-values s ks σ (tables→valued t))
+      (λ t. tables← s g (satisfiesClause σ) (λ i r hi e hr.
+      row-satisfied i r hi hr e ∙ each-has-value s ks σ t (cellBase s g i + r) (within i r hi hr e)))

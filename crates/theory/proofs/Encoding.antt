@@ -2,24 +2,24 @@
 use Prim.Native.Nat.{ℕ, zero, _<_}
 use mathlib.Core.Path.{_≡_, refl, sym, ap, _∙_}
 use mathlib.Core.Bool.{Bool, true, false, _&&_}
-use mathlib.Core.List.{List, [], _∷_, map}
-use Rattle.theory.specs.Lists.{all, concatMap}
+use mathlib.Core.List.{List, [], _∷_}
+use Rattle.theory.specs.Lists.{all}
 use Rattle.theory.specs.Syntax.{Signature, Clause, clauseOk}
 use Rattle.theory.specs.Truth.{Interpretation}
 use Rattle.theory.specs.Cells.{cellKinds, interpretation, isModel}
 use Rattle.theory.specs.Flattening.{flatten}
 use Rattle.theory.specs.Instances.{instances}
-use Rattle.theory.specs.PropClauses.{Part, functionPart, clausePart, functionPlaces, parts, propClauses}
+use Rattle.theory.specs.PropClauses.{propClauses}
 use Rattle.theory.specs.Valuation.{satisfiesClause, satisfies, isValuation, isFunctional, readBack}
 use Rattle.theory.specs.Claims.Encoding.{Encoding, EncodingHolds}
 use Rattle.theory.proofs.Tests.{iff→≡, and-left, and-right}
-use Rattle.theory.proofs.Lists.{all-append, concatMap-append}
 use Rattle.theory.proofs.Truth.{isValid, isValid→Valid, Valid→isValid, isModel-all}
 use Rattle.theory.proofs.WellFormed.{flatten-ok}
 use Rattle.theory.proofs.Flattening.{flattening}
+use Rattle.theory.proofs.Parts.{all-propClauses}
 use Rattle.theory.proofs.Interpretations.{interpretation-closed}
 use Rattle.theory.proofs.Valuations.{functional, valuationOf, readBack-isInterpretation, valuationOf-readBack, readBack-valuationOf}
-use Rattle.theory.proofs.CellClauses.{cells-satisfied}
+use Rattle.theory.proofs.CellClauses.{tables-satisfied}
 use Rattle.theory.proofs.Instances.{instances-true}
 
 module _ (s : ℕ) (g : Signature) (pos : zero < s) where
@@ -38,28 +38,19 @@ module _ (s : ℕ) (g : Signature) (pos : zero < s) where
         (λ t. Valid→isValid I s pos c (valid .1 (flat .0 t)))
         (λ t. flat .1 (valid .0 (isValid→Valid I s c t)))
 
-    clauses-satisfied : (cs : List Clause) → all (clauseOk g) cs ≡ true
-        → satisfies σ (concatMap (λ (p : Part). p .clauses) (map (clausePart s g) cs)) ≡ all (isValid I s) cs
-    unfolding satisfies clausePart
+    clauses-satisfied : (cs : List Clause) → all (clauseOk g) cs ≡ true → all (λ c. satisfies σ (instances s g (flatten c))) cs ≡ all (isValid I s) cs
     clauses-satisfied [] ok = refl
     clauses-satisfied (c ∷ cs) ok =
-        let rest : List Part = map (clausePart s g) cs in
-        all-append (satisfiesClause σ) (instances s g (flatten c)) (concatMap (λ (p : Part). p .clauses) rest)
-        ∙ ap (λ (b : Bool). b && satisfies σ (concatMap (λ (p : Part). p .clauses) rest)) (clause-satisfied c (and-left (clauseOk g c) (all (clauseOk g) cs) ok))
+        ap (λ (b : Bool). b && all (λ c. satisfies σ (instances s g (flatten c))) cs) (clause-satisfied c (and-left (clauseOk g c) (all (clauseOk g) cs) ok))
         ∙ ap (λ (b : Bool). isValid I s c && b) (clauses-satisfied cs (and-right (clauseOk g c) (all (clauseOk g) cs) ok))
 
   module _ (cs : List Clause) (ok : all (clauseOk g) cs ≡ true) where
-    -- the clauses are those of the function cells and the instances
     abbrev instancesSatisfied : List ℕ → Bool
-    instancesSatisfied σ = satisfies σ (concatMap (λ (p : Part). p .clauses) (map (clausePart s g) cs))
+    instancesSatisfied σ = all (λ c. satisfies σ (instances s g (flatten c))) cs
 
     parts-satisfied : (σ : List ℕ) → isValuation s g σ ≡ true → satisfies σ (propClauses s g cs) ≡ (isFunctional s g σ && instancesSatisfied σ)
-    unfolding satisfies propClauses parts
-    parts-satisfied σ h =
-        let tables : List Part = map (functionPart s g) (functionPlaces g) in
-        ap (satisfies σ) (concatMap-append (λ (p : Part). p .clauses) tables (map (clausePart s g) cs))
-        ∙ all-append (satisfiesClause σ) (concatMap (λ (p : Part). p .clauses) tables) (concatMap (λ (p : Part). p .clauses) (map (clausePart s g) cs))
-        ∙ ap (λ (b : Bool). b && instancesSatisfied σ) (cells-satisfied s g σ h)
+    unfolding satisfies
+    parts-satisfied σ h = all-propClauses s g (satisfiesClause σ) cs ∙ ap (λ (b : Bool). b && instancesSatisfied σ) (tables-satisfied s g σ h)
 
     satisfying : (σ : List ℕ) → isValuation s g σ ≡ true → satisfies σ (propClauses s g cs) ≡ (isFunctional s g σ && isModel s g cs (readBack s g σ))
     satisfying σ h = parts-satisfied σ h ∙ go (isFunctional s g σ) refl

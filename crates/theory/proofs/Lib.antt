@@ -19,6 +19,7 @@ pub mod Unset
 pub mod Walking
 pub mod LiftedTerms
 pub mod WellFormed
+pub mod Parts
 pub mod CellClauses
 pub mod Parsing
 pub mod Chunks
@@ -35,3 +36,4 @@ pub mod Encoding
 pub mod Tables
 pub mod CaseText
 pub mod CaseLengths
+pub mod ClauseCounts

@@ -197,6 +197,12 @@ offset-at-row s (f ∷ g) (suc i) r h k =
     ∙ sum-map-append (width s) run (take (cellBase s g i + r) (cellKinds s g))
     ∙ omega (arith, widths-replicate s n (f .kind), offset-at-row s g i r (omega arith) k)
 
+-- the propositional variables of all cells are within V
+pub variable-within : (s : ℕ) (g : Signature) (i r d : ℕ) → i < length g → r < tableSize s (symbolAt g i) → d < width s (symbolAt g i .kind)
+    → propBase s g i + (r * width s (symbolAt g i .kind) + d) < propCount s g
+unfolding propBase propCount
+variable-within s g i r d h k lt = row-below (blockSize s) g i (r * width s (symbolAt g i .kind) + d) h (digits-lt k lt)
+
 -- The cell of a symbol at its arguments.
 pub rank-below : (s : ℕ) (f : Symbol) (v : List ℕ) → length v ≡ f .arity → AllBelow s v → rank s v < tableSize s f
 rank-below s f v e b = subst (λ (n : ℕ). rank s v < s ^ n) e (rank-lt s v b)
@@ -213,11 +219,7 @@ module _ (s : ℕ) (g : Signature) (i : ℕ) (v : List ℕ) (h : i < length g) (
   propVariable-offset d = omega (arith, offset-at-row s g i (rank s v) h (rank-below s (symbolAt g i) v e b))
 
   pub propVariable-within : (d : ℕ) → d < width s (symbolAt g i .kind) → propVariable s g i v d ≤ propCount s g
-  unfolding propBase propCount
-  propVariable-within d k =
-      let w : ℕ = width s (symbolAt g i .kind) in
-      let below : rank s v * w + d < tableSize s (symbolAt g i) * w = digits-lt (rank-below s (symbolAt g i) v e b) k in
-      omega (arith, row-below (blockSize s) g i (rank s v * w + d) h below)
+  propVariable-within d k = omega (arith, variable-within s g i (rank s v) d h (rank-below s (symbolAt g i) v e b) k)
 
 -- cells of different symbols or arguments differ
 pub cell-injective : (s : ℕ) (g : Signature) (i j : ℕ) (u v : List ℕ) → i < length g → j < length g
