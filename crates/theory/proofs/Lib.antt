@@ -37,3 +37,4 @@ pub mod Tables
 pub mod CaseText
 pub mod CaseLengths
 pub mod ClauseCounts
+pub mod Demand3
