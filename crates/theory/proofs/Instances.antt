@@ -1,5 +1,5 @@
 -- Instances: a valuation satisfies the instances of a flattened clause exactly if the clause is true under all values in the interpretation read back.
-use Prim.Native.Nat.{ℕ, zero, suc, _+_, _<_}
+use Prim.Native.Nat.{ℕ, zero, _+_, _<_}
 use mathlib.Core.Path.{_≡_, refl, sym, ap, _∙_}
 use mathlib.Core.Logic.{_↔_}
 use mathlib.Core.Bool.{Bool, true, false, cond, _||_, Bool·beq, and-true, or-true}
@@ -20,26 +20,16 @@ use Rattle.theory.specs.Claims.Flattening.{flatAtomTrue, flatLiteralTrue
 use Rattle.theory.proofs.Tests.{and-left, and-right}
 use Rattle.theory.proofs.Lists.{all-concatMap}
 use Rattle.theory.proofs.Declared.{Declared, functionOf→, predicateOf→}
-use Rattle.theory.proofs.Vectors.{all-vectors, vectors-all, allBelow-map}
+use Rattle.theory.proofs.Vectors.{all-vectors, vectors-all, allBelow-map, allBelow-drop, allBelow-getD}
 use Rattle.theory.proofs.Truth.{assign-lt}
 use Rattle.theory.proofs.WellFormed.{flatAtomOk, flatOk}
 use Rattle.theory.proofs.Numbering.{offset, cell-below, kind-at-cell, length-cellKinds, propVariable-offset}
 use Rattle.theory.proofs.Valuations.{Functional, says-result, says-holds}
 
--- values of variables are below s
-getD-below : (s : ℕ) (v : List ℕ) (i : ℕ) → zero < s → AllBelow s v → getD v i 0 < s
-getD-below s [] i h b = h
-getD-below s (d ∷ v) zero h b = b .0
-getD-below s (d ∷ v) (suc i) h b = getD-below s v i h (b .1)
-
-drop-below : (s n : ℕ) (v : List ℕ) → AllBelow s v → AllBelow s (drop n v)
-drop-below s zero v b = b
-drop-below s (suc n) [] b = b
-drop-below s (suc n) (d ∷ v) b = drop-below s n v (b .1)
-
+-- the values of all variables are below s
 pub flatValue-below : (s : ℕ) (owns v : List ℕ) → zero < s → AllBelow s v → (x : FlatVariable) → flatValue owns v x < s
 flatValue-below s owns v h b (own x) = assign-lt s owns v x h b
-flatValue-below s owns v h b (new i) = getD-below s (drop (length owns) v) i h (drop-below s (length owns) v b)
+flatValue-below s owns v h b (new i) = allBelow-getD s (drop (length owns) v) i h (allBelow-drop s (length owns) v b)
 
 module _ (s : ℕ) (g : Signature) (σ : List ℕ) (f : Functional s (cellKinds s g) σ) where
   abbrev ks : List Kind

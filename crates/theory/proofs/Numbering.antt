@@ -9,7 +9,7 @@ use native.Mathlib.Omega.{arith}
 use lib.Arith.{digits-lt}
 use lib.Dec.{ltb}
 use lib.ListN.{length, getD, take, replicate, length-append, length-replicate, getD-replicate, List·getD-append}
-use lib.Seq.{getD-append-add, take-append-add, take-append-le}
+use lib.Seq.{take-length, getD-append-add, take-append-add, take-append-le}
 use Rattle.theory.specs.Lists.{concatMap, upFrom, upTo, sum}
 use Rattle.theory.specs.Vectors.{vectors, rank, AllBelow}
 use Rattle.theory.specs.Syntax.{Kind, predicate, Symbol, Signature, symbolAt}
@@ -128,6 +128,18 @@ propBase-suc s g i h = before-suc (blockSize s) g i h
 
 pub row-within : (s : ℕ) (g : Signature) (i r : ℕ) → i < length g → r < tableSize s (symbolAt g i) → cellBase s g i + r < cellCount s g
 row-within s g i r h k = row-below (tableSize s) g i r h k
+
+-- before the first symbol there are none, before the end of the signature there are all
+pub cellBase-length : (s : ℕ) (g : Signature) → cellBase s g (length g) ≡ cellCount s g
+cellBase-length s g = ap (cellCount s) (take-length g)
+
+pub propBase-zero : (s : ℕ) (g : Signature) → propBase s g 0 ≡ 0
+unfolding propBase propCount
+propBase-zero s g = refl
+
+pub propBase-length : (s : ℕ) (g : Signature) → propBase s g (length g) ≡ propCount s g
+unfolding propBase
+propBase-length s g = ap (propCount s) (take-length g)
 
 -- every cell is in some symbol's table
 pub cell-found : (s : ℕ) (g : Signature) (c : ℕ) → c < cellCount s g

@@ -7,7 +7,7 @@ use native.Mathlib.Nat.{add-zero, zero-add, suc-inj, pow-zero, pow-succ', pow-su
 use native.Mathlib.Omega.{arith}
 use lib.Dec.{ltb}
 use lib.Arith.{digits-lt, digits-div, digits-mod}
-use lib.ListN.{length, length-append}
+use lib.ListN.{length, getD, drop, length-append}
 use Rattle.theory.specs.Lists.{all, concatMap, upFrom, upTo}
 use Rattle.theory.specs.Vectors.{vectors, rank, AllBelow}
 use Rattle.theory.proofs.Tests.{and-left, and-right, and-join, ltb-true, ltb-of-<}
@@ -87,6 +87,16 @@ allBelow-map s f h (x ∷ xs) = (h x, allBelow-map s f h xs)
 pub allBelow-append : (s : ℕ) (u v : List ℕ) → AllBelow s u → AllBelow s v → AllBelow s (u ++ v)
 allBelow-append s [] v a b = b
 allBelow-append s (d ∷ u) v a b = (a .0, allBelow-append s u v (a .1) b)
+
+pub allBelow-drop : (s n : ℕ) (v : List ℕ) → AllBelow s v → AllBelow s (drop n v)
+allBelow-drop s zero v b = b
+allBelow-drop s (suc n) [] b = b
+allBelow-drop s (suc n) (d ∷ v) b = allBelow-drop s n v (b .1)
+
+pub allBelow-getD : (s : ℕ) (v : List ℕ) (i : ℕ) → zero < s → AllBelow s v → getD v i 0 < s
+allBelow-getD s [] i h b = h
+allBelow-getD s (d ∷ v) zero h b = b .0
+allBelow-getD s (d ∷ v) (suc i) h b = allBelow-getD s v i h (b .1)
 
 pub all→AllBelow : (s : ℕ) (v : List ℕ) → all (λ d. ltb d s) v ≡ true → AllBelow s v
 all→AllBelow s [] h = tt
