@@ -71,8 +71,8 @@ lines-within s (f ∷ g) le h =
     omega (arith, suc-mul (length g) 1037, line-within s f le (and-left (symbolOk f) (all symbolOk g) h), lines-within s g le (and-right (symbolOk f) (all symbolOk g) h))
 
 -- no case of a sheet is longer than 24,902 bytes
-pub longest : (sheet : List ℕ) (p : Problem) (s : ℕ) → readProblem sheet ≡ answer p → s ≤ 8 → caseLength s (p .symbols) ≤ 24902
+pub longest-case : (sheet : List ℕ) (p : Problem) (s : ℕ) → readProblem sheet ≡ answer p → s ≤ 8 → caseLength s (p .symbols) ≤ 24902
 unfolding caseLength
-longest sheet p s e le =
+longest-case sheet p s e le =
     let w : WellFormed p = readProblem-wellFormed sheet p e in
     omega (arith, at-most-24 p w, lines-within s (p .symbols) le (w .symbols-ok))

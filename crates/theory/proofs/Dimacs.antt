@@ -12,14 +12,14 @@ use Rattle.theory.specs.Lists.{all, concatMap, upFrom, upTo}
 use Rattle.theory.specs.Vectors.{vectors, rank}
 use Rattle.theory.specs.Bytes.{bytes, LF, space, zeroDigit, digits, decimal}
 use Rattle.theory.specs.Syntax.{Signature, symbolAt, Clause}
-use Rattle.theory.specs.Cells.{tableSize}
 use Rattle.theory.specs.Flattening.{FlatVariable, FlatAtom, flatPredicate, flatResult, flatEquality, FlatLiteral, flatten, variableCount}
 use Rattle.theory.specs.Propositional.{PropLiteral, PropClause, width, propBase, propVariable}
 use Rattle.theory.specs.Instances.{flatValue, Ground, known, variable, ground, addLiteral, instance, kept, instances}
-use Rattle.theory.specs.PropClauses.{someResult, notBoth, notTwo, cellClauses, Part, functionPart, clausePart, functionPlaces, parts, propClauses}
+use Rattle.theory.specs.PropClauses.{someResult, notBoth, notTwo, cellClauses, propClauses}
 use Rattle.theory.specs.Dimacs.{minus, literalText, clauseText, header, dimacs, Byte, dash, digit, gap, classify, Token, push, endToken, readByte, readClauses, afterLine, clausesOf}
 use Rattle.theory.proofs.Tests.{eqb-false, ltb-true, ltb-false, ltb-of-<, leb-true, leb-of-≤, and-left, and-right, and-join}
 use Rattle.theory.proofs.Lists.{all-append, all-map, all-concatMap, all-every}
+use Rattle.theory.proofs.Parts.{tables, tables←, all-propClauses}
 use Rattle.theory.proofs.Lines.{inLine, digit-inLine}
 
 classify-digit : (d : ℕ) → d < 10 → classify (48 + d) ≡ digit d
@@ -161,13 +161,6 @@ notTwo-positive s n =
 cellClauses-positive : (s n : ℕ) → all (all isPositive) (cellClauses s (1 + n)) ≡ true
 cellClauses-positive s n = and-join (all isPositive (someResult s (1 + n))) (all (all isPositive) (notTwo s (1 + n))) (someResult-positive s n) (notTwo-positive s n)
 
-functionPart-positive : (s : ℕ) (g : Signature) (i : ℕ) → all (all isPositive) (functionPart s g i .clauses) ≡ true
-unfolding functionPart
-functionPart-positive s g i =
-    let f : ℕ → List PropClause = λ r. cellClauses s (1 + (propBase s g i + r * s)) in
-    all-concatMap (all isPositive) f (upTo (tableSize s (symbolAt g i)))
-    ∙ all-every (λ r. all (all isPositive) (f r)) (upTo (tableSize s (symbolAt g i))) (λ r. cellClauses-positive s (propBase s g i + r * s))
-
 -- a propositional variable has a number of at least 1
 abbrev groundPositive : Ground → Bool
 groundPositive (known b) = true
@@ -191,25 +184,21 @@ instance-positive s g ν (l ∷ ls) = go (ground s g ν (l .atom)) (ground-posit
     go (variable n) p none h = refl
     go (variable n) p (some c) h = and-join (leb 1 n && all isPositive c) true (and-join (leb 1 n) (all isPositive c) p (and-left (all isPositive c) true h)) refl
 
-clausePart-positive : (s : ℕ) (g : Signature) (c : Clause) → all (all isPositive) (clausePart s g c .clauses) ≡ true
-unfolding clausePart instances
-clausePart-positive s g c =
+instances-positive : (s : ℕ) (g : Signature) (c : Clause) → all (all isPositive) (instances s g (flatten c)) ≡ true
+unfolding instances
+instances-positive s g c =
     let f : List ℕ → List PropClause = λ v. kept (instance s g (flatValue (flatten c .owns) v) (flatten c .literals)) in
     all-concatMap (all isPositive) f (vectors s (variableCount (flatten c)))
     ∙ all-every (λ v. all (all isPositive) (f v)) (vectors s (variableCount (flatten c))) (λ v. instance-positive s g (flatValue (flatten c .owns) v) (flatten c .literals))
 
 -- every number of a call's clauses is at least 1
 pub propClauses-positive : (s : ℕ) (g : Signature) (cs : List Clause) → all (all isPositive) (propClauses s g cs) ≡ true
-unfolding parts propClauses
 propClauses-positive s g cs =
-    let P : Part → Bool = λ (p : Part). all (all isPositive) (p .clauses) in
-    let fs : List Part = map (functionPart s g) (functionPlaces g) in
-    let is : List Part = map (clausePart s g) cs in
-    all-concatMap (all isPositive) (λ (p : Part). p .clauses) (fs ++ is)
-    ∙ all-append P fs is
-    ∙ and-join (all P fs) (all P is)
-    (all-map P (functionPart s g) (functionPlaces g) ∙ all-every (λ i. P (functionPart s g i)) (functionPlaces g) (functionPart-positive s g))
-    (all-map P (clausePart s g) cs ∙ all-every (λ c. P (clausePart s g c)) cs (clausePart-positive s g))
+    let q : PropClause → Bool = all isPositive in
+    all-propClauses s g q cs
+    ∙ and-join (all q (tables s g)) (all (λ c. all q (instances s g (flatten c))) cs)
+    (tables← s g q (λ i r _ _ _. cellClauses-positive s (propBase s g i + r * s)))
+    (all-every (λ c. all q (instances s g (flatten c))) cs (instances-positive s g))
 
 -- so the text of a call says its clauses
 pub written-clauses : (v s : ℕ) (g : Signature) (cs : List Clause) → clausesOf (dimacs v (propClauses s g cs)) ≡ propClauses s g cs

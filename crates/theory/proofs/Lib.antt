@@ -38,3 +38,4 @@ pub mod CaseText
 pub mod CaseLengths
 pub mod ClauseCounts
 pub mod Demand3
+pub mod Counts
