@@ -3,18 +3,20 @@ use Prim.Native.Nat.{ℕ, zero, suc, _+_, _*_, _≤_, _<_}
 use mathlib.Core.Path.{_≡_, refl, _∙_}
 use mathlib.Core.Bool.{true}
 use mathlib.Core.List.{List, [], _∷_, _++_, map}
-use native.Mathlib.Nat.{le-trans, one-le-pow, pow-le-pow-left, pow-le-pow-right, suc-mul}
+use native.Mathlib.Nat.{one-le-pow}
 use native.Mathlib.Omega.{arith}
 use lib.Dec.{leb}
 use lib.ListN.{length, take, drop, length-append, length-map}
-use Rattle.theory.specs.Lists.{all, concatMap, sum}
+use Rattle.theory.specs.Lists.{concatMap, sum}
 use Rattle.theory.specs.Bytes.{LF, space}
 use Rattle.theory.specs.Syntax.{Symbol, Signature}
 use Rattle.theory.specs.Cells.{tableSize, isInterpretation}
 use Rattle.theory.specs.Refusals.{answer}
 use Rattle.theory.specs.Problem.{isName, Problem, readProblem}
 use Rattle.theory.specs.CaseText.{leastByte, joined, equalsSign, tableText, tablesText, caseText, caseLength}
-use Rattle.theory.proofs.Tests.{leb-true, and-left, and-right}
+use Rattle.theory.proofs.Tests.{and-right}
+use Rattle.theory.proofs.Lists.{sum-within}
+use Rattle.theory.proofs.Limits.{tableSize-within}
 use Rattle.theory.proofs.Names.{name-length}
 use Rattle.theory.proofs.Parsing.{symbolOk, WellFormed, readProblem-wellFormed, at-most-24}
 use Rattle.theory.proofs.Tables.{Table, interpretation-split}
@@ -59,20 +61,11 @@ unfolding caseText caseLength
 case-lengths s g vs pos h = omega (arith, tables-length s g vs pos h)
 
 line-within : (s : ℕ) (f : Symbol) → s ≤ 8 → symbolOk f ≡ true → lineLength s f ≤ 1037
-line-within s f le h =
-    let n = name-length (f .name) (and-right (leb (f .arity) 3) (isName (f .name)) h) in
-    let a : f .arity ≤ 3 = leb-true (f .arity) 3 (and-left (leb (f .arity) 3) (isName (f .name)) h) in
-    let p : tableSize s f ≤ 512 = le-trans (pow-le-pow-left le (f .arity)) (pow-le-pow-right (omega arith) a) in
-    omega (arith, n .1)
-
-lines-within : (s : ℕ) (g : Signature) → s ≤ 8 → all symbolOk g ≡ true → sum (map (lineLength s) g) ≤ length g * 1037
-lines-within s [] le h = omega arith
-lines-within s (f ∷ g) le h =
-    omega (arith, suc-mul (length g) 1037, line-within s f le (and-left (symbolOk f) (all symbolOk g) h), lines-within s g le (and-right (symbolOk f) (all symbolOk g) h))
+line-within s f le h = omega (arith, name-length (f .name) (and-right (leb (f .arity) 3) (isName (f .name)) h) .1, tableSize-within s f le h)
 
 -- no case of a sheet is longer than 24,902 bytes
 pub longest-case : (sheet : List ℕ) (p : Problem) (s : ℕ) → readProblem sheet ≡ answer p → s ≤ 8 → caseLength s (p .symbols) ≤ 24902
 unfolding caseLength
 longest-case sheet p s e le =
     let w : WellFormed p = readProblem-wellFormed sheet p e in
-    omega (arith, at-most-24 p w, lines-within s (p .symbols) le (w .symbols-ok))
+    omega (arith, at-most-24 p w, sum-within (lineLength s) symbolOk 1037 (p .symbols) (λ f. line-within s f le) (w .symbols-ok))

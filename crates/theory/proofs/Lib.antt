@@ -39,3 +39,5 @@ pub mod CaseLengths
 pub mod ClauseCounts
 pub mod Demand3
 pub mod Counts
+pub mod Letters
+pub mod Limits

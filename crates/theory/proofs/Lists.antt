@@ -301,3 +301,8 @@ same-true (x ∷ xs) (y ∷ ys) e =
     let p : x ≡ y = eqb-true x y (and-left (eqb x y) (same xs ys) e) in
     let q : xs ≡ ys = same-true xs ys (and-right (eqb x y) (same xs ys) e) in
     cc
+
+-- a sum of numbers of at most b each
+pub sum-within : {A : Type 0} (f : A → ℕ) (p : A → Bool) (b : ℕ) (xs : List A) → ((x : A) → p x ≡ true → f x ≤ b) → all p xs ≡ true → sum (map f xs) ≤ length xs * b
+sum-within f p b [] h k = omega arith
+sum-within f p b (x ∷ xs) h k = omega (arith, suc-mul (length xs) b, h x (and-left (p x) (all p xs) k), sum-within f p b xs h (and-right (p x) (all p xs) k))

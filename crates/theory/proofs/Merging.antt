@@ -143,7 +143,7 @@ module _ (I : Interpretation) where
     merged← c = merge← (length c) c
 
 -- each round takes a literal away
-leftmost-length : (c : Clause) (r : Unequal) → leftmost c ≡ some r → suc (length (r .rest)) ≡ length c
+pub leftmost-length : (c : Clause) (r : Unequal) → leftmost c ≡ some r → suc (length (r .rest)) ≡ length c
 leftmost-length [] r e = let q : _≡_ {A = ℕ} 0 1 = cc in absurd (omega arith)
 leftmost-length (l ∷ c) r e = go (unequalVariables (l .sign) (l .atom)) (leftmost c) refl e (λ q h. leftmost-length c q h)
   where

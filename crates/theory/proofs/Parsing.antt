@@ -9,19 +9,19 @@ use native.Mathlib.Omega.{arith}
 use lib.Dec.{eqb, ltb, leb}
 use lib.ListN.{length, getD, take, length-append, List·getD-append, List·getD-eq-default}
 use lib.Seq.{getD-append-seam, getD-append-add}
-use Rattle.theory.specs.Lists.{all, select, concatMap, same, prefix}
+use Rattle.theory.specs.Lists.{all, select, same, prefix}
 use Rattle.theory.specs.Bytes.{bytes, zeroDigit, isDigit}
 use Rattle.theory.specs.Lines.{Cut, wordsOf}
-use Rattle.theory.specs.Syntax.{Kind, function, predicate, isFunction, isPredicate, Symbol, Signature, noSymbol, symbolAt, Term, variable, apply, Terms, empty, cons, Atom, equal, holds, Literal, Clause, termVariables, termsVariables, atomVariables, variables, clauseOk}
-use Rattle.theory.specs.Grammar.{Word, sign, equals, symbol, letter, termWords, termsWords, atomWords, clauseWords, readClause}
-use Rattle.theory.specs.Flattening.{flatten, variableCount}
+use Rattle.theory.specs.Syntax.{Kind, function, predicate, isFunction, isPredicate, Symbol, Signature, noSymbol, symbolAt, Clause, clauseOk}
+use Rattle.theory.specs.Grammar.{Word, sign, equals, symbol, letter, clauseWords, readClause}
 use Rattle.theory.specs.Refusals.{answer, atLine, unplaced}
 use Rattle.theory.specs.Problem.{countLine, isNameByte, isName, symbolOf, isNamed, symbolLines, placeOfName, nameWord, wordOf, readAll, withinLimits, clauseOf, clauseLines, Problem, readProblem}
 use Rattle.theory.specs.Least.{functions}
 use Rattle.theory.specs.Claims.Grammar.{isDeclared}
 use Rattle.theory.proofs.Tests.{both-false, false-of-not, lt-or-eq-or-gt, leb-true, ltb-true, ltb-of-<, and-left, and-right, and-join}
-use Rattle.theory.proofs.Lists.{all-append, all-concatMap, all-cong, all-imply, all-distinct, all-at, any-at, same-refl, select-append, select-all, select-none}
+use Rattle.theory.proofs.Lists.{all-append, all-imply, all-at, any-at, same-refl, select-append, select-all, select-none}
 use Rattle.theory.proofs.Answers.{unbind, answer-inj, check-true, orRefuse-some}
+use Rattle.theory.proofs.Letters.{letterPasses, variablesPass, clause-letters}
 use Rattle.theory.proofs.Names.{NamesDiffer, name-without, named-place}
 use Rattle.theory.proofs.Declared.{function-kind, predicate-kind}
 use Rattle.theory.proofs.Grammar.{readClause-sound}
@@ -116,10 +116,7 @@ symbolLines-added (suc n) key k g l text r e =
 
 -- a letter's word is one of A to H
 abbrev pub isLetter : Word → Bool
-isLetter (sign b) = true
-isLetter equals = true
-isLetter (symbol i) = true
-isLetter (letter x) = ltb x 8
+isLetter w = letterPasses (λ x. ltb x 8) w
 
 name-known : (g : Signature) (w : List ℕ) (x : Word) (o : Option ℕ) → placeOfName w g ≡ o → nameWord o ≡ some x → (isDeclared g x && isLetter x) ≡ true
 name-known g w x none h e = let z : _≡_ {A = ℕ} 0 1 = cc in absurd (omega arith)
@@ -209,34 +206,6 @@ countLine-limit key limit l text r e =
     unbind _ _ r e₁ λ (n : ℕ) _ e₂.
     unbind _ _ r e₂ λ (u : Unit {0}) h₃ e₃.
     subst (λ (m : ℕ). m ≤ limit) (ap (λ (r : ℕ × List ℕ). r .0) (answer-inj (n, p .1) r e₃)) (leb-true n limit (check-true (leb n limit) (atLine 3 l) u h₃))
-
--- the words' letters are the variables
-mutual
-  term-letters : (t : Term) → all isLetter (termWords t) ≡ all (λ x. ltb x 8) (termVariables t)
-  term-letters (variable x) = refl
-  term-letters (apply f ts) = terms-letters ts
-
-  terms-letters : (ts : Terms) → all isLetter (termsWords ts) ≡ all (λ x. ltb x 8) (termsVariables ts)
-  terms-letters empty = refl
-  terms-letters (cons t ts) =
-      all-append isLetter (termWords t) (termsWords ts)
-      ∙ ap (λ (b : Bool). b && all isLetter (termsWords ts)) (term-letters t)
-      ∙ ap (λ (b : Bool). all (λ x. ltb x 8) (termVariables t) && b) (terms-letters ts)
-      ∙ sym (all-append (λ x. ltb x 8) (termVariables t) (termsVariables ts))
-
-atom-letters : (a : Atom) → all isLetter (atomWords a) ≡ all (λ x. ltb x 8) (atomVariables a)
-atom-letters (equal t u) =
-    all-append isLetter (termWords t) (termWords u)
-    ∙ ap (λ (b : Bool). b && all isLetter (termWords u)) (term-letters t)
-    ∙ ap (λ (b : Bool). all (λ x. ltb x 8) (termVariables t) && b) (term-letters u)
-    ∙ sym (all-append (λ x. ltb x 8) (termVariables t) (termVariables u))
-atom-letters (holds p ts) = terms-letters ts
-
-pub clause-letters : (c : Clause) → all isLetter (clauseWords c) ≡ all (λ x. ltb x 8) (concatMap (λ (l : Literal). atomVariables (l .atom)) c)
-clause-letters c =
-    all-concatMap isLetter (λ (l : Literal). sign (l .sign) ∷ atomWords (l .atom)) c
-    ∙ all-cong (λ (l : Literal). all isLetter (atomWords (l .atom))) (λ (l : Literal). all (λ x. ltb x 8) (atomVariables (l .atom))) c (λ l. atom-letters (l .atom))
-    ∙ sym (all-concatMap (λ x. ltb x 8) (λ (l : Literal). atomVariables (l .atom)) c)
 
 -- Every problem that is read is well-formed.
 pub record WellFormed (p : Problem) : Type 0 where
@@ -385,19 +354,7 @@ module _ (p : Problem) (w : WellFormed p) where
       all-imply (clauseAccepted g) (λ c. withinLimits (clauseWords c) c) (p .clauses)
       (λ c h. and-right (clauseOk g c) (withinLimits (clauseWords c) c) (and-left (clauseOk g c && withinLimits (clauseWords c) c) (all isLetter (clauseWords c)) h)) (w .clauses-accepted)
 
-  pub clauses-lettered : all (λ c. all (λ x. ltb x 8) (variables c)) (p .clauses) ≡ true
+  pub clauses-lettered : all (variablesPass (λ x. ltb x 8)) (p .clauses) ≡ true
   clauses-lettered =
-      all-imply (clauseAccepted g) (λ c. all (λ x. ltb x 8) (variables c)) (p .clauses)
-      (λ c h.
-      all-distinct (λ x. ltb x 8) (concatMap (λ (l : Literal). atomVariables (l .atom)) c)
-      (sym (clause-letters c) ∙ and-right (clauseOk g c && withinLimits (clauseWords c) c) (all isLetter (clauseWords c)) h))
-      (w .clauses-accepted)
-
--- the three limits of a clause
-pub limits : (ws : List Word) (c : Clause) → withinLimits ws c ≡ true → (length ws ≤ 64) × (length c ≤ 16) × (variableCount (flatten c) ≤ 10)
-unfolding withinLimits
-limits ws c h =
-    let a : Bool = leb (length ws) 64 in
-    let b : Bool = leb (length c) 16 in
-    let d : Bool = leb (variableCount (flatten c)) 10 in
-    (leb-true (length ws) 64 (and-left a b (and-left (a && b) d h)), leb-true (length c) 16 (and-right a b (and-left (a && b) d h)), leb-true (variableCount (flatten c)) 10 (and-right (a && b) d h))
+      all-imply (clauseAccepted g) (variablesPass (λ x. ltb x 8)) (p .clauses)
+      (λ c h. sym (clause-letters (λ x. ltb x 8) c) ∙ and-right (clauseOk g c && withinLimits (clauseWords c) c) (all isLetter (clauseWords c)) h) (w .clauses-accepted)

@@ -1,0 +1,124 @@
+-- The limits of a problem that is read, as numbers: of its tables at a size of at most 8, and of each of its clauses.
+use Prim.Native.Nat.{ℕ, suc, _+_, _*_, _≤_, _<_}
+use mathlib.Core.Path.{_≡_, refl, sym, ap, _∙_}
+use mathlib.Core.Bool.{Bool, true, _&&_}
+use mathlib.Core.List.{List, [], _∷_, map}
+use native.Mathlib.Nat.{le-trans, pow-le-pow-left, pow-le-pow-right, mul-le-mul}
+use native.Mathlib.Omega.{arith}
+use lib.Dec.{ltb, leb}
+use lib.ListN.{length, getD, length-append, length-map}
+use Rattle.theory.specs.Lists.{all, sum}
+use Rattle.theory.specs.Syntax.{isFunction, isPredicate, Symbol, Signature, Term, Clause, variables, clauseOk}
+use Rattle.theory.specs.Cells.{tableSize, cellCount}
+use Rattle.theory.specs.Propositional.{width, blockSize, propCount}
+use Rattle.theory.specs.Grammar.{clauseWords}
+use Rattle.theory.specs.Flattening.{merged, turned, liftedTerms, shallow, definitions, flatten, variableCount}
+use Rattle.theory.specs.Problem.{isName, withinLimits, Problem}
+use Rattle.theory.proofs.Tests.{leb-true, and-left, and-right}
+use Rattle.theory.proofs.Lists.{all-append, all-at, all-and, sum-map-append, sum-within}
+use Rattle.theory.proofs.Declared.{function-kind, predicate-kind}
+use Rattle.theory.proofs.Letters.{variablesPass, clause-letters, variables-pass, merged-passes, merged-length}
+use Rattle.theory.proofs.Parsing.{symbolOk, isLetter, clauseAccepted, WellFormed, at-most-24}
+
+-- a symbol has at most 512 cells
+pub tableSize-within : (s : ℕ) (f : Symbol) → s ≤ 8 → symbolOk f ≡ true → tableSize s f ≤ 512
+tableSize-within s f le h =
+    le-trans (pow-le-pow-left le (f .arity)) (pow-le-pow-right (omega arith) (leb-true (f .arity) 3 (and-left (leb (f .arity) 3) (isName (f .name)) h)))
+
+-- a problem has at most 12,288 cells
+pub cellCount-within : (p : Problem) (s : ℕ) → WellFormed p → s ≤ 8 → cellCount s (p .symbols) ≤ 12288
+cellCount-within p s w le = omega (arith, at-most-24 p w, sum-within (tableSize s) symbolOk 512 (p .symbols) (λ f. tableSize-within s f le) (w .symbols-ok))
+
+function-block : (s : ℕ) (f : Symbol) → s ≤ 8 → (isFunction (f .kind) && symbolOk f) ≡ true → blockSize s f ≤ 4096
+function-block s f le h =
+    let e : width s (f .kind) ≡ s = ap (width s) (function-kind (f .kind) (and-left (isFunction (f .kind)) (symbolOk f) h)) in
+    let t : tableSize s f ≤ 512 = tableSize-within s f le (and-right (isFunction (f .kind)) (symbolOk f) h) in
+    omega (arith, ap (λ (n : ℕ). tableSize s f * n) e, mul-le-mul {n₁ = tableSize s f} {m₁ = s} {n₂ = 512} {m₂ = 8} t le)
+
+predicate-block : (s : ℕ) (f : Symbol) → s ≤ 8 → (isPredicate (f .kind) && symbolOk f) ≡ true → blockSize s f ≤ 512
+predicate-block s f le h =
+    let e : width s (f .kind) ≡ 1 = ap (width s) (predicate-kind (f .kind) (and-left (isPredicate (f .kind)) (symbolOk f) h)) in
+    let t : tableSize s f ≤ 512 = tableSize-within s f le (and-right (isPredicate (f .kind)) (symbolOk f) h) in
+    omega (arith, ap (λ (n : ℕ). tableSize s f * n) e)
+
+-- a problem has at most 55,296 propositional variables
+pub propCount-within : (p : Problem) (s : ℕ) → WellFormed p → s ≤ 8 → propCount s (p .symbols) ≤ 55296
+unfolding propCount
+propCount-within p s w le =
+    let fs : List Symbol = w .functions in
+    let ps : List Symbol = w .predicates in
+    let ok : (all symbolOk fs && all symbolOk ps) ≡ true = sym (all-append symbolOk fs ps) ∙ ap (all symbolOk) (sym (w .split)) ∙ w .symbols-ok in
+    omega (
+      arith,
+      ap (λ (g : Signature). sum (map (blockSize s) g)) (w .split),
+      sum-map-append (blockSize s) fs ps,
+      w .function-count,
+      w .predicate-count,
+      sum-within (blockSize s) (λ (f : Symbol). isFunction (f .kind) && symbolOk f) 4096 fs (λ f. function-block s f le)
+          (all-and (λ (f : Symbol). isFunction (f .kind)) symbolOk fs (w .function-kinds) (and-left (all symbolOk fs) (all symbolOk ps) ok)),
+      sum-within (blockSize s) (λ (f : Symbol). isPredicate (f .kind) && symbolOk f) 512 ps (λ f. predicate-block s f le)
+          (all-and (λ (f : Symbol). isPredicate (f .kind)) symbolOk ps (w .predicate-kinds) (and-right (all symbolOk fs) (all symbolOk ps) ok)),
+    )
+
+definitions-length : (lifted : List Term) (i : ℕ) (ts : List Term) → length (definitions lifted i ts) ≡ length ts
+definitions-length lifted i [] = refl
+definitions-length lifted i (t ∷ ts) = ap suc (definitions-length lifted (suc i) ts)
+
+-- a flattened clause has a literal for each new variable, and no more of the others than the clause
+pub flat-literals : (c : Clause) → length (flatten c .literals) ≤ flatten c .news + length c
+unfolding flatten
+flat-literals c =
+    let m : Clause = map turned (merged c) in
+    let lifted : List Term = liftedTerms m in
+    omega (
+      arith,
+      length-append (definitions lifted 0 lifted) (map (shallow lifted) m),
+      definitions-length lifted 0 lifted,
+      length-map m (shallow lifted),
+      length-map (merged c) turned,
+      merged-length c,
+    )
+
+owns-pass : (q : ℕ → Bool) (c : Clause) → variablesPass q c ≡ true → all q (flatten c .owns) ≡ true
+unfolding flatten
+owns-pass q c h = variables-pass q (merged c) (merged-passes q c h)
+
+news-within : (c : Clause) → flatten c .news ≤ variableCount (flatten c)
+unfolding variableCount
+news-within c = omega arith
+
+-- what holds of each clause
+pub record ClauseLimits (g : Signature) (c : Clause) : Type 0 where
+  pub over : clauseOk g c ≡ true
+  pub words : length (clauseWords c) ≤ 64
+  pub literals : length c ≤ 16
+  pub letters : all (λ x. ltb x 8) (variables c) ≡ true
+  pub flat-variables : variableCount (flatten c) ≤ 10
+  pub own-letters : all (λ x. ltb x 8) (flatten c .owns) ≡ true
+  pub flat-count : length (flatten c .literals) ≤ 26
+
+pub clause-limits : (g : Signature) (c : Clause) → clauseAccepted g c ≡ true → ClauseLimits g c
+unfolding withinLimits
+clause-limits g c h =
+    let d : Bool = all isLetter (clauseWords c) in
+    let e : (clauseOk g c && withinLimits (clauseWords c) c) ≡ true = and-left (clauseOk g c && withinLimits (clauseWords c) c) d h in
+    let l : withinLimits (clauseWords c) c ≡ true = and-right (clauseOk g c) (withinLimits (clauseWords c) c) e in
+    let x : Bool = leb (length (clauseWords c)) 64 in
+    let y : Bool = leb (length c) 16 in
+    let z : Bool = leb (variableCount (flatten c)) 10 in
+    let few : length c ≤ 16 = leb-true (length c) 16 (and-right x y (and-left (x && y) z l)) in
+    let flat : variableCount (flatten c) ≤ 10 = leb-true (variableCount (flatten c)) 10 (and-right (x && y) z l) in
+    let pass : variablesPass (λ x. ltb x 8) c ≡ true = sym (clause-letters (λ x. ltb x 8) c) ∙ and-right (clauseOk g c && withinLimits (clauseWords c) c) d h in
+    record {
+      over = and-left (clauseOk g c) (withinLimits (clauseWords c) c) e;
+      words = leb-true (length (clauseWords c)) 64 (and-left x y (and-left (x && y) z l));
+      literals = few;
+      letters = variables-pass (λ x. ltb x 8) c pass;
+      flat-variables = flat;
+      own-letters = owns-pass (λ x. ltb x 8) c pass;
+      flat-count = omega (arith, flat-literals c, news-within c);
+    }
+
+-- the clause at a place
+pub clause-at : (p : Problem) → WellFormed p → (i : ℕ) → i < length (p .clauses) → ClauseLimits (p .symbols) (getD (p .clauses) i [])
+clause-at p w i lt = clause-limits (p .symbols) (getD (p .clauses) i []) (all-at (clauseAccepted (p .symbols)) [] (p .clauses) i (w .clauses-accepted) lt)
