@@ -15,12 +15,12 @@ use Rattle.theory.specs.Instances.{instances}
 use Rattle.theory.specs.PropClauses.{functionPart, clausePart, parts, propClauses, instanceCount, literalCount, workNeeded}
 use Rattle.theory.specs.Dimacs.{literalText, clauseText, header, dimacs}
 use Rattle.theory.specs.Valuation.{isValuation, isFunctional, readBack}
-use Rattle.theory.specs.Refusals.{Refusal, Answer, answer, refused, unplaced, atLine, _>>=_}
+use Rattle.theory.specs.Refusals.{Answer, answer, refused, unplaced, needing, _>>=_}
 use Rattle.theory.specs.Grammar.{grammar, readClause}
 use Rattle.theory.specs.Problem.{countLine, isName, symbolLines, wordOf, withinLimits, clauseOf, clauseLines, Problem, readProblem}
 use Rattle.theory.specs.CaseText.{tableText, tablesText, caseText, caseLength, readTable, readTables, readCase}
 use Rattle.theory.specs.Least.{leastModel, smallestModel, settled}
-use Rattle.theory.specs.Operations.{contentOf, writtenText, readBackText, judgeAnswer, Search, found, nothing, findResult}
+use Rattle.theory.specs.Operations.{lengthAnswer, contentOf, writtenText, readBackText, judgeAnswer, Search, found, nothing, findResult, findOutput, findWork}
 use Rattle.theory.specs.Program.{_>>?_, digitLine, printed, program}
 
 -- document 01's sheet: two constants that differ
@@ -82,7 +82,11 @@ pub record Examples : Type 0 where
   pub two-constants-2 : findIn twoConstants 2 2 ≡ answer (found 2 (bytes "case=1\nsize=2\na=1\nb=2\n"))
   pub two-constants-text : writeIn twoConstants 2 ≡ answer (bytes "p cnf 4 6\n1 2 0\n-1 -2 0\n3 4 0\n-3 -4 0\n-3 -1 0\n-4 -2 0\n")
   pub two-constants-back : readBackIn twoConstants 2 (0 ∷ 1 ∷ 1 ∷ 0 ∷ []) ≡ answer (bytes "case=1\nsize=2\na=2\nb=1\n")
+  pub two-constants-length : lengthAnswer (writeIn twoConstants 2) ≡ answer 54
+  pub two-constants-short : writtenText twoConstants 2 53 ≡ refused (needing 11 54)
   pub two-constants-14 : readBackIn twoConstants 2 (1 ∷ 1 ∷ 0 ∷ 0 ∷ []) ≡ refused (unplaced 14)
+  pub two-constants-output : findOutput (findIn twoConstants 1 3) (bytes "a lent buffer of thirty bytes.") ≡ bytes "case=1\nsize=2\na=1\nb=2\ny bytes."
+  pub two-constants-work : findWork (findIn twoConstants 1 3) (7 ∷ 7 ∷ []) ≡ 0 ∷ 0 ∷ []
   pub two-constants-program : program (bytes "low=1\nhigh=3\n" ++ twoConstants) ≡ bytes "answer=found\ncase=1\nsize=2\na=1\nb=2\n"
   pub nested-flat : flatClauses (readProblem nestedTerms) ≡ nestedFlat ∷ []
   pub equal-1 : judgeAnswer (oneClause "+ = A B") (bytes "case=1\nsize=1\n") ≡ answer true
@@ -103,7 +107,11 @@ examples =
       two-constants-2 = refl;
       two-constants-text = refl;
       two-constants-back = refl;
+      two-constants-length = refl;
+      two-constants-short = refl;
       two-constants-14 = refl;
+      two-constants-output = refl;
+      two-constants-work = refl;
       two-constants-program = refl;
       nested-flat = refl;
       equal-1 = refl;
