@@ -1,0 +1,27 @@
+-- Laws of a part of a list: the elements from one place up to another.
+use mathlib.Core.Path.{_≡_, sym, ap, _∙_}
+use mathlib.Core.List.{List, [], _∷_}
+use Prim.Native.Nat.{ℕ, suc, _+_, _-_, _≤_, _<_}
+use native.Mathlib.Numerals.{add-one}
+use native.Mathlib.Omega.{arith}
+use lib.ListN.{length, getD, take, drop, length-drop}
+use lib.Seq.{drop-cons, getD-take, getD-drop, length-take-le}
+use Rattle.text.specs.Lines.{part}
+
+module _ {A : Type 0} (s : List A) where
+  pub part-none : (a : ℕ) → part s a a ≡ []
+  part-none a = let e : a - a ≡ 0 = omega arith in ap (λ (n : ℕ). take n (drop a s)) e
+
+  pub length-part : (a e : ℕ) → a ≤ e → e ≤ length s → length (part s a e) ≡ e - a
+  length-part a e h k = length-take-le (e - a) (drop a s) (omega (arith, length-drop a s))
+
+  pub getD-part : (a e i : ℕ) (d : A) → i < e - a → getD (part s a e) i d ≡ getD s (a + i) d
+  getD-part a e i d h = getD-take (e - a) (drop a s) i d h ∙ getD-drop a s i d
+
+  -- the first element, and the part after it
+  pub part-cons : (a e : ℕ) (d : A) → a < e → e ≤ length s → part s a e ≡ getD s a d ∷ part s (a + 1) e
+  part-cons a e d h k =
+      let m : e - a ≡ suc (e - (a + 1)) = omega arith in
+      ap (λ (n : ℕ). take n (drop a s)) m
+      ∙ ap (take (suc (e - (a + 1)))) (drop-cons s a d (omega arith))
+      ∙ ap (λ (n : ℕ). getD s a d ∷ take (e - (a + 1)) (drop n s)) (sym (add-one a))
