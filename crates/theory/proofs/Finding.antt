@@ -3,11 +3,11 @@ use Prim.Native.Nat.{ℕ, zero, suc, _<_}
 use mathlib.Core.Path.{_≡_, refl, sym, ap, _∙_}
 use mathlib.Core.Bool.{Bool, true, false, not, _&&_, _||_, false≢true}
 use mathlib.Core.Option.{Option, none, some, Option·some-injective}
-use mathlib.Core.List.{List, [], _∷_}
+use mathlib.Core.List.{List, [], _∷_, _++_}
 use native.Mathlib.Omega.{arith}
 use lib.ListN.{length, getD}
 use Rattle.theory.specs.Lists.{any, all, firstThat, placeAt, placeThat}
-use Rattle.theory.proofs.Tests.{and-left, and-right}
+use Rattle.theory.proofs.Tests.{and-left, and-right, or-false-left, or-false-right}
 
 module _ {A : Type 0} where
   pub firstThat-some : (p : A → Bool) (xs : List A) (y : A) → firstThat p xs ≡ some y → p y ≡ true
@@ -86,3 +86,30 @@ module _ {A : Type 0} where
       go true o k z ih = cc
       go false none k z ih = ih k
       go false (some j) k z ih = cc
+
+  -- one list after another: a place found in the first is kept, and else one element more is found where it passes the test
+  pub placeThat-append : (p : A → Bool) (xs ys : List A) (i : ℕ) → placeThat p xs ≡ some i → placeThat p (xs ++ ys) ≡ some i
+  placeThat-append p [] ys i e = let z : _≡_ {A = ℕ} 0 1 = cc in absurd (omega arith)
+  placeThat-append p (x ∷ xs) ys i e = go i (p x) (placeThat p xs) refl e (λ j k. placeThat-append p xs ys j k)
+    where
+      go : (i : ℕ) (b : Bool) (o : Option ℕ) → placeThat p xs ≡ o → placeAt b o ≡ some i → ((j : ℕ) → placeThat p xs ≡ some j → placeThat p (xs ++ ys) ≡ some j)
+          → placeAt b (placeThat p (xs ++ ys)) ≡ some i
+      go i true o k z ih = z
+      go i false none k z ih = let q : _≡_ {A = ℕ} 0 1 = cc in absurd (omega arith)
+      go i false (some j) k z ih = ap (placeAt false) (ih j k) ∙ z
+
+  pub placeThat-snoc : (p : A → Bool) (xs : List A) (y : A) → placeThat p xs ≡ none → p y ≡ true → placeThat p (xs ++ (y ∷ [])) ≡ some (length xs)
+  placeThat-snoc p [] y e h = ap (λ (b : Bool). placeAt b none) h
+  placeThat-snoc p (x ∷ xs) y e h = go (p x) (placeThat p xs) refl e (λ k. placeThat-snoc p xs y k h)
+    where
+      go : (b : Bool) (o : Option ℕ) → placeThat p xs ≡ o → placeAt b o ≡ none → (placeThat p xs ≡ none → placeThat p (xs ++ (y ∷ [])) ≡ some (length xs))
+          → placeAt b (placeThat p (xs ++ (y ∷ []))) ≡ some (suc (length xs))
+      go true o k z ih = let q : _≡_ {A = ℕ} 0 1 = cc in absurd (omega arith)
+      go false none k z ih = ap (placeAt false) (ih k)
+      go false (some j) k z ih = let q : _≡_ {A = ℕ} 0 1 = cc in absurd (omega arith)
+
+  pub any→placeThat-none : (p : A → Bool) (xs : List A) → any p xs ≡ false → placeThat p xs ≡ none
+  any→placeThat-none p [] h = refl
+  any→placeThat-none p (x ∷ xs) h =
+      ap (λ (b : Bool). placeAt b (placeThat p xs)) (or-false-left (p x) (any p xs) h)
+      ∙ ap (placeAt false) (any→placeThat-none p xs (or-false-right (p x) (any p xs) h))

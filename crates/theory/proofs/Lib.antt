@@ -2,8 +2,10 @@ pub mod Tests
 pub mod Lists
 pub mod Vectors
 pub mod Finding
+pub mod Distinct
 pub mod Truth
 pub mod Grammar
+pub mod DueWords
 pub mod First
 pub mod Least
 pub mod Merging

@@ -220,12 +220,12 @@ getD-map-upTo f n i h = getD-map f (upTo n) i (omega (arith, length-upFrom 0 n))
 pub all-getD : (p : ℕ → Bool) (xs : List ℕ) (i : ℕ) → all p xs ≡ true → i < length xs → p (getD xs i 0) ≡ true
 all-getD p xs i h k = all-at p 0 xs i h k
 
-pub all-drop : (p : ℕ → Bool) (n : ℕ) (xs : List ℕ) → all p xs ≡ true → all p (drop n xs) ≡ true
+pub all-drop : {A : Type 0} (p : A → Bool) (n : ℕ) (xs : List A) → all p xs ≡ true → all p (drop n xs) ≡ true
 all-drop p zero xs h = h
 all-drop p (suc n) [] h = h
 all-drop p (suc n) (x ∷ xs) h = all-drop p n xs (and-right (p x) (all p xs) h)
 
-pub all-take : (p : ℕ → Bool) (n : ℕ) (xs : List ℕ) → all p xs ≡ true → all p (take n xs) ≡ true
+pub all-take : {A : Type 0} (p : A → Bool) (n : ℕ) (xs : List A) → all p xs ≡ true → all p (take n xs) ≡ true
 all-take p zero xs h = refl
 all-take p (suc n) [] h = h
 all-take p (suc n) (x ∷ xs) h = and-join (p x) (all p (take n xs)) (and-left (p x) (all p xs) h) (all-take p n xs (and-right (p x) (all p xs) h))

@@ -8,7 +8,7 @@ use native.Mathlib.Nat.{add-zero, zero-add}
 use native.Mathlib.Omega.{arith}
 use lib.Dec.{eqb, ltb}
 use lib.ListN.{length, getD, length-map}
-use Rattle.theory.specs.Lists.{all, concatMap, elem}
+use Rattle.theory.specs.Lists.{all, concatMap, elem, placeAt, placeThat}
 use Rattle.theory.specs.Vectors.{vectors, AllBelow}
 use Rattle.theory.specs.Syntax.{Term, variable, apply, Terms, empty, cons, Atom, equal, holds, Literal, Clause, Signature, termVariables, termsVariables, atomVariables, variables}
 use Rattle.theory.specs.Truth.{Interpretation, Assignment, value, values, atomTrue, literalTrue, clauseTrue, assign, failingChoice, Failure, firstFailure, noFailure}
@@ -60,6 +60,18 @@ module _ (ρ τ : Assignment) where
     -- the truth of a clause depends on its own variables only
     pub agree-clause : (c : Clause) → Agree ρ τ (variables c) → clauseTrue I ρ c ≡ clauseTrue I τ c
     agree-clause c h = agree-literals c (λ x e. h x (elem-distinct x (concatMap (λ (l : Literal). atomVariables (l .atom)) c) e))
+
+-- the value assigned is that at the variable's place
+pub assign-place : (ys v : List ℕ) (x i : ℕ) → placeThat (eqb x) ys ≡ some i → assign ys v x ≡ getD v i 0
+assign-place [] v x i e = let z : _≡_ {A = ℕ} 0 1 = cc in absurd (omega arith)
+assign-place (y ∷ ys) [] x i e = refl
+assign-place (y ∷ ys) (d ∷ v) x i e = go i (eqb x y) (placeThat (eqb x) ys) refl e (λ j k. assign-place ys v x j k)
+  where
+    go : (i : ℕ) (b : Bool) (o : Option ℕ) → placeThat (eqb x) ys ≡ o → placeAt b o ≡ some i → ((j : ℕ) → placeThat (eqb x) ys ≡ some j → assign ys v x ≡ getD v j 0)
+        → cond b d (assign ys v x) ≡ getD (d ∷ v) i 0
+    go i true o k z ih = ap (λ (j : ℕ). getD (d ∷ v) j 0) (Option·some-injective 0 i z)
+    go i false none k z ih = let z : _≡_ {A = ℕ} 0 1 = cc in absurd (omega arith)
+    go i false (some j) k z ih = ih j k ∙ ap (λ (j : ℕ). getD (d ∷ v) j 0) (Option·some-injective (suc j) i z)
 
 -- assigning the values that ρ gives is ρ
 pub assign-map : (ρ : Assignment) (ys v : List ℕ) (x : ℕ) → elem x ys ≡ true → assign ys (map ρ ys ++ v) x ≡ ρ x
