@@ -1,0 +1,13 @@
+pub mod Addresses
+pub mod Weighing
+pub mod Visited
+pub mod Scans
+pub mod Frames
+pub mod Trails
+pub mod Lives
+pub mod Holds
+pub mod Pushing
+pub mod Truths
+pub mod Visits
+pub mod Advances
+pub mod Turns

@@ -1,0 +1,69 @@
+// Unit propagation to the end, over clauses that are held in lent numbers (specs/WorkArea.antt says how).
+ghost use mathlib.Core.Path.{_≡_};
+ghost use mathlib.Core.List.{List};
+ghost use Prim.Native.Nat.{ℕ, _<_};
+ghost use Rattle.propagation.specs.WorkArea.{negated as negation, Held};
+ghost use Rattle.propagation.specs.Advance.{advanced, Ready, Calm, Propagated};
+use units::Seen;
+
+pub mod weights; // weights.rt: lowering and raising the weights of clauses
+pub mod units; // units.rt: clauses with one literal left
+
+// How many entries of the trail are false in their clauses, the trail's length, and whether a clause is wholly false.
+pub struct Front {
+    pub head: usize,
+    pub len: usize,
+    pub clash: bool,
+}
+
+// The other literal of the same variable.
+pub fn negated(literal: u32) -> u32
+    ensures { λ r. ⌜ r ≡ negation literal ⌝ }
+{
+    if literal % 2 == 0 {
+        literal + 1
+    } else {
+        literal - 1
+    }
+}
+
+// Makes the literal against the trail's entry at head false in its clauses, and looks at these.
+// Lowering the whole block before looking at it costs little, and gives each loop an exact contract.
+pub fn advance(work: &mut [u32], v: usize, head: usize, len: usize) -> Seen
+    requires { ⌜ Ready v head len (now work) ⌝ }
+    requires { ⌜ head < len ⌝ }
+    ensures { λ r. ⌜ (r .len ≡ advanced v head len (now (work .entry)) .len) × (r .clash ≡ advanced v head len (now (work .entry)) .clash) × (now (work .exit) ≡ advanced v head len (now (work .entry)) .mem) ⌝ }
+{
+    let literal = negated(work[v + head] / 2);
+    let at = 2 * v + 2 * weights::wide(literal);
+    let from = weights::wide(work[at]);
+    let to = weights::wide(work[at + 1]);
+    weights::lower(work, from, to, 64 * literal + 1);
+    units::scan(work, v, from, to, len)
+}
+
+// Propagates from the entry at start on, until a clause is wholly false or nothing is forced.
+pub fn propagate(work: &mut [u32], v: usize, start: usize, len: usize) -> Front
+    requires { ⌜ Ready v start len (now work) ⌝ }
+    ensures { λ r. ⌜ ((cs : List (List ℕ)) → Held v cs start len (now (work .entry)) → Calm v cs start len (now (work .entry)) → Propagated v cs start len (now (work .entry)) (r .head) (r .len) (r .clash) (now (work .exit))) ⌝ }
+{
+    let mut head = start;
+    let mut entries = len;
+    while head < entries {
+        let seen = advance(work, v, head, entries);
+        entries = seen.len;
+        head += 1;
+        if seen.clash {
+            return Front {
+                head: head,
+                len: entries,
+                clash: true,
+            };
+        }
+    }
+    Front {
+        head: head,
+        len: entries,
+        clash: false,
+    }
+}
