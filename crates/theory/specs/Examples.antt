@@ -51,9 +51,11 @@ onlyA = bytes "sheet=1\nfuns=1\nfun=a/0\npreds=1\npred=p/1\nclauses=2\nclause=+ 
 pub findIn : List ℕ → ℕ → ℕ → Answer Search
 findIn sheet low high = findResult sheet low high 16000 100
 
+-- the text that Write leaves in a hundred bytes
 pub writeIn : List ℕ → ℕ → Answer (List ℕ)
 writeIn sheet size = writtenText sheet size 100
 
+-- the case that Read back leaves in a hundred bytes
 pub readBackIn : List ℕ → ℕ → List ℕ → Answer (List ℕ)
 readBackIn sheet size setting = readBackText sheet size setting 100
 
@@ -99,6 +101,7 @@ pub record Examples : Type 0 where
   pub no-fixed-point-3 : findIn noFixedPoint 3 3 ≡ answer (found 3 (bytes "case=1\nsize=3\nf=2 1 1\n"))
   pub only-a : findIn onlyA 2 2 ≡ answer (found 2 (bytes "case=1\nsize=2\na=1\np=1 0\n"))
 
+-- every line of the table holds by computation
 pub examples : Examples
 unfolding twoConstants oneClause nothingAtAll nestedTerms noFixedPoint onlyA findIn writeIn readBackIn flatClauses nestedFlat decimal cellKinds judged isModel merged liftedTerms flatten variableCount propBase propCount instances functionPart clausePart parts propClauses instanceCount literalCount workNeeded literalText clauseText header dimacs isValuation isFunctional readBack _>>=_ grammar readClause countLine isName symbolLines wordOf withinLimits clauseOf clauseLines readProblem tableText tablesText caseText caseLength readTable readTables readCase leastModel smallestModel settled contentOf writtenText readBackText judgeAnswer findResult _>>?_ digitLine printed program
 examples =

@@ -37,11 +37,12 @@ pub data Due : Type 0 where
   terms : ℕ → Due
   atom : Due
 
--- a symbol of this kind and arity where a term, or where an atom, is due
+-- what is due after a symbol of this kind and arity where suc n terms are due
 abbrev pub dueAfterFunction : Kind → ℕ → ℕ → Option Due
 dueAfterFunction function a n = some (terms (a + n))
 dueAfterFunction predicate a n = none
 
+-- what is due after such a symbol where an atom is due
 abbrev pub dueAfterPredicate : Kind → ℕ → Option Due
 dueAfterPredicate function a = none
 dueAfterPredicate predicate a = some (terms a)
@@ -82,12 +83,13 @@ grammarFrom g i d (w ∷ ws) = elim (dueAfter g d w) [ some e ↦ grammarFrom g 
 unfoldable pub grammar : Signature → List Word → Grammar
 grammar g ws = grammarFrom g 0 (terms 0) ws
 
--- the first n terms, and those after them
+-- the first n terms
 abbrev pub takeTerms : ℕ → Terms → Terms
 takeTerms zero ts = empty
 takeTerms (suc n) empty = empty
 takeTerms (suc n) (cons t ts) = cons t (takeTerms n ts)
 
+-- the terms after the first n
 abbrev pub dropTerms : ℕ → Terms → Terms
 dropTerms zero ts = ts
 dropTerms (suc n) empty = empty
@@ -122,11 +124,12 @@ abbrev pub readWords : Signature → List Word → Reading
 readWords g [] = record { terms = empty; atom = holds 0 empty; clause = [] }
 readWords g (w ∷ ws) = readWord g w (readWords g ws)
 
--- the clause that the words are, if they are one
+-- the clause, if the grammar says that there is one
 abbrev pub clauseIf : Grammar → Clause → Option Clause
 clauseIf clause c = some c
 clauseIf (misplaced i) c = none
 clauseIf unfinished c = none
 
+-- the clause that the words are, if they are one
 unfoldable pub readClause : Signature → List Word → Option Clause
 readClause g ws = clauseIf (grammar g ws) (readWords g ws .clause)

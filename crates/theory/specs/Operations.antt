@@ -117,6 +117,17 @@ findResult sheet low high work room = do
   _ ← check (leb (caseLength high (p .symbols)) room) (needing 11 (caseLength high (p .symbols)))
   answer (searchOf p low high (smallestModel p low high))
 
+-- Find's answer: the size and the length of the case found, or none with the mark settled
+pub data Found : Type 0 where
+  foundCase : ℕ → ℕ → Found
+  noCase : Bool → Found
+
+-- what Find answers
+abbrev pub findAnswer : Answer Search → Answer Found
+findAnswer (answer (found s text)) = answer (foundCase s (length text))
+findAnswer (answer (nothing b)) = answer (noCase b)
+findAnswer (refused r) = refused r
+
 -- the output after Find: a found case at its front; else unchanged
 abbrev pub findOutput : Answer Search → List ℕ → List ℕ
 findOutput (answer (found s text)) out = over text out

@@ -13,6 +13,7 @@ pub record PropLiteral : Type 0 where
   pub positive : Bool
   pub number : ℕ
 
+-- a propositional clause: one of its literals is to be true
 abbrev pub PropClause : Type 0
 PropClause = List PropLiteral
 

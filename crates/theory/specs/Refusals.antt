@@ -13,6 +13,7 @@ pub record Refusal : Type 0 where
   pub place : Place
   pub needed : ℕ
 
+-- a result, or a refusal
 pub data Answer (A : Type 0) : Type 0 where
   answer : A → Answer A
   refused : Refusal → Answer A

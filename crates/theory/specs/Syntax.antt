@@ -6,6 +6,7 @@ use lib.Dec.{eqb, ltb}
 use lib.ListN.{length, getD}
 use Rattle.theory.specs.Lists.{all, concatMap, distinct}
 
+-- a symbol is a function or a predicate
 pub data Kind : Type 0 where
   function predicate : Kind
 
@@ -19,6 +20,7 @@ abbrev pub isPredicate : Kind → Bool
 isPredicate function = false
 isPredicate predicate = true
 
+-- a symbol: its kind, its name in bytes, the number of its arguments
 pub record Symbol : Type 0 where
   pub kind : Kind
   pub name : List ℕ

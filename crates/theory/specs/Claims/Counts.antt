@@ -18,6 +18,7 @@ use Rattle.theory.specs.CaseText.{caseText, caseLength}
 abbrev pub isNumbered : ℕ → PropLiteral → Bool
 isNumbered v l = leb 1 (l .number) && leb (l .number) v
 
+-- the theorem
 pub record Counts : Type 0 where
   -- at most I clauses are written
   pub clauses : (s : ℕ) (g : Signature) (cs : List Clause) → length (propClauses s g cs) ≤ instanceCount s g cs

@@ -37,6 +37,7 @@ FlatValid I s c = (v : List ℕ) → length v ≡ variableCount c → AllBelow s
 abbrev pub Closed : Signature → ℕ → Interpretation → Type 0
 Closed g s I = (f : ℕ) (v : List ℕ) → functionOf g f (length v) ≡ true → AllBelow s v → I .function f v < s
 
+-- the theorem
 pub record Flattening : Type 0 where
   -- step 1 leaves no negative equality of two variables
   pub noneLeft : (c : Clause) → leftmost (merged c) ≡ none

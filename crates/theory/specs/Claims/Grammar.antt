@@ -18,6 +18,7 @@ isDeclared g equals = true
 isDeclared g (symbol i) = ltb i (length g)
 isDeclared g (letter x) = true
 
+-- the theorem
 pub record Grammar : Type 0 where
   -- words of declared symbols are read as c exactly if c is a clause over the signature and they are its words
   pub exact : (g : Signature) (ws : List Word) (c : Clause) → all (isDeclared g) ws ≡ true

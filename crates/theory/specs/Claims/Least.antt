@@ -21,6 +21,7 @@ pub record Model (p : Problem) (s : ℕ) (v : List ℕ) : Type 0 where
   pub interpretation : isInterpretation s (p .symbols) v ≡ true
   pub model : isModel s (p .symbols) (p .clauses) v ≡ true
 
+-- the theorem, of one problem
 pub record Least (p : Problem) : Type 0 where
   -- the least model of a size is a model of that size, and no other comes before it
   pub isLeast : (s : ℕ) (v : List ℕ) → leastModel s p ≡ some v → Model p s v × ((u : List ℕ) → Model p s u → NotAfter v u)

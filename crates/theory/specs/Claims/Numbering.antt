@@ -18,6 +18,7 @@ abbrev pub allPropVariables : ℕ → Signature → List ℕ
 allPropVariables s g =
     concatMap (λ i. concatMap (λ v. map (propVariable s g i v) (upTo (width s (symbolAt g i .kind)))) (vectors s (symbolAt g i .arity))) (upTo (length g))
 
+-- the theorem
 pub record Numbering : Type 0 where
   -- the cells are 0, 1, .., each once
   pub cells : (s : ℕ) (g : Signature) → allCells s g ≡ upTo (cellCount s g)

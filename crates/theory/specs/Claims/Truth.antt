@@ -19,6 +19,7 @@ abbrev pub AllValid : Interpretation → ℕ → List Clause → Type 0
 AllValid I s [] = Unit {0}
 AllValid I s (c ∷ cs) = Valid I s c × AllValid I s cs
 
+-- the theorem
 pub record Truth : Type 0 where
   -- cell values are judged a model exactly if every clause is true under every assignment
   pub model : (s : ℕ) (g : Signature) (cs : List Clause) (vs : List ℕ) → zero < s → (isModel s g cs vs ≡ true) ↔ AllValid (interpretation s g vs) s cs

@@ -35,6 +35,7 @@ pub data Propagates (cs : List PropClause) : Partial → End → Type 0 where
   steps : {π : Partial} {o : End} (c : PropClause) (l : PropLiteral) → Member c cs → status π c ≡ forces l
       → Propagates cs (set π (pred (l .number)) (some (l .positive))) o → Propagates cs π o
 
+-- the theorem
 pub record Walk : Type 0 where
   -- what the walk finds is read back as the least model
   pub least : (s : ℕ) (p : Problem) → zero < s → all (clauseOk (p .symbols)) (p .clauses) ≡ true → readBackFound s p (searched s p .answer) ≡ leastModel s p
