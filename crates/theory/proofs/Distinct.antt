@@ -64,6 +64,13 @@ remove-elem x y (z ∷ xs) h = go (eqb y z) (remove-elem x y xs (or-false-right 
     go true ih = ih
     go false ih = or-false-join (eqb x z) (elem x (remove y xs)) (or-false-left (eqb x z) (elem x xs) h) ih
 
+-- each number stands in the list before
+pub distinct-elem : (x : ℕ) (xs : List ℕ) → elem x xs ≡ false → elem x (distinct xs) ≡ false
+distinct-elem x [] h = refl
+distinct-elem x (y ∷ xs) h =
+    or-false-join (eqb x y) (elem x (remove y (distinct xs))) (or-false-left (eqb x y) (elem x xs) h)
+    (remove-elem x y (distinct xs) (distinct-elem x xs (or-false-right (eqb x y) (elem x xs) h)))
+
 remove-once : (x : ℕ) (xs : List ℕ) → once xs ≡ true → once (remove x xs) ≡ true
 remove-once x [] h = refl
 remove-once x (y ∷ xs) h = go (eqb x y) (remove-once x xs (and-right (not (elem y xs)) (once xs) h))

@@ -1,0 +1,105 @@
+-- Laws of codes: a known word and its code, the words that clause words stand for.
+use Prim.Native.Nat.{ℕ, _+_, _-_, _≤_, _<_}
+use mathlib.Core.Path.{_≡_, refl, sym, ap, _∙_}
+use mathlib.Core.Bool.{Bool, true, false, cond}
+use mathlib.Core.List.{List, [], _∷_, map}
+use native.Mathlib.Omega.{arith}
+use lib.Dec.{eqb, ltb}
+use lib.ListN.{length, getD, take, length-map}
+use lib.Seq.{getD-take, length-take-le}
+use borrow.Author.Tests.{lt-ltb, le-ltb, ne-eqb}
+use Rattle.theory.specs.Lists.{all}
+use Rattle.theory.specs.Syntax.{Signature}
+use Rattle.theory.specs.Grammar.{Word, sign, equals, symbol, letter}
+use Rattle.theory.specs.Claims.Grammar.{isDeclared}
+use Rattle.theory.proofs.Tests.{ltb-true, ltb-false, eqb-true, and-left, and-right}
+use Rattle.theory.proofs.Lists.{all-imply, all-at, map-at}
+use Rattle.syntax.specs.declared.words.ClauseWords.{ClauseWords}
+use Rattle.syntax.specs.Codes.{codeOf, wordOf, wordsIn, isKnown}
+
+-- a code that is no sign and no = is a symbol's below 65 and a letter's from there on
+pub wordOf-symbol : (n : ℕ) → n < 43 → wordOf n ≡ symbol n
+wordOf-symbol n h =
+    let a : eqb n 43 ≡ false = ne-eqb n 43 (λ e. omega arith) in
+    let b : eqb n 45 ≡ false = ne-eqb n 45 (λ e. omega arith) in
+    let c : eqb n 61 ≡ false = ne-eqb n 61 (λ e. omega arith) in
+    let d : ltb n 65 ≡ true = lt-ltb n 65 (omega arith) in
+    simp (a, b, c, d)
+
+pub wordOf-letter : (n : ℕ) → 65 ≤ n → wordOf n ≡ letter (n - 65)
+wordOf-letter n h =
+    let a : eqb n 43 ≡ false = ne-eqb n 43 (λ e. omega arith) in
+    let b : eqb n 45 ≡ false = ne-eqb n 45 (λ e. omega arith) in
+    let c : eqb n 61 ≡ false = ne-eqb n 61 (λ e. omega arith) in
+    let d : ltb n 65 ≡ false = le-ltb n 65 h in
+    simp (a, b, c, d)
+
+-- the code of the word that a code stands for
+pub codeOf-wordOf : (n : ℕ) → codeOf (wordOf n) ≡ n
+codeOf-wordOf n = a (eqb n 43) refl
+  where
+    d : (b : Bool) → ltb n 65 ≡ b → codeOf (cond b (symbol n) (letter (n - 65))) ≡ n
+    d true e = refl
+    d false e = omega (arith, ltb-false n 65 e)
+
+    c : (b : Bool) → eqb n 61 ≡ b → codeOf (cond b equals (cond (ltb n 65) (symbol n) (letter (n - 65)))) ≡ n
+    c true e = sym (eqb-true n 61 e)
+    c false e = d (ltb n 65) refl
+
+    b : (b : Bool) → eqb n 45 ≡ b → codeOf (cond b (sign false) (cond (eqb n 61) equals (cond (ltb n 65) (symbol n) (letter (n - 65))))) ≡ n
+    b true e = sym (eqb-true n 45 e)
+    b false e = c (eqb n 61) refl
+
+    a : (b : Bool) → eqb n 43 ≡ b → codeOf (cond b (sign true) (cond (eqb n 45) (sign false) (cond (eqb n 61) equals (cond (ltb n 65) (symbol n) (letter (n - 65)))))) ≡ n
+    a true e = sym (eqb-true n 43 e)
+    a false e = b (eqb n 45) refl
+
+module _ (g : Signature) (small : length g ≤ 24) where
+  -- the word that the code of a known word stands for
+  pub wordOf-codeOf : (w : Word) → isKnown g w ≡ true → wordOf (codeOf w) ≡ w
+  wordOf-codeOf (sign true) h = refl
+  wordOf-codeOf (sign false) h = refl
+  wordOf-codeOf equals h = refl
+  wordOf-codeOf (symbol i) h = wordOf-symbol i (omega (arith, ltb-true i (length g) h))
+  wordOf-codeOf (letter x) h = let e : 65 + x - 65 ≡ x = omega arith in wordOf-letter (65 + x) (omega arith) ∙ ap letter e
+
+  -- the codes of known words are below 73
+  codeOf-below : (w : Word) → isKnown g w ≡ true → codeOf w < 73
+  codeOf-below (sign true) h = omega arith
+  codeOf-below (sign false) h = omega arith
+  codeOf-below equals h = omega arith
+  codeOf-below (symbol i) h = omega (arith, ltb-true i (length g) h)
+  codeOf-below (letter x) h = omega (arith, ltb-true x 8 h)
+
+  pub known-below : (n : ℕ) → isKnown g (wordOf n) ≡ true → n < 73
+  known-below n h = omega (arith, codeOf-below (wordOf n) h, codeOf-wordOf n)
+
+  -- the words that codes of known words stand for
+  pub wordsOf-codes : (ws : List Word) → all (isKnown g) ws ≡ true → map wordOf (map codeOf ws) ≡ ws
+  wordsOf-codes [] h = refl
+  wordsOf-codes (w ∷ ws) h =
+      ap (λ (v : Word). v ∷ map wordOf (map codeOf ws)) (wordOf-codeOf w (and-left (isKnown g w) (all (isKnown g) ws) h))
+      ∙ ap (λ (l : List Word). w ∷ l) (wordsOf-codes ws (and-right (isKnown g w) (all (isKnown g) ws) h))
+
+-- a known word's symbol is declared
+pub known-declared : (g : Signature) (ws : List Word) → all (isKnown g) ws ≡ true → all (isDeclared g) ws ≡ true
+known-declared g ws h = all-imply (isKnown g) (isDeclared g) ws one h
+  where
+    one : (w : Word) → isKnown g w ≡ true → isDeclared g w ≡ true
+    one (sign b) k = refl
+    one equals k = refl
+    one (symbol i) k = k
+    one (letter x) k = refl
+
+module _ (w : ClauseWords) (fits : w .count ≤ length (w .words)) where
+  pub length-wordsIn : length (wordsIn w) ≡ w .count
+  length-wordsIn = length-map (take (w .count) (w .words)) wordOf ∙ length-take-le (w .count) (w .words) fits
+
+  -- the word at a place
+  pub wordsIn-at : (i : ℕ) (d : Word) → i < w .count → getD (wordsIn w) i d ≡ wordOf (getD (w .words) i 0)
+  wordsIn-at i d h =
+      map-at wordOf (take (w .count) (w .words)) i 0 d (omega (arith, length-take-le (w .count) (w .words) fits)) ∙ ap wordOf (getD-take (w .count) (w .words) i 0 h)
+
+  -- is known where all are
+  pub known-at : (g : Signature) (i : ℕ) → all (isKnown g) (wordsIn w) ≡ true → i < w .count → isKnown g (wordOf (getD (w .words) i 0)) ≡ true
+  known-at g i k h = ap (isKnown g) (sym (wordsIn-at i equals h)) ∙ all-at (isKnown g) equals (wordsIn w) i k (omega (arith, length-wordsIn))

@@ -1,0 +1,4 @@
+pub mod Signatures
+pub mod Codes
+pub mod Variables
+pub mod Sizes

@@ -1,0 +1,50 @@
+// The variables of a clause: each letter's place in order of first appearance.
+use crate::limits::Problem;
+use crate::words::ClauseWords;
+ghost use mathlib.Core.Path.{_≡_};
+ghost use mathlib.Core.Bool.{true};
+ghost use mathlib.Core.List.{List, _++_};
+ghost use Prim.Native.Nat.{_≤_, _<_, ℕ};
+ghost use Rattle.theory.specs.Lists.{all, distinct};
+ghost use Rattle.syntax.specs.Codes.{wordOf};
+ghost use Rattle.syntax.specs.Variables.{CodesBelow, Places, isLetter, letterOf, variablesIn};
+
+// How many letters the clause has, and the place of each; MAX_LETTERS where it does not occur.
+pub struct Variables {
+    pub place: [u8; Problem::MAX_LETTERS],
+    pub count: usize,
+}
+
+pub fn variables_of(c: ClauseWords) -> Variables
+    requires { ⌜ (c .count ≤ 64) × CodesBelow c ⌝ }
+    ensures { λ r. ⌜ Places (variablesIn c) r ⌝ }
+{
+    let mut found = Variables {
+        place: [8; Problem::MAX_LETTERS],
+        count: 0,
+    };
+    let mut i: usize = 0;
+    while i < c.count {
+        found = with_word(found, c.words[i]);
+        i += 1;
+    }
+    found
+}
+
+// The letters with those of one more word.
+fn with_word(mut found: Variables, word: u8) -> Variables
+    requires { ⌜ (word < 73) × (found .count ≤ 64) ⌝ }
+    ensures { λ r. ⌜ ((xs : List ℕ) → all isLetter xs ≡ true → Places (distinct xs) found → Places (distinct (xs ++ letterOf (wordOf word))) r) ⌝ }
+{
+    if word < 65 {
+        return found;
+    }
+    let x = (word - 65) as usize;
+    if found.place[x] < 8 {
+        return found;
+    }
+    let n = found.count;
+    found.place[x] = n as u8;
+    found.count = n + 1;
+    found
+}

@@ -1,0 +1,18 @@
+// Clause words: a clause as one code for each of its words. A symbol's code is its place in the signature, every other word's is its byte.
+use crate::limits::Problem;
+
+pub struct ClauseWords {
+    pub words: [u8; Problem::MAX_WORDS],
+    pub count: usize,
+}
+
+impl ClauseWords {
+    pub const PLUS: u8 = 43;
+
+    pub const MINUS: u8 = 45;
+
+    pub const EQUALS: u8 = 61;
+
+    // the code of the variable letter A; the others follow, up to H
+    pub const LETTER: u8 = 65;
+}
