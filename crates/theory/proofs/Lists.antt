@@ -306,3 +306,14 @@ same-true (x ∷ xs) (y ∷ ys) e =
 pub sum-within : {A : Type 0} (f : A → ℕ) (p : A → Bool) (b : ℕ) (xs : List A) → ((x : A) → p x ≡ true → f x ≤ b) → all p xs ≡ true → sum (map f xs) ≤ length xs * b
 sum-within f p b [] h k = omega arith
 sum-within f p b (x ∷ xs) h k = omega (arith, suc-mul (length xs) b, h x (and-left (p x) (all p xs) k), sum-within f p b xs h (and-right (p x) (all p xs) k))
+
+-- the first and the last of the images
+pub map-take : {A B : Type 0} (f : A → B) (n : ℕ) (xs : List A) → map f (take n xs) ≡ take n (map f xs)
+map-take f zero xs = refl
+map-take f (suc n) [] = refl
+map-take f (suc n) (x ∷ xs) = ap (λ ys. f x ∷ ys) (map-take f n xs)
+
+pub map-drop : {A B : Type 0} (f : A → B) (n : ℕ) (xs : List A) → map f (drop n xs) ≡ drop n (map f xs)
+map-drop f zero xs = refl
+map-drop f (suc n) [] = refl
+map-drop f (suc n) (x ∷ xs) = map-drop f n xs

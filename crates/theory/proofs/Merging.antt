@@ -193,13 +193,13 @@ module _ (g : Signature) where
       ap (λ (n : ℕ). predicateOf g p n && termsOk g (renameTerms x y ts)) (rename-count x y ts)
       ∙ ap (λ (b : Bool). predicateOf g p (count ts) && b) (rename-terms x y ts)
 
-  rename-clauseOk : (x y : ℕ) (c : Clause) → clauseOk g (map (renameLiteral x y) c) ≡ clauseOk g c
+  pub rename-clauseOk : (x y : ℕ) (c : Clause) → clauseOk g (map (renameLiteral x y) c) ≡ clauseOk g c
   rename-clauseOk x y [] = refl
   rename-clauseOk x y (l ∷ c) =
       ap (λ (b : Bool). b && clauseOk g (map (renameLiteral x y) c)) (rename-atomOk x y (l .atom))
       ∙ ap (λ (b : Bool). atomOk g (l .atom) && b) (rename-clauseOk x y c)
 
-  leftmost-ok : (c : Clause) (r : Unequal) → leftmost c ≡ some r → clauseOk g c ≡ true → clauseOk g (r .rest) ≡ true
+  pub leftmost-ok : (c : Clause) (r : Unequal) → leftmost c ≡ some r → clauseOk g c ≡ true → clauseOk g (r .rest) ≡ true
   leftmost-ok [] r e h = cc
   leftmost-ok (l ∷ c) r e h = go (unequalVariables (l .sign) (l .atom)) (leftmost c) refl e (λ q k. leftmost-ok c q k (and-right (atomOk g (l .atom)) (clauseOk g c) h))
     where
@@ -225,3 +225,18 @@ module _ (g : Signature) where
   pub merged-ok : (c : Clause) → clauseOk g c ≡ true → clauseOk g (merged c) ≡ true
   unfolding merged
   merged-ok c = merge-ok (length c) c
+
+-- one round of step 1, and its end
+pub merged-round : (c : Clause) (r : Unequal) → leftmost c ≡ some r → merged c ≡ merged (map (renameLiteral (r .x) (r .y)) (r .rest))
+unfolding merged
+merged-round c r e =
+    let n : suc (length (map (renameLiteral (r .x) (r .y)) (r .rest))) ≡ length c = ap suc (length-map (r .rest) (renameLiteral (r .x) (r .y))) ∙ leftmost-length c r e in
+    ap (λ (n : ℕ). merge n c) (sym n) ∙ ap (mergeFound (merge (length (map (renameLiteral (r .x) (r .y)) (r .rest)))) c) e
+
+pub merged-end : (c : Clause) → leftmost c ≡ none → merged c ≡ c
+unfolding merged
+merged-end c e = go (length c)
+  where
+    go : (n : ℕ) → merge n c ≡ c
+    go zero = refl
+    go (suc n) = ap (mergeFound (merge n) c) e

@@ -1,0 +1,5 @@
+pub mod WordTests
+pub mod Leftmost
+pub mod Renaming
+pub mod Deleting
+pub mod Rounds

@@ -1,0 +1,2 @@
+pub mod Unequal
+pub mod Merged
