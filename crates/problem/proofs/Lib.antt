@@ -1,0 +1,7 @@
+pub mod Symbols
+pub mod Naming
+pub mod Fixed
+pub mod OneWord
+pub mod Automaton
+pub mod Passing
+pub mod Going

@@ -1,0 +1,5 @@
+// Reading a problem (document 01: a sheet): signature, where each clause stands, or the refusal of the first faulty line.
+pub mod clause;
+pub mod grammar;
+pub mod names;
+pub mod words;
