@@ -11,3 +11,4 @@ pub mod Truths
 pub mod Visits
 pub mod Advances
 pub mod Turns
+pub mod Once

@@ -35,7 +35,7 @@ false-value v x (t ∷ ts) f h = by (false-value v x ts (f .2)) (eqb x (negated 
         let n : x / 2 ≡ t / 2 / 2 → ⊥ = λ s. omega (arith, again h′, ap (λ (k : ℕ). getD (values v ts) k 0) s, f .1) in
         value-other v t ts f (x / 2) n ∙ again h′
 
-zero-at : (v k : ℕ) → _≡_ {A = ℕ} (getD (replicate v 0) k 0) 0
+pub zero-at : (v k : ℕ) → _≡_ {A = ℕ} (getD (replicate v 0) k 0) 0
 zero-at zero k = refl
 zero-at (suc v) zero = refl
 zero-at (suc v) (suc k) = zero-at v k

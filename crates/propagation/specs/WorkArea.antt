@@ -1,13 +1,14 @@
 -- What a work area holds: the values, the trail, the blocks of occurrences, the first values, and the weights of the clauses.
 use mathlib.Core.Path.{_≡_}
-use mathlib.Core.Bool.{Bool, cond}
+use mathlib.Core.Bool.{Bool, true, cond}
 use mathlib.Core.List.{List, [], _∷_, _++_, map}
 use Prim.Native.Nat.{ℕ, zero, suc, _+_, _-_, _*_, _/_, _%_, _≤_, _<_, _^_}
 use lib.ListN.{length, getD, set, take, drop, replicate}
 use lib.Seq.{slice}
 use lib.Dec.{eqb}
+use Rattle.theory.specs.Lists.{all, elem}
 use Rattle.theory.specs.Propositional.{PropClause}
-use Rattle.theory.specs.Lists.{elem}
+use Rattle.theory.specs.Claims.Counts.{isNumbered}
 use Rattle.propagation.specs.Clauses.{Distinct, All, weight, holders, coded}
 
 -- the other literal of the same variable
@@ -83,6 +84,7 @@ Prefers v n first w = (x : ℕ) → x < n → getD w (6 * v + x) 0 ≡ cond (fir
 
 -- a work area before a search: it holds the clauses and the first values, and no variable is set
 pub record Loaded (v : ℕ) (cs : List PropClause) (first : ℕ → Bool) (w : List ℕ) : Type 0 where
+  pub numbered : all (all (isNumbered v)) cs ≡ true
   pub held : Held v (coded cs) 0 0 w
   pub prefers : Prefers v v first w
 

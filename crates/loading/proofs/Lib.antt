@@ -1,0 +1,10 @@
+pub mod Occurrences
+pub mod Entering
+pub mod Filled
+pub mod Bounding
+pub mod Clearing
+pub mod Tallying
+pub mod LiteralCode
+pub mod ClauseEntering
+pub mod Preferring
+pub mod Ready
