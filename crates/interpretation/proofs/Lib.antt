@@ -1,0 +1,4 @@
+pub mod Ranks
+pub mod Steps
+pub mod Counting
+pub mod Tabling

@@ -1,0 +1,113 @@
+-- The tables of the first symbols, one symbol more at a time.
+use Prim.Native.Nat.{ℕ, suc, _+_, _*_, _^_, _≤_, _<_}
+use mathlib.Core.Path.{_≡_, refl, sym, ap, _∙_, subst}
+use mathlib.Core.Bool.{Bool, true, false}
+use mathlib.Core.List.{List, [], _∷_, map}
+use native.Mathlib.Nat.{le-trans, pow-le-pow-left, pow-le-pow-right}
+use native.Mathlib.Decide.{ℕ-discrete}
+use native.Mathlib.Omega.{arith}
+use lib.Dec.{leb}
+use lib.ListN.{length, getD, set, take, replicate, length-set, length-replicate}
+use lib.Seq.{getD-set-same, getD-set-other, getD-take, length-take-le}
+use Rattle.theory.specs.Lists.{all}
+use Rattle.theory.specs.Problem.{maxArity}
+use Rattle.theory.specs.Syntax.{Kind, symbolAt, noSymbol}
+use Rattle.theory.specs.Syntax as theory
+use Rattle.theory.specs.Cells.{tableSize, cellBase}
+use Rattle.theory.proofs.Tests.{leb-true}
+use Rattle.theory.proofs.Lists.{all-at, map-at}
+use Rattle.theory.proofs.Numbering.{cellBase-suc, cellBase-length}
+use Rattle.syntax.specs.declared.signature.Symbol.{Symbol}
+use Rattle.syntax.specs.declared.signature.Signature.{Signature}
+use Rattle.syntax.specs.Signatures.{kindOf, symbolIn, signatureIn, Arities}
+use Rattle.syntax.proofs.Signatures.{length-signatureIn}
+use Rattle.interpretation.specs.declared.tables.Tables.{Tables}
+use Rattle.interpretation.specs.Limited.{Limited}
+use Rattle.interpretation.specs.Tables.{TablesOf}
+
+-- what stands past the symbols
+abbrev pub blank : Symbol
+blank = record { function = false; arity = 0; name = 0; length = 0 }
+
+module _ (y : Signature) (h : Limited y) where
+  pub signature-length : (sheet : List ℕ) → length (signatureIn sheet y) ≡ y .count
+  signature-length sheet = length-signatureIn sheet y (h .held)
+
+  -- a symbol of the signature is that of the code
+  pub symbol-at : (sheet : List ℕ) (i : ℕ) → i < y .count → symbolAt (signatureIn sheet y) i ≡ symbolIn sheet (getD (y .symbols) i blank)
+  unfolding signatureIn
+  symbol-at sheet i l =
+      map-at (symbolIn sheet) (take (y .count) (y .symbols)) i blank noSymbol (omega (arith, length-take-le (y .count) (y .symbols) (h .held)))
+      ∙ ap (symbolIn sheet) (getD-take (y .count) (y .symbols) i blank l)
+
+  pub arity-within : (i : ℕ) → i < y .count → getD (y .symbols) i blank .arity ≤ 3
+  arity-within i l =
+      rw (← getD-take (y .count) (y .symbols) i blank l)
+      (leb-true (getD (take (y .count) (y .symbols)) i blank .arity) 3
+      (all-at (λ (z : Symbol). leb (z .arity) maxArity) blank (take (y .count) (y .symbols)) i (h .arities) (omega (arith, length-take-le (y .count) (y .symbols) (h .held)))))
+
+-- a table has at most 512 cells
+pub table-within : (s a : ℕ) → s ≤ 8 → a ≤ 3 → s ^ a ≤ 512
+table-within s a h l = le-trans (pow-le-pow-left h a) (pow-le-pow-right (omega arith) l)
+
+-- the tables of the first i symbols
+pub record Tabled (g : theory.Signature) (s : ℕ) (t : Tables) (i : ℕ) : Type 0 where
+  pub arities-held : length (t .arities) ≡ 24
+  pub kinds-held : length (t .functions) ≡ 24
+  pub bases-held : length (t .bases) ≡ 24
+  pub arity : (j : ℕ) → j < i → getD (t .arities) j 0 ≡ symbolAt g j .arity
+  pub kind : (j : ℕ) → j < i → kindOf (getD (t .functions) j false) ≡ symbolAt g j .kind
+  pub base : (j : ℕ) → j < i → getD (t .bases) j 0 ≡ cellBase s g j
+  pub cells : t .cells ≡ cellBase s g i
+  pub within : t .cells ≤ 512 * i
+
+pub none-tabled : (g : theory.Signature) (s : ℕ) → Tabled g s (record { arities = replicate 24 0; functions = replicate 24 false; bases = replicate 24 0; cells = 0 }) 0
+none-tabled g s =
+    record {
+      arities-held = refl;
+      kinds-held = refl;
+      bases-held = refl;
+      arity = λ j l. absurd (omega arith);
+      kind = λ j l. absurd (omega arith);
+      base = λ j l. absurd (omega arith);
+      cells = refl;
+      within = omega arith;
+    }
+
+-- t with one symbol more
+abbrev pub with : Tables → ℕ → Symbol → ℕ → Tables
+with t i y n = record { arities = set (t .arities) i (y .arity); functions = set (t .functions) i (y .function); bases = set (t .bases) i (t .cells); cells = t .cells + n }
+
+-- the elements at places up to i where the one at i is set
+set-suc : {A : Type 0} (d x : A) (l : List A) (i : ℕ) (P : ℕ → A → Type 0) → i < length l → P i x → ((j : ℕ) → j < i → P j (getD l j d)) → (j : ℕ) → j < suc i → P j (getD (set l i x) j d)
+set-suc d x l i P h p q j k = elim (ℕ-discrete j i) [
+  | yes e ↦ subst (λ (m : ℕ). P m (getD (set l i x) m d)) (sym e) (subst (λ (a : _). P i a) (sym (getD-set-same l i x d h)) p)
+  | no n ↦ subst (λ (a : _). P j a) (sym (getD-set-other l i j x d n)) (q j (omega (arith, n)))
+]
+
+module _ (g : theory.Signature) (s : ℕ) (t : Tables) (i : ℕ) (y : Symbol) (sheet : List ℕ) (p : Tabled g s t i) (e : symbolAt g i ≡ symbolIn sheet y) where
+  pub one-tabled : i < length g → i < 24 → s ≤ 8 → y .arity ≤ 3 → Tabled g s (with t i y (s ^ y .arity)) (suc i)
+  one-tabled l few small le =
+      record {
+        arities-held = length-set (t .arities) i (y .arity) ∙ p .arities-held;
+        kinds-held = length-set (t .functions) i (y .function) ∙ p .kinds-held;
+        bases-held = length-set (t .bases) i (t .cells) ∙ p .bases-held;
+        arity = set-suc 0 (y .arity) (t .arities) i (λ j a. a ≡ symbolAt g j .arity) (omega (arith, p .arities-held)) (sym (ap (λ (f : theory.Symbol). f .arity) e)) (p .arity);
+        kind =
+            set-suc false (y .function) (t .functions) i (λ j b. kindOf b ≡ symbolAt g j .kind) (omega (arith, p .kinds-held)) (sym (ap (λ (f : theory.Symbol). f .kind) e)) (p .kind);
+        base = set-suc 0 (t .cells) (t .bases) i (λ j b. b ≡ cellBase s g j) (omega (arith, p .bases-held)) (p .cells) (p .base);
+        cells = omega (arith, p .cells, cellBase-suc s g i l, ap (tableSize s) e);
+        within = omega (arith, p .within, table-within s (y .arity) small le);
+      }
+
+-- all of them
+pub all-tabled : (g : theory.Signature) (s : ℕ) (t : Tables) → length g ≤ 24 → Tabled g s t (length g) → TablesOf g s t
+all-tabled g s t few p =
+    record {
+      arities = record { within = omega (arith, p .arities-held); arity = p .arity };
+      kinds-held = omega (arith, p .kinds-held);
+      kind = p .kind;
+      bases-held = omega (arith, p .bases-held);
+      base = p .base;
+      cells = p .cells ∙ cellBase-length s g;
+    }

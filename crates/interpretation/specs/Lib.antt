@@ -1,0 +1,3 @@
+pub mod Limited
+pub mod Vectors
+pub mod Tables

@@ -1,0 +1,4 @@
+// Interpretations (document 01: cases): elements, cells, argument vectors, truth, and the text of a case.
+pub mod numbers;
+pub mod tables;
+pub mod vector;

@@ -1,0 +1,57 @@
+// Argument vectors, counted through by value: the last place runs fastest.
+use syntax::limits::Problem;
+ghost use mathlib.Core.Path.{_≡_};
+ghost use Prim.Native.Nat.{_^_, _≤_};
+ghost use Rattle.interpretation.specs.Vectors.{IsNext, IsVector, firstVector};
+
+// The first `count` digits are each below `size`.
+pub struct ArgumentVector {
+    pub digits: [u8; Problem::MAX_VARIABLES],
+    pub count: usize,
+    pub size: u8,
+}
+
+impl ArgumentVector {
+    pub fn first(count: usize, size: u8) -> ArgumentVector
+        ensures { λ r. ⌜ r ≡ firstVector count size ⌝ }
+    {
+        ArgumentVector {
+            digits: [0; Problem::MAX_VARIABLES],
+            count,
+            size,
+        }
+    }
+
+    // The next vector; after the last one comes the first.
+    pub fn step(mut self) -> ArgumentVector
+        requires { ⌜ IsVector self ⌝ }
+        ensures { λ r. ⌜ IsNext self r ⌝ }
+    {
+        let size = self.size;
+        let mut i = self.count;
+        while 0 < i {
+            i -= 1;
+            let d = self.digits[i];
+            if d + 1 < size {
+                self.digits[i] = d + 1;
+                return self;
+            }
+            self.digits[i] = 0;
+        }
+        self
+    }
+}
+
+// size ^ count: how many vectors there are.
+pub fn power(size: usize, count: usize) -> usize
+    requires { ⌜ (size ≤ 8) × (count ≤ 10) ⌝ }
+    ensures { λ r. ⌜ r ≡ size ^ count ⌝ }
+{
+    let mut n: usize = 1;
+    let mut i: usize = 0;
+    while i < count {
+        n = n * size;
+        i += 1;
+    }
+    n
+}
