@@ -1,50 +1,21 @@
 -- The tables of the first symbols, one symbol more at a time.
 use Prim.Native.Nat.{ℕ, suc, _+_, _*_, _^_, _≤_, _<_}
 use mathlib.Core.Path.{_≡_, refl, sym, ap, _∙_, subst}
-use mathlib.Core.Bool.{Bool, true, false}
-use mathlib.Core.List.{List, [], _∷_, map}
+use mathlib.Core.Bool.{false}
+use mathlib.Core.List.{List}
 use native.Mathlib.Nat.{le-trans, pow-le-pow-left, pow-le-pow-right}
 use native.Mathlib.Decide.{ℕ-discrete}
 use native.Mathlib.Omega.{arith}
-use lib.Dec.{leb}
-use lib.ListN.{length, getD, set, take, replicate, length-set, length-replicate}
-use lib.Seq.{getD-set-same, getD-set-other, getD-take, length-take-le}
-use Rattle.theory.specs.Lists.{all}
-use Rattle.theory.specs.Problem.{maxArity}
-use Rattle.theory.specs.Syntax.{Kind, symbolAt, noSymbol}
+use lib.ListN.{length, getD, set, replicate, length-set}
+use lib.Seq.{getD-set-same, getD-set-other}
+use Rattle.theory.specs.Syntax.{symbolAt}
 use Rattle.theory.specs.Syntax as theory
 use Rattle.theory.specs.Cells.{tableSize, cellBase}
-use Rattle.theory.proofs.Tests.{leb-true}
-use Rattle.theory.proofs.Lists.{all-at, map-at}
 use Rattle.theory.proofs.Numbering.{cellBase-suc, cellBase-length}
 use Rattle.syntax.specs.declared.signature.Symbol.{Symbol}
-use Rattle.syntax.specs.declared.signature.Signature.{Signature}
-use Rattle.syntax.specs.Signatures.{kindOf, symbolIn, signatureIn, Arities}
-use Rattle.syntax.proofs.Signatures.{length-signatureIn}
+use Rattle.syntax.specs.Signatures.{kindOf, symbolIn}
 use Rattle.interpretation.specs.declared.tables.Tables.{Tables}
-use Rattle.interpretation.specs.Limited.{Limited}
 use Rattle.interpretation.specs.Tables.{TablesOf}
-
--- what stands past the symbols
-abbrev pub blank : Symbol
-blank = record { function = false; arity = 0; name = 0; length = 0 }
-
-module _ (y : Signature) (h : Limited y) where
-  pub signature-length : (sheet : List ℕ) → length (signatureIn sheet y) ≡ y .count
-  signature-length sheet = length-signatureIn sheet y (h .held)
-
-  -- a symbol of the signature is that of the code
-  pub symbol-at : (sheet : List ℕ) (i : ℕ) → i < y .count → symbolAt (signatureIn sheet y) i ≡ symbolIn sheet (getD (y .symbols) i blank)
-  unfolding signatureIn
-  symbol-at sheet i l =
-      map-at (symbolIn sheet) (take (y .count) (y .symbols)) i blank noSymbol (omega (arith, length-take-le (y .count) (y .symbols) (h .held)))
-      ∙ ap (symbolIn sheet) (getD-take (y .count) (y .symbols) i blank l)
-
-  pub arity-within : (i : ℕ) → i < y .count → getD (y .symbols) i blank .arity ≤ 3
-  arity-within i l =
-      rw (← getD-take (y .count) (y .symbols) i blank l)
-      (leb-true (getD (take (y .count) (y .symbols)) i blank .arity) 3
-      (all-at (λ (z : Symbol). leb (z .arity) maxArity) blank (take (y .count) (y .symbols)) i (h .arities) (omega (arith, length-take-le (y .count) (y .symbols) (h .held)))))
 
 -- a table has at most 512 cells
 pub table-within : (s a : ℕ) → s ≤ 8 → a ≤ 3 → s ^ a ≤ 512

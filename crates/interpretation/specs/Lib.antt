@@ -1,3 +1,2 @@
-pub mod Limited
 pub mod Vectors
 pub mod Tables

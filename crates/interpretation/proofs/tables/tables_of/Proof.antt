@@ -7,7 +7,8 @@ use native.Mathlib.Numerals.{add-one}
 use native.Mathlib.Omega.{arith}
 use lib.ListN.{length, getD}
 use Rattle.syntax.specs.Signatures.{signatureIn}
-use Rattle.interpretation.proofs.Tabling.{Tabled, blank, signature-length, symbol-at, arity-within, table-within, none-tabled, one-tabled, all-tabled}
+use Rattle.problem.proofs.Symbols.{blank, arity-at, count-signatureIn, symbolAt-signatureIn}
+use Rattle.interpretation.proofs.Tabling.{Tabled, table-within, none-tabled, one-tabled, all-tabled}
 use Rattle.interpretation.proofs.tables.tables_of.Statement.{statement}
 use Rattle.interpretation.proofs.tables.tables_of.Tie as tie
 use Rattle.interpretation.proofs.tables.tables_of.Reads as reads
@@ -48,7 +49,7 @@ power-requires : tie.Need-power-requires Inv-loop μ-loop
 power-requires c κs =
     let s = c .before .before .before .before in
     let l = c .before .before .before .loop in
-    (s .pre .1, omega (arith, arity-within (s .args .t1) (s .pre .0) (l .i) (omega arith)))
+    (s .pre .1, omega (arith, arity-at (s .args .t1) (s .pre .0) (l .i) (omega arith)))
 
 add-t : tie.Need-add-t Inv-loop μ-loop
 add-t c =
@@ -60,7 +61,7 @@ add-t c =
       l .inv .1 [] .within,
       c .power .ensures,
       s .pre .0 .count,
-      table-within (s .args .size) (y .arity) (s .pre .1) (arity-within (s .args .t1) (s .pre .0) (l .i) (omega arith)),
+      table-within (s .args .size) (y .arity) (s .pre .1) (arity-at (s .args .t1) (s .pre .0) (l .i) (omega arith)),
     )
 
 add-i : tie.Need-add-i Inv-loop μ-loop
@@ -74,12 +75,12 @@ loop-again c =
     let s = c .before .before .before .before .before in
     let y = s .args .t1 in
     let l = c .before .before .before .before .loop in
-    let a = arity-within y (s .pre .0) (l .i) (omega arith) in (
+    let a = arity-at y (s .pre .0) (l .i) (omega arith) in (
       omega arith,
       λ sheet.
           rw (add-one, c .power .ensures)
-          (one-tabled (signatureIn sheet y) (s .args .size) (l .t) (l .i) (getD (y .symbols) (l .i) blank) sheet (l .inv .1 sheet) (symbol-at y (s .pre .0) sheet (l .i) (omega arith))
-          (omega (arith, signature-length y (s .pre .0) sheet)) (omega (arith, s .pre .0 .count)) (s .pre .1) a),
+          (one-tabled (signatureIn sheet y) (s .args .size) (l .t) (l .i) (getD (y .symbols) (l .i) blank) sheet (l .inv .1 sheet) (symbolAt-signatureIn y (s .pre .0) sheet (l .i) (omega arith))
+          (omega (arith, count-signatureIn y (s .pre .0) sheet)) (omega (arith, s .pre .0 .count)) (s .pre .1) a),
     )
 
 returns : tie.Need-returns Inv-loop μ-loop
@@ -87,8 +88,8 @@ returns c =
     let s = c .before .before in
     let y = s .args .t1 in
     λ sheet.
-    let e : c .before .loop .i ≡ length (signatureIn sheet y) = omega (arith, signature-length y (s .pre .0) sheet) in
-    all-tabled (signatureIn sheet y) (s .args .size) (c .before .loop .t) (omega (arith, signature-length y (s .pre .0) sheet, s .pre .0 .count)) (rw e at (c .before .loop .inv .1 sheet))
+    let e : c .before .loop .i ≡ length (signatureIn sheet y) = omega (arith, count-signatureIn y (s .pre .0) sheet) in
+    all-tabled (signatureIn sheet y) (s .args .size) (c .before .loop .t) (omega (arith, count-signatureIn y (s .pre .0) sheet, s .pre .0 .count)) (rw e at (c .before .loop .inv .1 sheet))
 
 pub tables-of-spec : {M : Type 1} → statement M
 tables-of-spec =
