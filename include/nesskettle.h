@@ -1,0 +1,151 @@
+/*
+ * Nesskettle: finite model finder. The five operations for C.
+ *
+ * Link target/staticlib/libexports.a (`rt staticlib exports` writes it; x86-64 Linux).
+ *
+ * Every call ends, for every byte string, number and buffer, and answers a result or a refusal. It never expects
+ * checked input. What must hold is what C itself asks of the pointers: each points to as many bytes or numbers as the
+ * length beside it says, is not null (also where the length is 0) and is aligned for its type; a buffer that is lent
+ * for writing overlaps no other argument. No call keeps state: calls on different buffers may run side by side.
+ *
+ * Sheets, cases and settings are bytes; nothing is ended by a zero byte.
+ *
+ * Answers. `outcome` 0 is NK_REFUSED in every answer. Then `reason` is the number of the refusal and `line` the faulty
+ * line, counted from 1, or 0 where the refusal names none. `reason` and `line` are 0 in results, and a field that
+ * an outcome does not speak of is 0.
+ *
+ * A refused call changes nothing: every lent byte and number is as it was.
+ */
+#ifndef NESSKETTLE_H
+#define NESSKETTLE_H
+
+#include <stddef.h>
+#include <stdint.h>
+
+#ifdef __cplusplus
+extern "C" {
+#endif
+
+/* Outcomes. */
+enum {
+    NK_REFUSED = 0,
+
+    NK_READ = 1,    /* nk_read: the sheet is accepted */
+    NK_YES = 1,     /* nk_judge: the case is a model */
+    NK_NO = 2,      /* nk_judge: it is none */
+    NK_WRITTEN = 1, /* nk_write, nk_read_back: the text stands in the output */
+    NK_FOUND = 1,   /* nk_find: the least model stands in the output */
+    NK_NONE = 2     /* nk_find: no case of a searched size is a model */
+};
+
+/*
+ * Refusals. Checks run in this order within each call, sheet numbers first; of a sheet's faulty lines the first is
+ * named, and on one line the lower number wins.
+ */
+enum {
+    /* The sheet, in every call. */
+    NK_SHEET_TOO_LONG = 1,   /* over 16,384 bytes; names no line */
+    NK_LAYOUT = 2,           /* key, line feed, digits or /arity not as laid out, a line missing, bytes after the end */
+    NK_OVER_LIMIT = 3,       /* over 12 functions, 12 predicates, 64 clauses, or arity 3 */
+    NK_BAD_NAME = 4,         /* a name badly formed or repeated */
+    NK_UNKNOWN_WORD = 5,     /* an unknown or empty word */
+    NK_NOT_A_CLAUSE = 6,     /* words that are no clause */
+    NK_CLAUSE_TOO_LARGE = 7, /* over 64 words, 16 literals or 10 variables after flattening */
+
+    /* The other arguments; only NK_BAD_CASE names a line. */
+    NK_BAD_SIZE = 8,            /* a size that is not 1 to 8, or low above high */
+    NK_TOO_MANY_INSTANCES = 9,  /* over 1,000,000 instances at the size, before dropping */
+    NK_WORK_TOO_SHORT = 10,     /* `length` says how many numbers are needed */
+    NK_OUTPUT_TOO_SHORT = 11,   /* `length` says how many bytes are needed */
+    NK_BAD_CASE = 12,           /* `line` is the first line of the case that is not exactly as laid out */
+    NK_BAD_SETTING = 13,        /* not one byte for each propositional variable, or a byte over 1 */
+    NK_NOT_ONE_RESULT = 14      /* a function cell with no result or several */
+};
+
+/* The answer of nk_read. */
+typedef struct {
+    uint32_t outcome; /* NK_READ or NK_REFUSED */
+    uint32_t reason;
+    uint64_t line;
+    uint64_t funs;    /* NK_READ: how many functions, */
+    uint64_t preds;   /*          predicates */
+    uint64_t clauses; /*          and clauses the sheet has */
+} nk_read_answer;
+
+/* The answer of nk_judge. */
+typedef struct {
+    uint32_t outcome; /* NK_YES, NK_NO or NK_REFUSED */
+    uint32_t reason;
+    uint64_t line;
+} nk_judge_answer;
+
+/* The answer of nk_write and nk_read_back. */
+typedef struct {
+    uint32_t outcome; /* NK_WRITTEN or NK_REFUSED */
+    uint32_t reason;
+    uint64_t line;
+    uint64_t length; /* NK_WRITTEN: the text's length; refused 11: the length that is needed */
+} nk_write_answer;
+
+/* The answer of nk_find. */
+typedef struct {
+    uint32_t outcome; /* NK_FOUND, NK_NONE or NK_REFUSED */
+    uint32_t reason;
+    uint64_t line;
+    uint64_t size;    /* NK_FOUND: the model's size */
+    uint64_t length;  /* NK_FOUND: the case's length; refused 10 or 11: the length that is needed */
+    uint32_t settled; /* NK_NONE: 1 exactly if no function has arity above 0 and high is at least the number of
+                         constants; else 0 */
+} nk_find_answer;
+
+/*
+ * Is this a sheet? Answers how many functions, predicates and clauses it has.
+ * Lent for writing: nothing.
+ * Refused: 1 to 7.
+ */
+nk_read_answer nk_read(const uint8_t *sheet, size_t sheet_length);
+
+/*
+ * Is this case a model of the sheet: has each clause a true literal, whichever elements its letters stand for?
+ * Lent for writing: nothing.
+ * Refused: 1 to 7, then 12.
+ */
+nk_judge_answer nk_judge(const uint8_t *sheet, size_t sheet_length,
+                         const uint8_t *case_, size_t case_length);
+
+/*
+ * Writes the sheet's clauses at this size as DIMACS text.
+ * Afterwards the output's first `length` bytes are the text; the bytes after it are as they were.
+ * Refused: 1 to 7, then 8, 9, 11; every byte of the output is then as it was.
+ */
+nk_write_answer nk_write(const uint8_t *sheet, size_t sheet_length, uint64_t size,
+                         uint8_t *output, size_t output_length);
+
+/*
+ * Reads a setting back: writes the case in which a function cell's value is the one result whose variable is 1, and a
+ * predicate cell's value is its byte. The setting has one byte, the number 0 or 1 (not the digit), for each
+ * propositional variable.
+ * Afterwards the output's first `length` bytes are the case; the bytes after it are as they were.
+ * Refused: 1 to 7, then 8, 13, 14, 11; every byte of the output is then as it was.
+ */
+nk_write_answer nk_read_back(const uint8_t *sheet, size_t sheet_length, uint64_t size,
+                             const uint8_t *setting, size_t setting_length,
+                             uint8_t *output, size_t output_length);
+
+/*
+ * Searches the sizes low, low + 1, .., high for a model, and answers the least one at the smallest size that has one,
+ * or that no case of these sizes is a model. The caller lends the work area; what stands in it before does not matter.
+ * Afterwards every number of the work area is 0, on both results. Found: the output's first `length` bytes are the
+ * case, and the bytes after it are as they were. None: every byte of the output is as it was.
+ * Refused: 1 to 7, then 8, 9 (at high), 10, 11 (output shorter than a case of size high); every byte of the output and
+ * every number of the work area is then as it was.
+ */
+nk_find_answer nk_find(const uint8_t *sheet, size_t sheet_length, uint64_t low, uint64_t high,
+                       uint32_t *work, size_t work_length,
+                       uint8_t *output, size_t output_length);
+
+#ifdef __cplusplus
+}
+#endif
+
+#endif

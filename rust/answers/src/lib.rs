@@ -1,0 +1,202 @@
+//! The answers of the five operations: read, judge, write, read back, find.
+//!
+//! Each call answers a result or a [`Refusal`]. A refusal has the number that the specification gives it.
+
+use std::fmt;
+
+/// Why a call is refused.
+#[derive(Clone, Copy, Debug, PartialEq, Eq, PartialOrd, Ord, Hash)]
+#[repr(u32)]
+pub enum Reason {
+    /// 1: the sheet has over 16,384 bytes.
+    SheetTooLong = 1,
+    /// 2: a line of the sheet is not as laid out, is missing, or bytes follow the end.
+    Layout = 2,
+    /// 3: a count or an arity is over its limit.
+    OverLimit = 3,
+    /// 4: a name is badly formed or repeated.
+    BadName = 4,
+    /// 5: a word of a clause is unknown or empty.
+    UnknownWord = 5,
+    /// 6: the words are no clause.
+    NotAClause = 6,
+    /// 7: the clause has over 64 words, 16 literals or 10 variables.
+    ClauseTooLarge = 7,
+    /// 8: a size is not 1 to 8, or low is above high.
+    BadSize = 8,
+    /// 9: over 1,000,000 instances.
+    TooManyInstances = 9,
+    /// 10: the work area is too short.
+    WorkTooShort = 10,
+    /// 11: the output is too short.
+    OutputTooShort = 11,
+    /// 12: a line of the case is not as laid out.
+    BadCase = 12,
+    /// 13: the setting is not one byte, 0 or 1, for each propositional variable.
+    BadSetting = 13,
+    /// 14: a function cell with no result or several.
+    NotOneResult = 14,
+}
+
+impl Reason {
+    /// Every reason, in order of its number.
+    pub const ALL: [Reason; 14] = [
+        Reason::SheetTooLong,
+        Reason::Layout,
+        Reason::OverLimit,
+        Reason::BadName,
+        Reason::UnknownWord,
+        Reason::NotAClause,
+        Reason::ClauseTooLarge,
+        Reason::BadSize,
+        Reason::TooManyInstances,
+        Reason::WorkTooShort,
+        Reason::OutputTooShort,
+        Reason::BadCase,
+        Reason::BadSetting,
+        Reason::NotOneResult,
+    ];
+
+    /// The specification's number of this reason.
+    pub fn number(self) -> u32 {
+        self as u32
+    }
+
+    /// The reason with this number.
+    pub fn from_number(number: u32) -> Option<Reason> {
+        Reason::ALL.into_iter().find(|r| r.number() == number)
+    }
+}
+
+impl fmt::Display for Reason {
+    fn fmt(&self, f: &mut fmt::Formatter<'_>) -> fmt::Result {
+        f.write_str(match self {
+            Reason::SheetTooLong => "the sheet has more than 16,384 bytes",
+            Reason::Layout => {
+                "this line of the sheet is missing or not as laid out, or the sheet goes on after its end"
+            }
+            Reason::OverLimit => {
+                "over the limit (12 functions, 12 predicates, 64 clauses, arity 3)"
+            }
+            Reason::BadName => {
+                "this name is declared twice or is not 1 to 12 lower-case letters, digits and underscores, a letter first"
+            }
+            Reason::UnknownWord => {
+                "a word of this clause is empty or is not +, -, =, a letter A to H or a declared name"
+            }
+            Reason::NotAClause => "the words of this line do not make up a clause",
+            Reason::ClauseTooLarge => {
+                "this clause has over 64 words, 16 literals or, once flattened, 10 variables"
+            }
+            Reason::BadSize => "a size must be 1 to 8, and low must not be above high",
+            Reason::TooManyInstances => {
+                "at this size the clauses have more than 1,000,000 instances"
+            }
+            Reason::WorkTooShort => "the work area is too short",
+            Reason::OutputTooShort => "the output is too short",
+            Reason::BadCase => {
+                "this line of the case is missing or not as laid out, or the case goes on after its end"
+            }
+            Reason::BadSetting => {
+                "the setting is not one 0 or 1 for each propositional variable"
+            }
+            Reason::NotOneResult => "the setting gives a function no result or several for some arguments",
+        })
+    }
+}
+
+/// A refused call: it has changed no lent byte and no lent number.
+#[derive(Clone, Copy, Debug, PartialEq, Eq)]
+pub struct Refusal {
+    pub reason: Reason,
+    /// The faulty line, from 1 (of the case for [`Reason::BadCase`], else of the sheet); 0 where none is named.
+    pub line: u64,
+    /// The length that would have done, for [`Reason::WorkTooShort`] and [`Reason::OutputTooShort`]; else 0.
+    pub needed: u64,
+}
+
+impl fmt::Display for Refusal {
+    fn fmt(&self, f: &mut fmt::Formatter<'_>) -> fmt::Result {
+        write!(f, "refused {}", self.reason.number())?;
+        if self.line > 0 {
+            write!(f, ", line {}", self.line)?;
+        }
+        write!(f, ": {}", self.reason)?;
+        match self.reason {
+            Reason::WorkTooShort => write!(f, ", {} numbers are needed", self.needed),
+            Reason::OutputTooShort => write!(f, ", {} bytes are needed", self.needed),
+            _ => Ok(()),
+        }
+    }
+}
+
+impl std::error::Error for Refusal {}
+
+/// How many functions, predicates and clauses an accepted sheet has.
+#[derive(Clone, Copy, Debug, PartialEq, Eq)]
+pub struct Counts {
+    pub functions: u64,
+    pub predicates: u64,
+    pub clauses: u64,
+}
+
+/// What a search over sizes came to.
+#[derive(Clone, Copy, Debug, PartialEq, Eq)]
+pub enum Search {
+    /// The least model at the smallest size stands in the output's first `length` bytes.
+    Found { size: u64, length: usize },
+    /// No case of a searched size is a model; `settled` is the specification's mark.
+    None { settled: bool },
+}
+
+/// A result or a refusal.
+pub type Answer<T> = Result<T, Refusal>;
+
+/// The five operations of one implementation, to run the same work on several.
+#[allow(clippy::type_complexity)]
+#[derive(Clone, Copy)]
+pub struct Operations {
+    pub name: &'static str,
+    pub read: fn(&[u8]) -> Answer<Counts>,
+    pub judge: fn(&[u8], &[u8]) -> Answer<bool>,
+    pub write: fn(&[u8], u64, &mut [u8]) -> Answer<usize>,
+    pub read_back: fn(&[u8], u64, &[u8], &mut [u8]) -> Answer<usize>,
+    pub find: fn(&[u8], u64, u64, &mut [u32], &mut [u8]) -> Answer<Search>,
+}
+
+#[cfg(test)]
+mod tests {
+    use super::*;
+
+    #[test]
+    fn numbers_run_from_one_without_a_gap() {
+        for (i, reason) in Reason::ALL.into_iter().enumerate() {
+            assert_eq!(reason.number() as usize, i + 1);
+            assert_eq!(Reason::from_number(reason.number()), Some(reason));
+        }
+        assert_eq!(Reason::from_number(0), None);
+        assert_eq!(Reason::from_number(15), None);
+    }
+
+    #[test]
+    fn a_refusal_is_told_in_words() {
+        let layout = Refusal {
+            reason: Reason::NotAClause,
+            line: 7,
+            needed: 0,
+        };
+        assert_eq!(
+            layout.to_string(),
+            "refused 6, line 7: the words of this line do not make up a clause"
+        );
+        let short = Refusal {
+            reason: Reason::OutputTooShort,
+            line: 0,
+            needed: 22,
+        };
+        assert_eq!(
+            short.to_string(),
+            "refused 11: the output is too short, 22 bytes are needed"
+        );
+    }
+}

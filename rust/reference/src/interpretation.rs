@@ -1,0 +1,160 @@
+//! Cases: their text both ways, and truth.
+
+use crate::grounding::power;
+use crate::lines::Lines;
+use crate::problem::Problem;
+use crate::syntax::{self, Atom, Literal, Term};
+use crate::{at_line, Reason, Refusal};
+
+/// A full table for each symbol, at a size: the values of all cells in line order, as the text writes them.
+pub struct Interpretation {
+    size: usize,
+    cells: Vec<u8>,
+}
+
+impl Interpretation {
+    pub fn new(size: usize, cells: Vec<u8>) -> Self {
+        Interpretation { size, cells }
+    }
+
+    /// Reads a case of the problem; refusal 12 names the first line that is not as laid out.
+    pub fn read(problem: &Problem, case: &[u8]) -> Result<Self, Refusal> {
+        let mut lines = Lines::new(case);
+        read_lines(problem, &mut lines).ok_or_else(|| at_line(Reason::BadCase, lines.number))
+    }
+
+    /// The case's text.
+    pub fn text(&self, problem: &Problem) -> Vec<u8> {
+        let mut text = format!("case=1\nsize={}\n", self.size).into_bytes();
+        let mut rest = self.cells.as_slice();
+        for symbol in problem.functions.iter().chain(&problem.predicates) {
+            let (values, after) = rest.split_at(power(self.size, symbol.arity));
+            rest = after;
+            text.extend_from_slice(&symbol.name);
+            text.push(b'=');
+            for value in values {
+                text.extend_from_slice(&[b'0' + value, b' ']);
+            }
+            *text.last_mut().expect("a value was written") = b'\n';
+        }
+        text
+    }
+
+    /// Does every clause have a true literal, whichever elements its letters stand for?
+    pub fn is_model(&self, problem: &Problem) -> bool {
+        let tables = Tables::new(problem, self);
+        problem.clauses.iter().all(|clause| tables.valid(clause))
+    }
+}
+
+/// The length of every case at a size.
+pub fn text_length(problem: &Problem, size: usize) -> usize {
+    let symbols = problem.functions.iter().chain(&problem.predicates);
+    let lines = symbols.map(|s| s.name.len() + 1 + 2 * power(size, s.arity));
+    14 + lines.sum::<usize>()
+}
+
+/// The case that the lines give, or nothing where the line taken last is faulty.
+fn read_lines(problem: &Problem, lines: &mut Lines) -> Option<Interpretation> {
+    if lines.next()? != b"case=1" {
+        return None;
+    }
+    let size = match lines.next()?.strip_prefix(b"size=")? {
+        [digit @ b'1'..=b'8'] => (digit - b'0') as usize,
+        _ => return None,
+    };
+    let mut cells = Vec::new();
+    let functions = problem.functions.iter().map(|f| (f, 1, size as u8));
+    let predicates = problem.predicates.iter().map(|p| (p, 0, 1));
+    for (symbol, least, most) in functions.chain(predicates) {
+        let values = lines.next()?.strip_prefix(symbol.name.as_slice())?;
+        let values = values.strip_prefix(b"=")?;
+        if values.len() != 2 * power(size, symbol.arity) - 1 {
+            return None;
+        }
+        for (i, &byte) in values.iter().enumerate() {
+            if i % 2 == 1 {
+                (byte == b' ').then_some(())?;
+            } else {
+                (b'0' + least..=b'0' + most).contains(&byte).then_some(())?;
+                cells.push(byte - b'0');
+            }
+        }
+    }
+    lines.ended().then_some(Interpretation { size, cells })
+}
+
+/// The tables of an interpretation. Elements are counted from 0 here.
+struct Tables<'a> {
+    size: usize,
+    functions: Vec<&'a [u8]>,
+    predicates: Vec<&'a [u8]>,
+}
+
+/// The element that each letter stands for.
+type Choice = [usize; 8];
+
+impl<'a> Tables<'a> {
+    fn new(problem: &Problem, interpretation: &'a Interpretation) -> Self {
+        let size = interpretation.size;
+        let mut rest = interpretation.cells.as_slice();
+        let mut table = |arity: usize| {
+            let (table, after) = rest.split_at(power(size, arity));
+            rest = after;
+            table
+        };
+        let functions = problem.functions.iter().map(|f| table(f.arity)).collect();
+        let predicates = problem.predicates.iter().map(|p| table(p.arity)).collect();
+        Tables {
+            size,
+            functions,
+            predicates,
+        }
+    }
+
+    /// Is the clause true under every choice?
+    fn valid(&self, clause: &[Literal]) -> bool {
+        let letters = syntax::letters(clause);
+        let mut choice = [0; 8];
+        loop {
+            if !clause.iter().any(|literal| self.literal(literal, &choice)) {
+                return false;
+            }
+            if !self.step(&letters, &mut choice) {
+                return true;
+            }
+        }
+    }
+
+    fn step(&self, letters: &[usize], choice: &mut Choice) -> bool {
+        for &letter in letters.iter().rev() {
+            choice[letter] += 1;
+            if choice[letter] < self.size {
+                return true;
+            }
+            choice[letter] = 0;
+        }
+        false
+    }
+
+    fn literal(&self, literal: &Literal, choice: &Choice) -> bool {
+        let atom = match &literal.atom {
+            Atom::Equality(left, right) => self.term(left, choice) == self.term(right, choice),
+            Atom::Predicate(p, arguments) => self.predicates[*p][self.cell(arguments, choice)] == 1,
+        };
+        atom == literal.positive
+    }
+
+    fn term(&self, term: &Term, choice: &Choice) -> usize {
+        match term {
+            Term::Variable(letter) => choice[*letter],
+            Term::Function(f, arguments) => self.functions[*f][self.cell(arguments, choice)] as usize - 1,
+        }
+    }
+
+    /// The place of the arguments in a table, the last argument fastest.
+    fn cell(&self, arguments: &[Term], choice: &Choice) -> usize {
+        let digits = arguments.iter().map(|t| self.term(t, choice));
+        digits.fold(0, |cell, digit| cell * self.size + digit)
+    }
+}

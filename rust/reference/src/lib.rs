@@ -1,0 +1,191 @@
+//! Nesskettle's specification a second time, in plain Rust.
+//!
+//! Written from the specification alone, without a look at the proved code, so that both can be compared. The calls
+//! take and answer what the proved library's calls do.
+
+mod flattening;
+mod grounding;
+mod interpretation;
+mod lines;
+mod problem;
+mod program;
+mod search;
+mod syntax;
+pub mod vectors;
+
+pub use nesskettle_answers::{Counts, Operations, Reason, Refusal, Search};
+pub use program::program;
+
+use grounding::{Counted, Numbering};
+use interpretation::Interpretation;
+use problem::Problem;
+
+/// The largest size.
+pub const MAX_SIZE: u64 = 8;
+/// The most instances, before dropping.
+pub const MAX_INSTANCES: u64 = 1_000_000;
+
+/// The calls below as one value.
+pub const OPERATIONS: Operations = Operations {
+    name: "reference",
+    read,
+    judge,
+    write,
+    read_back,
+    find,
+};
+
+/// Reads a sheet: its counts.
+pub fn read(sheet: &[u8]) -> Result<Counts, Refusal> {
+    let problem = Problem::read(sheet)?;
+    Ok(Counts {
+        functions: problem.functions.len() as u64,
+        predicates: problem.predicates.len() as u64,
+        clauses: problem.clauses.len() as u64,
+    })
+}
+
+/// Is the case a model of the sheet?
+pub fn judge(sheet: &[u8], case: &[u8]) -> Result<bool, Refusal> {
+    let problem = Problem::read(sheet)?;
+    let interpretation = Interpretation::read(&problem, case)?;
+    Ok(interpretation.is_model(&problem))
+}
+
+/// Writes the sheet's clauses at a size as DIMACS text; the text's length.
+pub fn write(sheet: &[u8], size: u64, out: &mut [u8]) -> Result<usize, Refusal> {
+    let problem = Problem::read(sheet)?;
+    let size = checked_size(size)?;
+    few_instances(&Counted::new(&problem, size))?;
+    let text = grounding::dimacs(&problem, size);
+    put(&text, out)
+}
+
+/// Reads a setting back and writes its case; the case's length.
+pub fn read_back(sheet: &[u8], size: u64, setting: &[u8], out: &mut [u8]) -> Result<usize, Refusal> {
+    let problem = Problem::read(sheet)?;
+    let size = checked_size(size)?;
+    let numbering = Numbering::new(&problem, size);
+    if setting.len() != numbering.variables || setting.iter().any(|&b| b > 1) {
+        return Err(refused(Reason::BadSetting));
+    }
+    let yes = |variable: usize| setting[variable] == 1;
+    let cells = numbering.cells(&problem, yes).ok_or(refused(Reason::NotOneResult))?;
+    put(&Interpretation::new(size, cells).text(&problem), out)
+}
+
+/// Searches the sizes from low to high for the least model at the smallest size.
+pub fn find(sheet: &[u8], low: u64, high: u64, work: &mut [u32], out: &mut [u8]) -> Result<Search, Refusal> {
+    find_within(sheet, low, high, work, out, u64::MAX).map(|search| search.expect("no search makes so many choices"))
+}
+
+/// As [`find`], but a search that needs more choices than allowed ends with nothing, and has changed nothing.
+pub fn find_within(
+    sheet: &[u8],
+    low: u64,
+    high: u64,
+    work: &mut [u32],
+    out: &mut [u8],
+    allowance: u64,
+) -> Result<Option<Search>, Refusal> {
+    let problem = Problem::read(sheet)?;
+    if low == 0 || low > high {
+        return Err(refused(Reason::BadSize));
+    }
+    let top = checked_size(high)?;
+    let counted = Counted::new(&problem, top);
+    few_instances(&counted)?;
+    if (work.len() as u64) < counted.work() {
+        return Err(short(Reason::WorkTooShort, counted.work()));
+    }
+    let longest = interpretation::text_length(&problem, top);
+    if out.len() < longest {
+        return Err(short(Reason::OutputTooShort, longest as u64));
+    }
+    let mut left = allowance;
+    for size in low as usize..=top {
+        match search::least_model(&problem, size, &mut left) {
+            search::Outcome::Stopped => return Ok(None),
+            search::Outcome::None => {}
+            search::Outcome::Found(cells) => {
+                let text = Interpretation::new(size, cells).text(&problem);
+                let length = put(&text, out)?;
+                work.fill(0);
+                return Ok(Some(Search::Found {
+                    size: size as u64,
+                    length,
+                }));
+            }
+        }
+    }
+    work.fill(0);
+    Ok(Some(Search::None {
+        settled: settled(&problem, high),
+    }))
+}
+
+/// The needed lengths of a search: work numbers and output bytes at the size, for a sheet that is not refused.
+pub fn needed(sheet: &[u8], size: u64) -> Result<(u64, u64), Refusal> {
+    let problem = Problem::read(sheet)?;
+    let size = checked_size(size)?;
+    let work = Counted::new(&problem, size).work();
+    Ok((work, interpretation::text_length(&problem, size) as u64))
+}
+
+/// The counts I and V of a sheet at a size: instances before dropping, propositional variables.
+pub fn instances_and_variables(sheet: &[u8], size: u64) -> Result<(u64, u64), Refusal> {
+    let problem = Problem::read(sheet)?;
+    let counted = Counted::new(&problem, checked_size(size)?);
+    Ok((counted.instances, counted.variables))
+}
+
+/// No function has arguments, and high is at least the number of constants.
+fn settled(problem: &Problem, high: u64) -> bool {
+    problem.functions.iter().all(|f| f.arity == 0) && high >= problem.functions.len() as u64
+}
+
+fn checked_size(size: u64) -> Result<usize, Refusal> {
+    if (1..=MAX_SIZE).contains(&size) {
+        Ok(size as usize)
+    } else {
+        Err(refused(Reason::BadSize))
+    }
+}
+
+fn few_instances(counted: &Counted) -> Result<(), Refusal> {
+    if counted.instances > MAX_INSTANCES {
+        return Err(refused(Reason::TooManyInstances));
+    }
+    Ok(())
+}
+
+/// Puts the text at the output's front, or leaves the output and says how long it must be.
+fn put(text: &[u8], out: &mut [u8]) -> Result<usize, Refusal> {
+    match out.get_mut(..text.len()) {
+        None => Err(short(Reason::OutputTooShort, text.len() as u64)),
+        Some(front) => {
+            front.copy_from_slice(text);
+            Ok(text.len())
+        }
+    }
+}
+
+fn refused(reason: Reason) -> Refusal {
+    at_line(reason, 0)
+}
+
+fn at_line(reason: Reason, line: u64) -> Refusal {
+    Refusal {
+        reason,
+        line,
+        needed: 0,
+    }
+}
+
+fn short(reason: Reason, needed: u64) -> Refusal {
+    Refusal {
+        reason,
+        line: 0,
+        needed,
+    }
+}

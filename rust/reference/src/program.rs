@@ -1,0 +1,43 @@
+//! The finder program as a function from standard input to standard output.
+
+use crate::{find, Reason, Refusal, Search};
+
+const WORK: usize = 16_000;
+const OUTPUT: usize = 24_902;
+
+/// What the finder program prints for this input.
+pub fn program(input: &[u8]) -> Vec<u8> {
+    let mut work = vec![0; WORK];
+    let mut out = vec![0; OUTPUT];
+    let answer = bounds_and_sheet(input).and_then(|(low, high, sheet)| find(sheet, low, high, &mut work, &mut out));
+    match answer {
+        Ok(Search::Found { length, .. }) => {
+            let mut text = b"answer=found\n".to_vec();
+            text.extend_from_slice(&out[..length]);
+            text
+        }
+        Ok(Search::None { settled }) => {
+            let mark = if settled { "yes" } else { "no" };
+            format!("answer=none\nsettled={mark}\n").into_bytes()
+        }
+        Err(refusal) => {
+            let number = refusal.reason.number();
+            format!("answer=refused\nreason={number}\nline={}\n", refusal.line).into_bytes()
+        }
+    }
+}
+
+/// The two digit lines and the sheet after them.
+fn bounds_and_sheet(input: &[u8]) -> Result<(u64, u64, &[u8]), Refusal> {
+    let digits = digit_line(input, b"low=")
+        .and_then(|(low, rest)| digit_line(rest, b"high=").map(|(high, rest)| (low, high, rest)));
+    digits.ok_or(crate::refused(Reason::BadSize))
+}
+
+/// The digit of the line with this key, and what follows the line.
+fn digit_line<'a>(text: &'a [u8], key: &[u8]) -> Option<(u64, &'a [u8])> {
+    match text.strip_prefix(key)? {
+        [digit @ b'0'..=b'9', b'\n', rest @ ..] => Some(((digit - b'0') as u64, rest)),
+        _ => None,
+    }
+}

@@ -1,0 +1,203 @@
+//! Stored inputs with their answers (`rust/data/vectors.txt`), run on any implementation.
+//!
+//! One vector a line: the operation, its inputs, `->`, its answer. Each field is `key=value`; a byte string stands in
+//! double quotes, with `\n`, `\"`, `\\` and `\xHH` in it.
+
+use crate::{Operations, Refusal, Search};
+use std::collections::HashMap;
+
+/// The stored vectors.
+pub const TEXT: &str = include_str!("../../data/vectors.txt");
+
+/// One stored vector.
+pub struct Vector {
+    pub operation: String,
+    pub inputs: Fields,
+    pub answer: Fields,
+}
+
+/// Fields by key, numbers and byte strings alike as bytes.
+pub struct Fields(HashMap<String, Vec<u8>>);
+
+impl Fields {
+    pub fn bytes(&self, key: &str) -> &[u8] {
+        self.0.get(key).unwrap_or_else(|| panic!("no field {key}"))
+    }
+
+    pub fn number(&self, key: &str) -> u64 {
+        let text = std::str::from_utf8(self.bytes(key)).expect("a number is text");
+        text.parse().expect("a number")
+    }
+
+    fn has(&self, key: &str) -> bool {
+        self.0.contains_key(key)
+    }
+}
+
+/// All stored vectors in order.
+pub fn stored() -> Vec<Vector> {
+    TEXT.lines().map(vector).collect()
+}
+
+fn vector(line: &str) -> Vector {
+    let (operation, rest) = line.split_once(' ').expect("an operation first");
+    let mut rest = rest.as_bytes();
+    let inputs = fields(&mut rest);
+    rest = rest.strip_prefix(b"-> ").expect("an arrow before the answer");
+    Vector {
+        operation: operation.to_string(),
+        inputs,
+        answer: fields(&mut rest),
+    }
+}
+
+/// Fields up to the arrow or the end.
+fn fields(rest: &mut &[u8]) -> Fields {
+    let mut fields = HashMap::new();
+    while !rest.is_empty() && !rest.starts_with(b"->") {
+        let equals = rest.iter().position(|&b| b == b'=').expect("a field has a key");
+        let key = String::from_utf8(rest[..equals].to_vec()).expect("a key is text");
+        *rest = &rest[equals + 1..];
+        fields.insert(key, value(rest));
+        *rest = rest.strip_prefix(b" ").unwrap_or(rest);
+    }
+    Fields(fields)
+}
+
+/// A quoted byte string or a bare word; `rest` then starts after it.
+fn value(rest: &mut &[u8]) -> Vec<u8> {
+    if let Some(quoted) = rest.strip_prefix(b"\"") {
+        *rest = quoted;
+        return quoted_bytes(rest);
+    }
+    let end = rest.iter().position(|&b| b == b' ').unwrap_or(rest.len());
+    let (word, after) = rest.split_at(end);
+    *rest = after;
+    word.to_vec()
+}
+
+fn quoted_bytes(rest: &mut &[u8]) -> Vec<u8> {
+    let mut bytes = Vec::new();
+    loop {
+        let (byte, length) = match rest {
+            [b'"', ..] => {
+                *rest = &rest[1..];
+                return bytes;
+            }
+            [b'\\', b'n', ..] => (b'\n', 2),
+            [b'\\', b'x', high, low, ..] => (16 * hex(*high) + hex(*low), 4),
+            [b'\\', byte, ..] => (*byte, 2),
+            [byte, ..] => (*byte, 1),
+            [] => panic!("a string has no end"),
+        };
+        bytes.push(byte);
+        *rest = &rest[length..];
+    }
+}
+
+fn hex(digit: u8) -> u8 {
+    (digit as char).to_digit(16).expect("a hexadecimal digit") as u8
+}
+
+/// Runs one vector of the five operations; the difference in words if there is one.
+pub fn run(operations: &Operations, vector: &Vector) -> Result<(), String> {
+    let given = &vector.inputs;
+    let sheet = given.bytes("sheet");
+    let mut out = patterned_bytes(if given.has("output") { given.number("output") } else { 0 });
+    let mut work = patterned_numbers(if given.has("work") { given.number("work") } else { 0 });
+    let answered = match vector.operation.as_str() {
+        "read" => (operations.read)(sheet).map(|c| {
+            format!(
+                "functions={} predicates={} clauses={}",
+                c.functions, c.predicates, c.clauses
+            )
+        }),
+        "judge" => (operations.judge)(sheet, given.bytes("case")).map(|yes| format!("judged={}", yes_no(yes))),
+        "write" => (operations.write)(sheet, given.number("size"), &mut out).map(|n| format!("length={n}")),
+        "read-back" => (operations.read_back)(sheet, given.number("size"), given.bytes("setting"), &mut out)
+            .map(|n| format!("length={n}")),
+        "find" => (operations.find)(sheet, given.number("low"), given.number("high"), &mut work, &mut out).map(found),
+        other => panic!("no operation {other}"),
+    };
+    let refused = answered.is_err();
+    let answered = answered.unwrap_or_else(refusal);
+    same("answer", &answered, &expected(&vector.answer))?;
+    let text = if vector.answer.has("text") {
+        vector.answer.bytes("text")
+    } else {
+        &[]
+    };
+    let mut left = patterned_bytes(out.len() as u64);
+    left[..text.len()].copy_from_slice(text);
+    same("output", &out, &left)?;
+    let left = if refused {
+        patterned_numbers(work.len() as u64)
+    } else {
+        vec![0; work.len()]
+    };
+    same("work", &work, &left)
+}
+
+/// The answer's fields but for the text, in one line.
+fn expected(answer: &Fields) -> String {
+    let keys = [
+        "refused",
+        "line",
+        "needed",
+        "functions",
+        "predicates",
+        "clauses",
+        "judged",
+        "settled",
+        "found",
+        "length",
+    ];
+    let shown = keys.into_iter().filter(|key| answer.has(key));
+    let shown = shown.map(|key| format!("{key}={}", String::from_utf8_lossy(answer.bytes(key))));
+    shown.collect::<Vec<_>>().join(" ")
+}
+
+fn found(search: Search) -> String {
+    match search {
+        Search::Found { size, length } => format!("found={size} length={length}"),
+        Search::None { settled } => format!("settled={}", yes_no(settled)),
+    }
+}
+
+fn refusal(refusal: Refusal) -> String {
+    format!(
+        "refused={} line={} needed={}",
+        refusal.reason.number(),
+        refusal.line,
+        refusal.needed
+    )
+}
+
+fn yes_no(yes: bool) -> &'static str {
+    if yes {
+        "yes"
+    } else {
+        "no"
+    }
+}
+
+fn same<T: PartialEq + std::fmt::Debug + ?Sized>(what: &str, is: &T, should: &T) -> Result<(), String> {
+    if is == should {
+        return Ok(());
+    }
+    Err(format!("{what} is {is:?}, should be {should:?}"))
+}
+
+/// Bytes that no text would leave by chance, to see which were written.
+pub fn patterned_bytes(length: u64) -> Vec<u8> {
+    (0..length)
+        .map(|i| (i.wrapping_mul(37) ^ (i >> 8)) as u8 | 0x80)
+        .collect()
+}
+
+/// Numbers none of which is zero, likewise.
+pub fn patterned_numbers(length: u64) -> Vec<u32> {
+    (0..length)
+        .map(|i| (i as u32).wrapping_mul(2_654_435_761) | 1)
+        .collect()
+}

@@ -1,0 +1,25 @@
+//! The reference answers every stored vector as stored.
+
+use nesskettle_reference::{program, vectors, OPERATIONS};
+
+#[test]
+fn the_five_operations_answer_as_stored() {
+    let mut count = 0;
+    for (line, vector) in (1..).zip(vectors::stored()) {
+        if vector.operation != "program" {
+            vectors::run(&OPERATIONS, &vector).unwrap_or_else(|e| panic!("vector {line}: {e}"));
+            count += 1;
+        }
+    }
+    assert!(count > 1000, "only {count} vectors");
+}
+
+#[test]
+fn the_program_prints_as_stored() {
+    for (line, vector) in (1..).zip(vectors::stored()) {
+        if vector.operation == "program" {
+            let printed = program(vector.inputs.bytes("stdin"));
+            assert_eq!(printed, vector.answer.bytes("stdout"), "vector {line}");
+        }
+    }
+}

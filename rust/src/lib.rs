@@ -1,0 +1,125 @@
+//! Nesskettle, a finite model finder whose every answer is proved: safe calls of its C interface.
+//!
+//! | call | answers |
+//! |---|---|
+//! | [`read`] | how many functions, predicates and clauses a sheet has |
+//! | [`judge`] | whether a case is a model of a sheet |
+//! | [`write`] | a sheet's clauses at a size, as DIMACS text |
+//! | [`read_back`] | the case that a setting of the propositional variables stands for |
+//! | [`find`] | the least model at the smallest size, or that there is none |
+//!
+//! Every call takes any bytes and numbers. A refused call has changed no lent byte and no lent number.
+
+pub mod raw;
+
+pub use nesskettle_answers::{Counts, Operations, Reason, Refusal, Search};
+
+/// The calls below as one value.
+pub const OPERATIONS: Operations = Operations {
+    name: "nesskettle",
+    read,
+    judge,
+    write,
+    read_back,
+    find,
+};
+
+/// Reads a sheet.
+pub fn read(sheet: &[u8]) -> Result<Counts, Refusal> {
+    // SAFETY: pointer and length are a slice's.
+    let answer = unsafe { raw::nk_read(sheet.as_ptr(), sheet.len()) };
+    match answer.outcome {
+        0 => Err(refusal(answer.reason, answer.line, 0)),
+        1 => Ok(Counts {
+            functions: answer.funs,
+            predicates: answer.preds,
+            clauses: answer.clauses,
+        }),
+        other => unknown_outcome(other),
+    }
+}
+
+/// Is the case a model of the sheet?
+pub fn judge(sheet: &[u8], case: &[u8]) -> Result<bool, Refusal> {
+    // SAFETY: pointers and lengths are slices'.
+    let answer = unsafe { raw::nk_judge(sheet.as_ptr(), sheet.len(), case.as_ptr(), case.len()) };
+    match answer.outcome {
+        0 => Err(refusal(answer.reason, answer.line, 0)),
+        1 => Ok(true),
+        2 => Ok(false),
+        other => unknown_outcome(other),
+    }
+}
+
+/// Writes the sheet's clauses at a size as DIMACS text and answers its length. The bytes after it are unchanged.
+pub fn write(sheet: &[u8], size: u64, output: &mut [u8]) -> Result<usize, Refusal> {
+    // SAFETY: pointers and lengths are slices', and the output is lent to this call alone.
+    written(unsafe { raw::nk_write(sheet.as_ptr(), sheet.len(), size, output.as_mut_ptr(), output.len()) })
+}
+
+/// Writes the case that a setting stands for and answers its length. The bytes after it are unchanged.
+///
+/// The setting has one byte, 0 or 1, for each propositional variable.
+pub fn read_back(sheet: &[u8], size: u64, setting: &[u8], output: &mut [u8]) -> Result<usize, Refusal> {
+    // SAFETY: pointers and lengths are slices', and the output is lent to this call alone.
+    written(unsafe {
+        raw::nk_read_back(
+            sheet.as_ptr(),
+            sheet.len(),
+            size,
+            setting.as_ptr(),
+            setting.len(),
+            output.as_mut_ptr(),
+            output.len(),
+        )
+    })
+}
+
+/// Searches the sizes from low to high for the least model at the smallest size.
+///
+/// On both results `work` holds zeros. Found, the case stands at the output's front, and the bytes after it are
+/// unchanged; none, the whole output is.
+pub fn find(sheet: &[u8], low: u64, high: u64, work: &mut [u32], output: &mut [u8]) -> Result<Search, Refusal> {
+    // SAFETY: pointers and lengths are slices', and work and output are lent to this call alone.
+    let answer = unsafe {
+        raw::nk_find(
+            sheet.as_ptr(),
+            sheet.len(),
+            low,
+            high,
+            work.as_mut_ptr(),
+            work.len(),
+            output.as_mut_ptr(),
+            output.len(),
+        )
+    };
+    match answer.outcome {
+        0 => Err(refusal(answer.reason, answer.line, answer.length)),
+        1 => Ok(Search::Found {
+            size: answer.size,
+            length: answer.length as usize,
+        }),
+        2 => Ok(Search::None {
+            settled: answer.settled == 1,
+        }),
+        other => unknown_outcome(other),
+    }
+}
+
+fn written(answer: raw::WriteAnswer) -> Result<usize, Refusal> {
+    match answer.outcome {
+        0 => Err(refusal(answer.reason, answer.line, answer.length)),
+        1 => Ok(answer.length as usize),
+        other => unknown_outcome(other),
+    }
+}
+
+fn refusal(number: u32, line: u64, needed: u64) -> Refusal {
+    let reason = Reason::from_number(number).unwrap_or_else(|| panic!("the library answered reason {number}"));
+    Refusal { reason, line, needed }
+}
+
+/// An outcome that `include/nesskettle.h` does not have: another library was linked.
+fn unknown_outcome(outcome: u32) -> ! {
+    panic!("the library answered outcome {outcome}")
+}

@@ -1,0 +1,79 @@
+//! The C interface as it stands in `include/nesskettle.h`.
+
+/// The answer of [`nk_read`].
+#[repr(C)]
+#[derive(Clone, Copy, Debug, PartialEq, Eq)]
+pub struct ReadAnswer {
+    pub outcome: u32,
+    pub reason: u32,
+    pub line: u64,
+    pub funs: u64,
+    pub preds: u64,
+    pub clauses: u64,
+}
+
+/// The answer of [`nk_judge`].
+#[repr(C)]
+#[derive(Clone, Copy, Debug, PartialEq, Eq)]
+pub struct JudgeAnswer {
+    pub outcome: u32,
+    pub reason: u32,
+    pub line: u64,
+}
+
+/// The answer of [`nk_write`] and [`nk_read_back`].
+#[repr(C)]
+#[derive(Clone, Copy, Debug, PartialEq, Eq)]
+pub struct WriteAnswer {
+    pub outcome: u32,
+    pub reason: u32,
+    pub line: u64,
+    pub length: u64,
+}
+
+/// The answer of [`nk_find`].
+#[repr(C)]
+#[derive(Clone, Copy, Debug, PartialEq, Eq)]
+pub struct FindAnswer {
+    pub outcome: u32,
+    pub reason: u32,
+    pub line: u64,
+    pub size: u64,
+    pub length: u64,
+    pub settled: u32,
+}
+
+extern "C" {
+    pub fn nk_read(sheet: *const u8, sheet_length: usize) -> ReadAnswer;
+
+    pub fn nk_judge(sheet: *const u8, sheet_length: usize, case: *const u8, case_length: usize) -> JudgeAnswer;
+
+    pub fn nk_write(
+        sheet: *const u8,
+        sheet_length: usize,
+        size: u64,
+        output: *mut u8,
+        output_length: usize,
+    ) -> WriteAnswer;
+
+    pub fn nk_read_back(
+        sheet: *const u8,
+        sheet_length: usize,
+        size: u64,
+        setting: *const u8,
+        setting_length: usize,
+        output: *mut u8,
+        output_length: usize,
+    ) -> WriteAnswer;
+
+    pub fn nk_find(
+        sheet: *const u8,
+        sheet_length: usize,
+        low: u64,
+        high: u64,
+        work: *mut u32,
+        work_length: usize,
+        output: *mut u8,
+        output_length: usize,
+    ) -> FindAnswer;
+}

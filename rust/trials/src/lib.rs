@@ -1,0 +1,7 @@
+//! Inputs on which the proved library is tried: generated ones from fixed seeds, damaged ones, and named problems.
+
+pub mod buffers;
+pub mod damage;
+pub mod draft;
+pub mod problems;
+pub mod random;

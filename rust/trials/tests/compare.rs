@@ -1,0 +1,507 @@
+//! The proved library against the reference, call by call: the same answer, and every lent byte and number the same.
+//!
+//! Inputs are generated from fixed seeds. Each test also counts what came out, so that a generator that no longer reaches
+//! a result or a refusal fails.
+
+use nesskettle::raw::{self, FindAnswer, JudgeAnswer, ReadAnswer, WriteAnswer};
+use nesskettle_reference::{self as reference, Refusal, Search};
+use nesskettle_trials::buffers::Lent;
+use nesskettle_trials::damage::damaged;
+use nesskettle_trials::draft::{long_sheet, Draft, Style, BROAD, LIMITS, LONG_CLAUSES, SMALL};
+use nesskettle_trials::problems::{self, MILLION};
+use nesskettle_trials::random::Random;
+use std::collections::BTreeMap;
+
+/// Generated searches that need more choices than this are left out.
+const CHOICES: u64 = 2_000;
+
+/// Sizes that no call takes, those that a narrower number would take among them.
+const BAD_SIZES: [u64; 6] = [0, 9, 10, 258, (1 << 32) + 2, u64::MAX];
+
+/// How often each outcome came up.
+#[derive(Default)]
+struct Tally(BTreeMap<String, usize>);
+
+impl Tally {
+    fn add(&mut self, outcome: &str, reason: u32) {
+        let key = if reason > 0 {
+            format!("{reason}")
+        } else {
+            outcome.to_string()
+        };
+        *self.0.entry(key).or_default() += 1;
+    }
+
+    /// Each of these came up, at least so often.
+    fn covers(&self, least: usize, outcomes: &[&str]) {
+        println!("{:?}", self.0);
+        for &outcome in outcomes {
+            let times = self.0.get(outcome).copied().unwrap_or(0);
+            assert!(times >= least, "{outcome} came up {times} times only: {:?}", self.0);
+        }
+    }
+}
+
+fn text(bytes: &[u8]) -> String {
+    String::from_utf8_lossy(bytes).into_owned()
+}
+
+fn check_read(tally: &mut Tally, sheet: &[u8]) {
+    let nothing = ReadAnswer {
+        outcome: 0,
+        reason: 0,
+        line: 0,
+        funs: 0,
+        preds: 0,
+        clauses: 0,
+    };
+    let expected = match reference::read(sheet) {
+        Err(Refusal { reason, line, .. }) => ReadAnswer {
+            reason: reason.number(),
+            line,
+            ..nothing
+        },
+        Ok(c) => ReadAnswer {
+            outcome: 1,
+            funs: c.functions,
+            preds: c.predicates,
+            clauses: c.clauses,
+            ..nothing
+        },
+    };
+    let lent = sheet.to_vec();
+    // SAFETY: pointer and length are a slice's; so in the calls below.
+    let answer = unsafe { raw::nk_read(lent.as_ptr(), lent.len()) };
+    assert_eq!(answer, expected, "read\n{}", text(sheet));
+    assert!(lent == sheet, "read changed the sheet\n{}", text(sheet));
+    tally.add("read", answer.reason);
+}
+
+fn check_judge(tally: &mut Tally, sheet: &[u8], case: &[u8]) {
+    let expected = match reference::judge(sheet, case) {
+        Err(Refusal { reason, line, .. }) => JudgeAnswer {
+            outcome: 0,
+            reason: reason.number(),
+            line,
+        },
+        Ok(yes) => JudgeAnswer {
+            outcome: if yes { 1 } else { 2 },
+            reason: 0,
+            line: 0,
+        },
+    };
+    let (lent, lent_case) = (sheet.to_vec(), case.to_vec());
+    let answer = unsafe { raw::nk_judge(lent.as_ptr(), lent.len(), lent_case.as_ptr(), lent_case.len()) };
+    assert_eq!(answer, expected, "judge\n{}\n{}", text(sheet), text(case));
+    assert!(
+        lent == sheet && lent_case == case,
+        "judge changed its inputs\n{}",
+        text(sheet)
+    );
+    tally.add(if answer.outcome == 1 { "yes" } else { "no" }, answer.reason);
+}
+
+fn check_write(tally: &mut Tally, sheet: &[u8], size: u64, output_length: usize) {
+    let mut should = vec![0; output_length];
+    let (expected, front) = expected_text(reference::write(sheet, size, &mut should), &should);
+    let lent = sheet.to_vec();
+    let mut output = Lent::bytes(output_length);
+    let out = output.lend();
+    let answer = unsafe { raw::nk_write(lent.as_ptr(), lent.len(), size, out.as_mut_ptr(), out.len()) };
+    let call = || format!("write, size {size}, output {output_length}\n{}", text(sheet));
+    assert_eq!(answer, expected, "{}", call());
+    assert!(lent == sheet && output.holds(front), "lent bytes: {}", call());
+    tally.add("written", answer.reason);
+}
+
+fn check_read_back(tally: &mut Tally, sheet: &[u8], size: u64, setting: &[u8], output_length: usize) {
+    let mut should = vec![0; output_length];
+    let (expected, front) = expected_text(reference::read_back(sheet, size, setting, &mut should), &should);
+    let (lent, lent_setting) = (sheet.to_vec(), setting.to_vec());
+    let mut output = Lent::bytes(output_length);
+    let out = output.lend();
+    let answer = unsafe {
+        raw::nk_read_back(
+            lent.as_ptr(),
+            lent.len(),
+            size,
+            lent_setting.as_ptr(),
+            lent_setting.len(),
+            out.as_mut_ptr(),
+            out.len(),
+        )
+    };
+    let call = || {
+        format!(
+            "read back, size {size}, setting {setting:?}, output {output_length}\n{}",
+            text(sheet)
+        )
+    };
+    assert_eq!(answer, expected, "{}", call());
+    assert!(
+        lent == sheet && lent_setting == setting && output.holds(front),
+        "lent bytes: {}",
+        call()
+    );
+    tally.add("written", answer.reason);
+}
+
+/// The answer of a call that writes a text, and the text.
+fn expected_text(answer: Result<usize, Refusal>, output: &[u8]) -> (WriteAnswer, &[u8]) {
+    match answer {
+        Err(Refusal { reason, line, needed }) => (
+            WriteAnswer {
+                outcome: 0,
+                reason: reason.number(),
+                line,
+                length: needed,
+            },
+            &[],
+        ),
+        Ok(n) => (
+            WriteAnswer {
+                outcome: 1,
+                reason: 0,
+                line: 0,
+                length: n as u64,
+            },
+            &output[..n],
+        ),
+    }
+}
+
+fn check_find(tally: &mut Tally, sheet: &[u8], low: u64, high: u64, work_length: usize, output_length: usize) {
+    check_find_within(tally, sheet, (low, high), work_length, output_length, CHOICES)
+}
+
+fn check_find_within(
+    tally: &mut Tally,
+    sheet: &[u8],
+    (low, high): (u64, u64),
+    work_length: usize,
+    output_length: usize,
+    choices: u64,
+) {
+    let mut should = vec![0; output_length];
+    let mut scratch = vec![0; work_length];
+    let nothing = FindAnswer {
+        outcome: 0,
+        reason: 0,
+        line: 0,
+        size: 0,
+        length: 0,
+        settled: 0,
+    };
+    let (expected, front, zeros) = match reference::find_within(sheet, low, high, &mut scratch, &mut should, choices) {
+        Err(Refusal { reason, line, needed }) => (
+            FindAnswer {
+                reason: reason.number(),
+                line,
+                length: needed,
+                ..nothing
+            },
+            0,
+            0,
+        ),
+        Ok(None) => return tally.add("left out", 0),
+        Ok(Some(Search::Found { size, length })) => (
+            FindAnswer {
+                outcome: 1,
+                size,
+                length: length as u64,
+                ..nothing
+            },
+            length,
+            work_length,
+        ),
+        Ok(Some(Search::None { settled })) => (
+            FindAnswer {
+                outcome: 2,
+                settled: settled as u32,
+                ..nothing
+            },
+            0,
+            work_length,
+        ),
+    };
+    let lent = sheet.to_vec();
+    let mut work = Lent::numbers(work_length);
+    let mut output = Lent::bytes(output_length);
+    let (numbers, out) = (work.lend(), output.lend());
+    let answer = unsafe {
+        raw::nk_find(
+            lent.as_ptr(),
+            lent.len(),
+            low,
+            high,
+            numbers.as_mut_ptr(),
+            numbers.len(),
+            out.as_mut_ptr(),
+            out.len(),
+        )
+    };
+    let call = || {
+        format!(
+            "find, {low} to {high}, work {work_length}, output {output_length}\n{}",
+            text(sheet)
+        )
+    };
+    assert_eq!(answer, expected, "{}", call());
+    assert!(
+        lent == sheet && output.holds(&should[..front]),
+        "lent bytes: {}",
+        call()
+    );
+    assert!(work.holds(&vec![0; zeros]), "lent numbers: {}", call());
+    let outcome = match (answer.outcome, answer.settled) {
+        (1, _) => "found",
+        (_, 1) => "none, settled",
+        _ => "none",
+    };
+    tally.add(outcome, answer.reason);
+}
+
+/// A draft in one of the styles.
+fn draft(random: &mut Random, styles: &[Style]) -> Draft {
+    let style = *random.pick(styles);
+    Draft::random(random, style)
+}
+
+/// The draft's sheet, damaged once in so many times.
+fn sheet_of(random: &mut Random, draft: &Draft, damaged_once_in: usize) -> Vec<u8> {
+    let sheet = draft.sheet();
+    if random.once_in(damaged_once_in) {
+        damaged(random, &sheet)
+    } else {
+        sheet
+    }
+}
+
+/// A size from 1 to 8, small ones more often, at which the sheet has at most so many instances; now and then a bad one.
+fn size_of(random: &mut Random, sheet: &[u8], instances: u64) -> u64 {
+    if random.once_in(20) {
+        return *random.pick(&BAD_SIZES);
+    }
+    let mut size = random.between(1, 8).min(random.between(1, 8)) as u64;
+    while size > 1 && reference::instances_and_variables(sheet, size).is_ok_and(|(i, _)| i > instances) {
+        size -= 1;
+    }
+    size
+}
+
+/// A length around the needed one: one short, exact, longer, or nothing of the kind.
+fn length_around(random: &mut Random, needed: u64) -> usize {
+    let needed = needed as usize;
+    match random.below(8) {
+        0 => needed.saturating_sub(1),
+        1 => needed + random.below(100),
+        2 => random.between(0, needed),
+        3 => 0,
+        _ => needed,
+    }
+}
+
+#[test]
+fn sheets_are_read_alike() {
+    let mut tally = Tally::default();
+    let mut random = Random::new(1);
+    for _ in 0..150_000 {
+        let draft = draft(&mut random, &[SMALL, BROAD, LONG_CLAUSES, LIMITS]);
+        check_read(&mut tally, &sheet_of(&mut random, &draft, 2));
+    }
+    for _ in 0..50_000 {
+        check_read(&mut tally, &Draft::around_clause_limits(&mut random).sheet());
+    }
+    for _ in 0..1_000 {
+        check_read(&mut tally, &long_sheet(&mut random));
+    }
+    tally.covers(50, &["read", "1", "2", "3", "4", "5", "6", "7"]);
+}
+
+#[test]
+fn every_short_input_is_read_alike() {
+    let mut tally = Tally::default();
+    let whole = b"sheet=1\nfuns=1\nfun=a/0\npreds=1\npred=p/1\nclauses=1\nclause=+ p a\n";
+    for length in 0..=whole.len() {
+        check_read(&mut tally, &whole[..length]);
+        for byte in 0..=255 {
+            let mut sheet = whole[..length].to_vec();
+            sheet.push(byte);
+            check_read(&mut tally, &sheet);
+            sheet.extend_from_slice(&whole[(length + 1).min(whole.len())..]);
+            check_read(&mut tally, &sheet);
+        }
+    }
+    tally.covers(2, &["read", "2", "3", "4", "5", "6"]);
+}
+
+#[test]
+fn cases_are_judged_alike() {
+    let mut tally = Tally::default();
+    let mut random = Random::new(2);
+    for _ in 0..60_000 {
+        let draft = draft(&mut random, &[SMALL, SMALL, BROAD, LONG_CLAUSES]);
+        let sheet = sheet_of(&mut random, &draft, 10);
+        let size = size_of(&mut random, &sheet, 20_000).clamp(1, 9) as usize;
+        let mut case = draft.case(&mut random, size);
+        if random.once_in(4) {
+            case = model(&sheet).unwrap_or(case);
+        }
+        if random.once_in(4) {
+            case = damaged(&mut random, &case);
+        }
+        check_judge(&mut tally, &sheet, &case);
+    }
+    tally.covers(50, &["yes", "no", "2", "5", "12"]);
+}
+
+/// A small model of the sheet, if one is found quickly.
+fn model(sheet: &[u8]) -> Option<Vec<u8>> {
+    let (work, output) = reference::needed(sheet, 3).ok()?;
+    let mut work = vec![0; work.min(100_000) as usize];
+    let mut output = vec![0; output as usize];
+    match reference::find_within(sheet, 1, 3, &mut work, &mut output, CHOICES) {
+        Ok(Some(Search::Found { length, .. })) => Some(output[..length].to_vec()),
+        _ => None,
+    }
+}
+
+#[test]
+fn clauses_are_written_alike() {
+    let mut tally = Tally::default();
+    let mut random = Random::new(3);
+    for _ in 0..20_000 {
+        let draft = draft(&mut random, &[SMALL, BROAD, LONG_CLAUSES]);
+        let sheet = sheet_of(&mut random, &draft, 10);
+        let size = size_of(&mut random, &sheet, 2_000);
+        let needed = reference::write(&sheet, size, &mut []).map_or_else(|refusal| refusal.needed, |_| 0);
+        let length = length_around(&mut random, needed);
+        check_write(&mut tally, &sheet, size, length);
+    }
+    tally.covers(50, &["written", "2", "8", "11"]);
+}
+
+#[test]
+fn many_clauses_are_written_alike() {
+    let mut tally = Tally::default();
+    let mut random = Random::new(30);
+    for _ in 0..1_000 {
+        let draft = Draft::around_clause_limits(&mut random);
+        let sheet = draft.sheet();
+        let size = random.between(1, 8) as u64;
+        let needed = match reference::write(&sheet, size, &mut []) {
+            Err(refusal) if refusal.needed < 2_000_000 => refusal.needed,
+            _ => 0,
+        };
+        let length = length_around(&mut random, needed);
+        check_write(&mut tally, &sheet, size, length);
+    }
+    tally.covers(50, &["written", "7", "9", "11"]);
+}
+
+/// Exactly 1,000,000 instances are taken, one more is refused.
+#[test]
+fn a_million_instances_are_taken() {
+    let mut tally = Tally::default();
+    let needed = reference::write(MILLION, 8, &mut []).expect_err("no room").needed as usize;
+    check_write(&mut tally, MILLION, 8, needed);
+    check_write(&mut tally, MILLION, 8, needed - 1);
+    let (work, output) = reference::needed(MILLION, 8).expect("it is a sheet");
+    check_find(&mut tally, MILLION, 8, 8, work as usize, output as usize);
+    let more = text(MILLION).replace("clauses=15", "clauses=16") + "clause=\n";
+    check_write(&mut tally, more.as_bytes(), 8, needed + 10);
+    check_find(&mut tally, more.as_bytes(), 8, 8, work as usize + 2, output as usize);
+    tally.covers(1, &["written", "found", "11", "9"]);
+}
+
+#[test]
+fn settings_are_read_back_alike() {
+    let mut tally = Tally::default();
+    let mut random = Random::new(4);
+    for _ in 0..60_000 {
+        let draft = draft(&mut random, &[SMALL, SMALL, BROAD]);
+        let sheet = sheet_of(&mut random, &draft, 15);
+        let size = size_of(&mut random, &sheet, 50_000);
+        let shaped = if (1..=8).contains(&size) { size as usize } else { 1 };
+        let mut setting = draft.setting(&mut random, shaped);
+        if random.once_in(3) {
+            damage_setting(&mut random, &mut setting);
+        }
+        let needed = reference::needed(&sheet, size).map_or(20, |(_, output)| output);
+        let length = length_around(&mut random, needed);
+        check_read_back(&mut tally, &sheet, size, &setting, length);
+    }
+    tally.covers(50, &["written", "2", "8", "11", "13", "14"]);
+}
+
+/// Other lengths, other bytes, other results.
+fn damage_setting(random: &mut Random, setting: &mut Vec<u8>) {
+    let at = random.between(0, setting.len());
+    match random.below(5) {
+        0 => setting.insert(at, random.below(2) as u8),
+        1 => setting.truncate(at),
+        2 => setting.iter_mut().for_each(|b| *b = random.below(2) as u8),
+        _ if at == setting.len() => {}
+        3 => setting[at] ^= 1,
+        _ => setting[at] = *random.pick(&[2, 48, 49, 255]),
+    }
+}
+
+#[test]
+fn models_are_found_alike() {
+    let mut tally = Tally::default();
+    let mut random = Random::new(5);
+    for _ in 0..60_000 {
+        let draft = draft(&mut random, &[SMALL, SMALL, SMALL, BROAD]);
+        let sheet = sheet_of(&mut random, &draft, 20);
+        let high = size_of(&mut random, &sheet, 3_000);
+        let low = bound_below(&mut random, high);
+        let (work, output) = reference::needed(&sheet, high).unwrap_or((20, 20));
+        let work = length_around(&mut random, work.min(1_000_000));
+        let output = length_around(&mut random, output);
+        check_find(&mut tally, &sheet, low, high, work, output);
+    }
+    tally.covers(50, &["found", "none", "none, settled", "2", "8", "10", "11"]);
+}
+
+#[test]
+fn models_of_long_clauses_are_found_alike() {
+    let mut tally = Tally::default();
+    let mut random = Random::new(50);
+    for _ in 0..1_000 {
+        let draft = Draft::around_clause_limits(&mut random);
+        let sheet = draft.sheet();
+        let high = random.between(1, 8) as u64;
+        let low = bound_below(&mut random, high);
+        let (work, output) = reference::needed(&sheet, high).unwrap_or((20, 20));
+        let work = length_around(&mut random, work.min(500_000));
+        check_find(&mut tally, &sheet, low, high, work, output as usize);
+    }
+    tally.covers(20, &["found", "7", "8", "9", "10"]);
+}
+
+#[test]
+fn models_of_named_problems_are_found_alike() {
+    let mut tally = Tally::default();
+    for problem in problems::ALL {
+        for high in 1..=8 {
+            let (work, output) = reference::needed(problem.sheet, high).expect("it is a sheet");
+            if work < 2_000_000 {
+                let (work, output) = (work as usize, output as usize);
+                check_find_within(&mut tally, problem.sheet, (1, high), work, output, 50_000);
+            }
+        }
+    }
+    tally.covers(20, &["found", "none"]);
+}
+
+/// A lower end for the sizes: mostly 1 or the upper end, now and then a bad one.
+fn bound_below(random: &mut Random, high: u64) -> u64 {
+    match random.below(20) {
+        0 => *random.pick(&BAD_SIZES),
+        1 => high.wrapping_add(1),
+        2..=8 => high,
+        9..=11 => high / 2 + 1,
+        _ => 1,
+    }
+}

@@ -1,0 +1,129 @@
+//! The specification's examples, executed on the proved library.
+
+use nesskettle::{find, judge, read, read_back, write, Counts, Reason, Refusal, Search};
+use nesskettle_trials::problems::{sheet, GROUP_CASE};
+
+const NO_LINE: u64 = 0;
+
+fn refused<T>(reason: Reason, line: u64) -> Result<T, Refusal> {
+    Err(Refusal {
+        reason,
+        line,
+        needed: 0,
+    })
+}
+
+/// A sheet from its declarations and clauses.
+fn sheet_of(functions: &[&str], predicates: &[&str], clauses: &[&str]) -> Vec<u8> {
+    let mut text = format!("sheet=1\nfuns={}\n", functions.len());
+    functions.iter().for_each(|f| text += &format!("fun={f}\n"));
+    text += &format!("preds={}\n", predicates.len());
+    predicates.iter().for_each(|p| text += &format!("pred={p}\n"));
+    text += &format!("clauses={}\n", clauses.len());
+    clauses.iter().for_each(|c| text += &format!("clause={c}\n"));
+    text.into_bytes()
+}
+
+/// The text of a call that writes one.
+fn text_of(mut call: impl FnMut(&mut [u8]) -> Result<usize, Refusal>) -> Result<String, Refusal> {
+    let mut output = vec![0; 20_000];
+    let length = call(&mut output)?;
+    Ok(String::from_utf8_lossy(&output[..length]).into_owned())
+}
+
+fn clauses_at(sheet: &[u8], size: u64) -> String {
+    text_of(|output| write(sheet, size, output)).expect("it is written")
+}
+
+/// The least model from low to high, or the settled mark.
+fn found(sheet: &[u8], low: u64, high: u64) -> Result<String, bool> {
+    let mut work = vec![7; 2_000_000];
+    let mut output = vec![0; 25_000];
+    match find(sheet, low, high, &mut work, &mut output).expect("it is searched") {
+        Search::Found { length, .. } => Ok(String::from_utf8_lossy(&output[..length]).into_owned()),
+        Search::None { settled } => Err(settled),
+    }
+}
+
+#[test]
+fn two_constants() {
+    let sheet = sheet("two-constants");
+    assert_eq!(
+        read(sheet),
+        Ok(Counts {
+            functions: 2,
+            predicates: 0,
+            clauses: 1
+        })
+    );
+    assert_eq!(
+        clauses_at(sheet, 2),
+        "p cnf 4 6\n1 2 0\n-1 -2 0\n3 4 0\n-3 -4 0\n-3 -1 0\n-4 -2 0\n"
+    );
+    assert_eq!(found(sheet, 1, 1), Err(false));
+    assert_eq!(found(sheet, 1, 3).as_deref(), Ok("case=1\nsize=2\na=1\nb=2\n"));
+    let back = |setting: &[u8]| text_of(|output| read_back(sheet, 2, setting, output));
+    assert_eq!(back(&[0, 1, 1, 0]).as_deref(), Ok("case=1\nsize=2\na=2\nb=1\n"));
+    assert_eq!(back(&[1, 1, 0, 0]), refused(Reason::NotOneResult, NO_LINE));
+}
+
+#[test]
+fn terms_are_lifted_in_order() {
+    let sheet = sheet_of(&["a/0", "b/0", "f/2"], &["p/2"], &["+ p f a b f b a"]);
+    // at size 1 each literal has one number: a is 1, b is 2, f is 3, p is 4
+    assert_eq!(clauses_at(&sheet, 1), "p cnf 4 4\n1 0\n2 0\n3 0\n-1 -2 -3 -3 4 0\n");
+}
+
+#[test]
+fn equalities_of_variables() {
+    let all_equal = sheet_of(&[], &[], &["+ = A B"]);
+    assert_eq!(found(&all_equal, 1, 1).as_deref(), Ok("case=1\nsize=1\n"));
+    assert_eq!(clauses_at(&all_equal, 2), "p cnf 0 2\n0\n0\n");
+    let none_equal = sheet_of(&[], &[], &["- = A B"]);
+    for size in 1..=8 {
+        assert_eq!(clauses_at(&none_equal, size), "p cnf 0 1\n0\n");
+    }
+}
+
+#[test]
+fn the_empty_clause_and_no_clause() {
+    assert_eq!(found(&sheet_of(&[], &[], &[""]), 1, 8), Err(true));
+    let nothing = sheet_of(&[], &[], &[]);
+    assert_eq!(found(&nothing, 3, 8).as_deref(), Ok("case=1\nsize=3\n"));
+}
+
+#[test]
+fn least_models() {
+    let moved = sheet_of(&["f/1"], &[], &["- = f A A"]);
+    assert_eq!(found(&moved, 1, 1), Err(false));
+    assert_eq!(found(&moved, 1, 2).as_deref(), Ok("case=1\nsize=2\nf=2 1\n"));
+    assert_eq!(found(&moved, 3, 3).as_deref(), Ok("case=1\nsize=3\nf=2 1 1\n"));
+    let single = sheet_of(&["a/0"], &["p/1"], &["+ p a", "- p A + = A a"]);
+    assert_eq!(found(&single, 2, 2).as_deref(), Ok("case=1\nsize=2\na=1\np=1 0\n"));
+}
+
+#[test]
+fn limits() {
+    let wide = |count: usize| sheet_of(&[], &["q/3"], &vec!["+ q A B C + q D E F"; count]);
+    let mut room = vec![0; 20_000_000];
+    assert!(write(&wide(3), 8, &mut room).is_ok());
+    assert_eq!(
+        write(&wide(4), 8, &mut room),
+        refused(Reason::TooManyInstances, NO_LINE)
+    );
+    let nothing = sheet_of(&[], &[], &[]);
+    assert_eq!(write(&nothing, 8, &mut room), Ok(10));
+    assert_eq!(write(&nothing, 0, &mut room), refused(Reason::BadSize, NO_LINE));
+    assert_eq!(write(&nothing, 9, &mut room), refused(Reason::BadSize, NO_LINE));
+    let literals = |count: usize| sheet_of(&[], &["p/0"], &[&vec!["+ p"; count].join(" ")]);
+    assert!(read(&literals(16)).is_ok());
+    assert_eq!(read(&literals(17)), refused(Reason::ClauseTooLarge, 6));
+    assert_eq!(read(b""), refused(Reason::Layout, 1));
+}
+
+#[test]
+fn the_lectures_group_of_six() {
+    assert_eq!(judge(sheet("group"), GROUP_CASE), Ok(true));
+    let other = String::from_utf8_lossy(GROUP_CASE).replace("b=3", "b=2");
+    assert_eq!(judge(sheet("group"), other.as_bytes()), Ok(false));
+}
