@@ -43,3 +43,4 @@ pub mod Demand3
 pub mod Counts
 pub mod Letters
 pub mod Limits
+pub mod Monotone
