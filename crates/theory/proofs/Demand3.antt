@@ -20,7 +20,7 @@ use Rattle.theory.proofs.Tests.{leb-true, leb-of-≤, and-left, and-rig
 use Rattle.theory.proofs.Answers.{unbind, bind-step, answer-inj, check-true, check-of-true}
 use Rattle.theory.proofs.Dimacs.{written-clauses}
 use Rattle.theory.proofs.Parsing.{WellFormed, readProblem-wellFormed, clauses-ok}
-use Rattle.theory.proofs.CaseText.{OnlyText, read-own-case, read-exactly}
+use Rattle.theory.proofs.ModelTexts.{read-own, model-text, IsModelText, is-model-text}
 use Rattle.theory.proofs.Encoding.{encoding}
 
 -- a sheet and size that are not refused for their content
@@ -95,24 +95,13 @@ module _ (sheet : List ℕ) (p : Problem) (size : ℕ) (text : List ℕ) (room :
       (bind-step _ _ tt r (check-of-true _ (unplaced 14) f)
       (bind-step _ _ tt r (check-of-true _ (needing 11 (caseLength size g)) (leb-of-≤ (caseLength size g) room fits)) refl))))
 
-  read-own : (vs : List ℕ) → isInterpretation size g vs ≡ true → readCase g (caseText size g vs) ≡ answer (record { size = size; values = vs })
-  read-own vs h = read-own-case p w size vs pos le-8 h
-
-  -- each is read back as a model of the sheet
-  model-text : (vs : List ℕ) → isInterpretation size g vs ≡ true → isModel size g (p .clauses) vs ≡ true → ModelText sheet p size (caseText size g vs)
-  unfolding judgeAnswer
-  model-text vs h m =
-      record {
-        case = record { size = size; values = vs };
-        read = read-own vs h;
-        sized = refl;
-        model = bind-step _ _ p (answer true) read (bind-step _ _ (record { size = size; values = vs }) (answer true) (read-own vs h) (ap answer m));
-      }
+  own : (vs : List ℕ) → isInterpretation size g vs ≡ true → readCase g (caseText size g vs) ≡ answer (record { size = size; values = vs })
+  own vs h = read-own sheet p read size vs pos le-8 h
 
   reads-back : (σ : List ℕ) → Satisfying p size text σ → (c : List ℕ) × (readBackText sheet size σ room ≡ answer c) × ModelText sheet p size c
   reads-back σ h =
       let b : Back σ = back σ h in
-      (caseText size g (readBack size g σ), read-back σ (h .setting) (b .functional), model-text (readBack size g σ) (b .interpretation) (b .model))
+      (caseText size g (readBack size g σ), read-back σ (h .setting) (b .functional), model-text sheet p read size (readBack size g σ) pos le-8 (b .interpretation) (b .model))
 
   -- two of them with the same text are equal
   one-to-one : (σ τ c d : List ℕ) → Satisfying p size text σ → Satisfying p size text τ → readBackText sheet size σ room ≡ answer c → readBackText sheet size τ room ≡ answer d → c ≡ d → σ ≡ τ
@@ -127,46 +116,17 @@ module _ (sheet : List ℕ) (p : Problem) (size : ℕ) (text : List ℕ) (room :
       let kv : Case = record { size = size; values = v } in
       let k : ku ≡ kv =
       answer-inj ku kv
-      (sym (read-own u (bσ .interpretation)) ∙ ap (readCase g) (cσ ∙ e ∙ sym cτ) ∙ read-own v (bτ .interpretation)) in
+      (sym (own u (bσ .interpretation)) ∙ ap (readCase g) (cσ ∙ e ∙ sym cτ) ∙ own v (bτ .interpretation)) in
       enc .oneToOne σ τ (hσ .setting) (bσ .functional) (hτ .setting) (bτ .functional) (ap (λ (k : Case). k .values) k)
-
-  -- a model text is that of an interpretation that is a model
-  record IsModelText (c : List ℕ) : Type 0 where
-    vs : List ℕ
-    interpretation : isInterpretation size g vs ≡ true
-    model : isModel size g (p .clauses) vs ≡ true
-    written-as : caseText size g vs ≡ c
-
-  judged-model : (c : List ℕ) (k : Case) → readCase g c ≡ answer k → judgeAnswer sheet c ≡ answer true → isModel (k .size) g (p .clauses) (k .values) ≡ true
-  unfolding judgeAnswer
-  judged-model c k r e =
-      unbind _ _ true e λ (q : Problem) h₁ e₁.
-      unbind _ _ true e₁ λ (j : Case) h₂ e₂.
-      let sq : q ≡ p = answer-inj q p (sym h₁ ∙ read) in
-      let sj : j ≡ k = answer-inj j k (sym h₂ ∙ ap (λ (q : Problem). readCase (q .symbols) c) sq ∙ r) in
-      ap (λ (j : Case). isModel (j .size) g (p .clauses) (j .values)) (sym sj)
-      ∙ ap (λ (q : Problem). isModel (j .size) (q .symbols) (q .clauses) (j .values)) (sym sq)
-      ∙ answer-inj (isModel (j .size) (q .symbols) (q .clauses) (j .values)) true e₂
-
-  is-model-text : (c : List ℕ) → ModelText sheet p size c → IsModelText c
-  is-model-text c m =
-      let k : Case = m .case in
-      let only : OnlyText g c k = read-exactly g c k (m .read) in
-      record {
-        vs = k .values;
-        interpretation = ap (λ (s : ℕ). isInterpretation s g (k .values)) (sym (m .sized)) ∙ only .interpretation;
-        model = ap (λ (s : ℕ). isModel s g (p .clauses) (k .values)) (sym (m .sized)) ∙ judged-model c k (m .read) (m .model);
-        written-as = ap (λ (s : ℕ). caseText s g (k .values)) (sym (m .sized)) ∙ only .written;
-      }
 
   -- each model text is read back from one of them, and from no other
   onto : (c : List ℕ) → ModelText sheet p size c
       → (σ : List ℕ) × Satisfying p size text σ × (readBackText sheet size σ room ≡ answer c) × ((τ : List ℕ) → Satisfying p size text τ → readBackText sheet size τ room ≡ answer c → τ ≡ σ)
   onto c m =
-      let i : IsModelText c = is-model-text c m in
-      let r = enc .onto (i .vs) (i .interpretation) in
+      let i : IsModelText sheet p read size (m .case) c = is-model-text sheet p read size c m in
+      let r = enc .onto (m .case .values) (i .interpretation) in
       let σ : List ℕ = r .0 in
-      let same : readBack size g σ ≡ i .vs = r .3 in
+      let same : readBack size g σ ≡ m .case .values = r .3 in
       let holds : (isFunctional size g σ && isModel size g (p .clauses) (readBack size g σ)) ≡ true =
       and-join (isFunctional size g σ) (isModel size g (p .clauses) (readBack size g σ)) (r .2) (ap (isModel size g (p .clauses)) same ∙ i .model) in
       let sat : Satisfying p size text σ = record { setting = r .1; satisfied = text-satisfied σ ∙ enc .satisfying σ (r .1) ∙ holds } in

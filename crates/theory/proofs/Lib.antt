@@ -44,3 +44,5 @@ pub mod Counts
 pub mod Letters
 pub mod Limits
 pub mod Monotone
+pub mod ModelTexts
+pub mod Demand2

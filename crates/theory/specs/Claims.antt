@@ -6,5 +6,6 @@ pub mod Flattening
 pub mod Encoding
 pub mod Demand3
 pub mod Least
+pub mod Demand2
 pub mod Walk
 pub mod Counts
