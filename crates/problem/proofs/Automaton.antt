@@ -19,7 +19,7 @@ use Rattle.syntax.specs.Codes.{wordOf}
 use Rattle.syntax.proofs.Codes.{wordOf-symbol, wordOf-letter}
 use Rattle.problem.specs.Names.{Limited}
 use Rattle.problem.specs.Words.{isFixed, isCode}
-use Rattle.problem.proofs.Symbols.{blank, symbolAt-signatureIn}
+use Rattle.problem.proofs.Held.{blank, symbolAt-signatureIn}
 
 -- where nothing is due, no word but a sign can stand
 pub no-sign : (g : theory.Signature) (c : ℕ) → (c ≡ 43 → ⊥) → (c ≡ 45 → ⊥) → none ≡ dueAfter g (terms 0) (wordOf c)

@@ -16,7 +16,7 @@ use Rattle.theory.specs.Problem.{placeOfName}
 use Rattle.syntax.specs.declared.signature.Signature as declared
 use Rattle.syntax.specs.Signatures.{symbolIn, signatureIn}
 use Rattle.problem.specs.Names.{Limited}
-use Rattle.problem.proofs.Symbols.{blank, count-signatureIn, symbolAt-signatureIn}
+use Rattle.problem.proofs.Held.{blank, count-signatureIn, symbolAt-signatureIn}
 
 -- r is the place of the first symbol from i on that has the name, or the number of symbols
 pub record NameFrom (name : List ℕ) (g : Signature) (i r : ℕ) : Type 0 where

@@ -2,3 +2,5 @@ pub mod Names
 pub mod Words
 pub mod Grammar
 pub mod Clauses
+pub mod Lines
+pub mod Symbols

@@ -5,7 +5,7 @@ use lib.ListN.{length}
 use Rattle.syntax.specs.Signatures.{signatureIn}
 use Rattle.problem.specs.declared.words.Word.the-variants.{Code, Unknown}
 use Rattle.problem.specs.Words.{isCoded, WordRead}
-use Rattle.problem.proofs.Symbols.{count-signatureIn}
+use Rattle.problem.proofs.Held.{count-signatureIn}
 use Rattle.problem.proofs.Passing.{taken-code, taken-unknown}
 use borrow.Author.Needs.{needs}
 use Rattle.problem.proofs.clause.with_word.Statement.{statement}

@@ -1,7 +1,7 @@
 -- `after_sign` takes = or a predicate.
 use native.Mathlib.Omega.{arith}
 use Rattle.syntax.specs.Signatures.{signatureIn}
-use Rattle.problem.proofs.Symbols.{arity-at}
+use Rattle.problem.proofs.Held.{arity-at}
 use Rattle.problem.proofs.Automaton.{equals-atom, no-atom, symbol-code, function-no-atom, predicate-atom}
 use borrow.Author.Needs.{needs}
 use Rattle.problem.proofs.grammar.after_sign.Statement.{statement}

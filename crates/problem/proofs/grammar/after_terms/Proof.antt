@@ -5,7 +5,7 @@ use native.Mathlib.Omega.{arith}
 use Rattle.theory.specs.Grammar.{terms, dueAfter}
 use Rattle.syntax.specs.Signatures.{signatureIn}
 use Rattle.syntax.specs.Codes.{wordOf}
-use Rattle.problem.proofs.Symbols.{arity-at}
+use Rattle.problem.proofs.Held.{arity-at}
 use Rattle.problem.proofs.Automaton.{some-due, letter-term, no-term, symbol-code, function-term, predicate-no-term}
 use borrow.Author.Needs.{needs}
 use Rattle.problem.proofs.grammar.after_terms.Statement.{statement}

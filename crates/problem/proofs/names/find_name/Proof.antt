@@ -5,7 +5,7 @@ use native.Mathlib.Omega.{arith}
 use Rattle.syntax.specs.Signatures.{signatureIn}
 use mathlib.Core.Path.{sym, _∙_}
 use mathlib.Core.Bool.{true, false}
-use Rattle.problem.proofs.Symbols.{count-signatureIn, name-within}
+use Rattle.problem.proofs.Held.{count-signatureIn, name-within}
 use Rattle.problem.proofs.Naming.{NameFrom, name-here, name-nowhere, name-on, same-at, found}
 use Rattle.problem.proofs.names.find_name.Statement.{statement}
 use Rattle.problem.proofs.names.find_name.Tie as tie

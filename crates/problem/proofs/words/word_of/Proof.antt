@@ -1,7 +1,7 @@
 -- `word_of` looks for a fixed word, then for a name.
 use mathlib.Core.Path.{sym, _∙_}
 use Rattle.syntax.specs.Signatures.{signatureIn}
-use Rattle.problem.proofs.Symbols.{count-signatureIn}
+use Rattle.problem.proofs.Held.{count-signatureIn}
 use Rattle.problem.proofs.OneWord.{word-empty, word-fixed, word-named, word-unknown}
 use borrow.Author.Needs.{needs}
 use Rattle.problem.proofs.words.word_of.Statement.{statement}
