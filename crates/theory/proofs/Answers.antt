@@ -34,6 +34,12 @@ module _ {A B : Type 0} where
   unbind (refused r) k b e go = let z : _≡_ {A = ℕ} 0 1 = cc in absurd (omega arith)
 
   -- an answered step goes on with its result
+  -- what refuses, one or the other
+  pub unrefused : {C : Type 0} (m : Answer A) (k : A → Answer B) (r : Refusal) → (m >>= k) ≡ refused r → (m ≡ refused r → C) → ((a : A) → m ≡ answer a → k a ≡ refused r → C) → C
+  unfolding _>>=_
+  unrefused (answer a) k r e f h = h a refl e
+  unrefused (refused q) k r e f h = f (ap refused (refused-inj {A = B} q r e))
+
   pub bind-step : (m : Answer A) (k : A → Answer B) (a : A) (r : Answer B) → m ≡ answer a → k a ≡ r → (m >>= k) ≡ r
   unfolding _>>=_
   bind-step m k a r e h = ap (λ m. m >>= k) e ∙ h

@@ -46,3 +46,5 @@ pub mod Limits
 pub mod Monotone
 pub mod ModelTexts
 pub mod Demand2
+pub mod SheetRefusals
+pub mod Program

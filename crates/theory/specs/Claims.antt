@@ -9,3 +9,4 @@ pub mod Least
 pub mod Demand2
 pub mod Walk
 pub mod Counts
+pub mod Program
