@@ -20,6 +20,7 @@ pub mod Completions
 pub mod Unset
 pub mod Walking
 pub mod LiftedTerms
+pub mod Growing
 pub mod WellFormed
 pub mod Parts
 pub mod CellClauses

@@ -242,7 +242,7 @@ different-snoc (u ∷ ts) t h k =
     and-join (not (among (ts ++ (t ∷ [])) u)) (different (ts ++ (t ∷ []))) (ap not n)
     (different-snoc ts t (or-false-right (sameTerm t u) (among ts t) h) (and-right (not (among ts u)) (different ts) k))
 
-addTerms-different : (found ts : List Term) → different found ≡ true → different (addTerms found ts) ≡ true
+pub addTerms-different : (found ts : List Term) → different found ≡ true → different (addTerms found ts) ≡ true
 addTerms-different found [] h = h
 addTerms-different found (t ∷ ts) h = addTerms-different (addTerm found t) ts (go (among found t) refl)
   where

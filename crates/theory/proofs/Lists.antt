@@ -83,6 +83,14 @@ elem-all p [] h = refl
 elem-all p (x ∷ xs) h =
     and-join (p x) (all p xs) (h x (or-left (eqb x x) (elem x xs) (eqb-same x))) (elem-all p xs (λ y e. h y (or-right (eqb y x) (elem y xs) e)))
 
+pub all-elem : (p : ℕ → Bool) (xs : List ℕ) (x : ℕ) → all p xs ≡ true → elem x xs ≡ true → p x ≡ true
+all-elem p [] x h e = absurd (false≢true e)
+all-elem p (y ∷ xs) x h e = go (or-cases (eqb x y) (elem x xs) e) (λ k. all-elem p xs x (and-right (p y) (all p xs) h) k)
+  where
+    go : (eqb x y ≡ true) ⊎ (elem x xs ≡ true) → (elem x xs ≡ true → p x ≡ true) → p x ≡ true
+    go (inl k) ih = ap p (eqb-true x y k) ∙ and-left (p y) (all p xs) h
+    go (inr k) ih = ih k
+
 pub elem-distinct : (x : ℕ) (xs : List ℕ) → elem x xs ≡ true → elem x (distinct xs) ≡ true
 elem-distinct x [] h = h
 elem-distinct x (y ∷ ys) h = go (eqb x y) refl h (elem-distinct x ys)
