@@ -8,16 +8,12 @@ use lib.ListN.{length, getD, set, length-append}
 use lib.Seq.{getD-append-seam}
 use Rattle.theory.specs.Lists.{elem}
 use Rattle.propagation.specs.Clauses.{weight}
-use Rattle.propagation.specs.WorkArea.{Within, Clause}
+use Rattle.propagation.specs.WorkArea.{Clause}
+use Rattle.propagation.proofs.Lives.{weight-small}
 use Rattle.loading.specs.Filling.{from, to, entered, endsWith, enters}
 use Rattle.loading.specs.Loading.{LiteralEnterable}
 use Rattle.loading.proofs.Entering.{all-last}
 use Rattle.loading.proofs.Filled.{test}
-
--- each literal weighs less than 2 ^ 25
-weight-small : (v : ℕ) (d : List ℕ) → v < 2 ^ 18 → Within v d → weight [] d ≤ 33554432 * length d
-weight-small v [] h k = omega arith
-weight-small v (x ∷ xs) h k = omega (arith, h, k .0, weight-small v xs h (k .1))
 
 -- p is the literal u, whose block goes from a to b
 pub record Read (v u c : ℕ) (w : List ℕ) (p a b : ℕ) : Type 0 where
@@ -50,7 +46,7 @@ module _ (v u c : ℕ) (w : List ℕ) (p a b : ℕ) (r : Read v u c w p a b) whe
       let k = all-last (Clause v) (e .es) (e .d) (e .filling .clauses) in
       let o : getD w y 0 ≡ weight [] (e .d) =
       ap (λ (n : ℕ). getD w n 0) (ye ∙ e .at) ∙ e .filling .weights (length (e .es)) (omega (arith, many)) ∙ ap (weight []) (getD-append-seam (e .es) (e .d) [] []) in
-      omega (arith, o, weight-small v (e .d) (e .filling .small) (k .within), e .short, e .literal, e .filling .small)
+      omega (arith, o, weight-small v [] (e .d) (e .filling .small) (k .within), e .short, e .literal, e .filling .small)
 
   same-test : endsWith a b c w ≡ endsWith (from v u w) (to v u w) c w
   same-test = ap (λ (n : ℕ). endsWith n b c w) from-is ∙ ap (λ (n : ℕ). endsWith (from v u w) n c w) to-is

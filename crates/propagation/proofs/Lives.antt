@@ -2,7 +2,7 @@
 use mathlib.Core.Path.{_≡_, refl, ap, _∙_}
 use mathlib.Core.Bool.{Bool, true, false, cond}
 use mathlib.Core.List.{List, [], _∷_}
-use Prim.Native.Nat.{ℕ, zero, suc, _+_, _*_, _/_, _%_, _≤_, _<_}
+use Prim.Native.Nat.{ℕ, zero, suc, _+_, _*_, _/_, _%_, _≤_, _<_, _^_}
 use native.Mathlib.Nat.{not-suc-le-zero, le-of-suc-le-suc}
 use native.Mathlib.Omega.{arith}
 use lib.ListN.{length, getD}
@@ -73,6 +73,16 @@ module _ (v : ℕ) (D c : List ℕ) (k : Clause v c) where
 
   pub left-one : (u : ℕ) → live D c ≡ u ∷ [] → weight D c % 64 ≡ 1
   left-one u e = left ∙ ap length e
+
+part-small : (b : Bool) (x : ℕ) → x < 2 ^ 19 → cond b 0 (64 * x + 1) ≤ 33554432
+part-small true x h = omega arith
+part-small false x h = omega arith
+
+-- a literal weighs at most 2 ^ 25
+pub weight-small : (v : ℕ) (D c : List ℕ) → v < 2 ^ 18 → Within v c → weight D c ≤ 33554432 * length c
+weight-small v D [] s w = omega arith
+weight-small v D (x ∷ xs) s w =
+    omega (arith, part-small (elem x D) x (omega (arith, w .0)), weight-small v D xs s (w .1))
 
 -- what holds of each clause holds of the clause at an index
 pub all-at : (P : List ℕ → Type 0) (cs : List (List ℕ)) (i : ℕ) → All P cs → i < length cs → P (getD cs i [])

@@ -16,7 +16,7 @@ sameLiteral-parts l m h = (
   eqb-true (l .number) (m .number) (and-right (Bool·beq (l .positive) (m .positive)) (eqb (l .number) (m .number)) h),
 )
 
-sameLiteral-self : (l : PropLiteral) → sameLiteral l l ≡ true
+pub sameLiteral-self : (l : PropLiteral) → sameLiteral l l ≡ true
 sameLiteral-self l = and-join (Bool·beq (l .positive) (l .positive)) (eqb (l .number) (l .number)) (beq-same (l .positive)) (eqb-same (l .number))
 
 sameLiteral-trans : (l m n : PropLiteral) → sameLiteral l m ≡ true → sameLiteral l n ≡ true → sameLiteral m n ≡ true

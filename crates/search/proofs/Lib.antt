@@ -1,0 +1,12 @@
+pub mod Live
+pub mod Partials
+pub mod Statuses
+pub mod Walks
+pub mod Resuming
+pub mod Potential
+pub mod Unwinding
+pub mod Popping
+pub mod Returning
+pub mod Kept
+pub mod Beginning
+pub mod Searching

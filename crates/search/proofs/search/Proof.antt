@@ -1,0 +1,198 @@
+-- `search` meets its contract. The invariant of its loop: the whole walk goes on from the trail and its open choices. The measure is the trail's potential.
+use mathlib.Core.Path.{_≡_, refl, _∙_}
+use mathlib.Core.Bool.{Bool}
+use mathlib.Core.List.{List}
+use Prim.Native.Nat.{ℕ}
+use native.Mathlib.Omega.{arith}
+use borrow.Author.Tests.{not-true, not-false}
+use lib.ListN.{length}
+use Rattle.theory.specs.Propositional.{PropClause}
+use Rattle.propagation.specs.Clauses.{coded}
+use Rattle.propagation.specs.WorkArea.{trail}
+use Rattle.propagation.specs.Advance.{Propagated}
+use Rattle.search.specs.Search.{Started}
+use Rattle.search.proofs.Potential.{potential}
+use Rattle.search.proofs.Searching.{Searching, searching-start, search-none, search-back, back-falls₁, search-found, choice-pushable, search-choice, choice-falls₁}
+use Rattle.search.proofs.search.Statement.{statement}
+use Rattle.search.proofs.search.Tie as tie
+
+abbrev Inv-loop : tie.InvT-loop
+Inv-loop work₀ v len head₀ entries₀ work head entries =
+    ((cs : List PropClause) (first : ℕ → Bool) → Started v cs first len work₀ → Searching v cs first work₀ head entries work) × (length work ≡ length work₀)
+
+abbrev μ-loop : tie.MeasureT-loop
+μ-loop work₀ v len head₀ entries₀ work head entries = potential v (trail work v entries)
+
+loop-holds : tie.Need-loop-holds Inv-loop μ-loop
+loop-holds c =
+    let a = c .before .args in
+    (λ cs first k. searching-start (a .v) cs first (a .len) (a .work .now) k, refl)
+
+-- after propagation, of any clauses that the work area was given with
+gone : (p : tie.After-propagate Inv-loop μ-loop) (cs : List PropClause) (first : ℕ → Bool)
+    → Started (p .before .before .before .before .args .v) cs first (p .before .before .before .before .args .len) (p .before .before .before .before .args .work .now)
+    → Propagated (p .before .before .before .before .args .v) (coded cs) (p .before .before .loop .head) (p .before .before .loop .entries) (p .before .before .loop .work) (p .propagate .result .head) (p .propagate .result .len) (p .propagate .result .clash) (p .propagate .last .0)
+gone p cs first k =
+    let s = p .before .before .loop .inv .0 cs first k in
+    p .propagate .ensures (coded cs) (s .held) (s .calm)
+
+propagate-requires : tie.Need-propagate-requires Inv-loop μ-loop
+propagate-requires c κs =
+    let s = c .before .before .before in
+    record { clauses = coded (s .pre .clauses); held = c .before .loop .inv .0 (s .pre .clauses) (s .pre .first) (s .pre .started) .held }
+
+backtrack-requires : tie.Need-backtrack-requires Inv-loop μ-loop
+backtrack-requires c κs =
+    let p = c .before .before .before .before in
+    let s = p .before .before .before .before in
+    record { clauses = coded (s .pre .clauses); held = gone p (s .pre .clauses) (s .pre .first) (s .pre .started) .held }
+
+same-length : tie.Need-same-length Inv-loop μ-loop
+same-length c =
+    let b = c .before .before .before .before in
+    let p = b .before .before .before .before .before in
+    b .backtrack .kept .0 ∙ p .propagate .kept .0 ∙ p .before .before .loop .inv .1
+
+returns : tie.Need-returns Inv-loop μ-loop
+returns c cs first k =
+    let b = c .before .before .before .before in
+    let t = b .before .before in
+    let p = t .before .before .before in
+    let l = p .before .before .loop in
+    let a = p .before .before .before .before .args in
+    search-none (a .v) cs first (a .work .now) (l .head) (l .entries) (l .work) (l .inv .0 cs first k) (p .propagate .result .head) (p .propagate .result .len) (p .propagate .result .clash) (p .propagate .last .0) (gone p cs first k)
+    (t .if1 .taken) (b .backtrack .result .head) (b .backtrack .result .len) (b .backtrack .result .found) (b .backtrack .last .0) (b .backtrack .ensures (coded cs) (gone p cs first k .held)) (not-true _ (c .if2 .taken))
+
+loop-less : tie.Need-loop-less Inv-loop μ-loop
+loop-less c =
+    let b = c .before .before .before .before in
+    let t = b .before .before in
+    let p = t .before .before .before in
+    let l = p .before .before .loop in
+    let s = p .before .before .before .before in
+    let a = s .args in
+    let cs = s .pre .clauses in
+    let first = s .pre .first in
+    let k = s .pre .started in
+    back-falls₁ (a .v) cs first (a .work .now) (l .head) (l .entries) (l .work) (l .inv .0 cs first k) (p .propagate .result .head) (p .propagate .result .len) (p .propagate .result .clash) (p .propagate .last .0) (gone p cs first k)
+    (t .if1 .taken) (b .backtrack .result .head) (b .backtrack .result .len) (b .backtrack .result .found) (b .backtrack .last .0) (b .backtrack .ensures (coded cs) (gone p cs first k .held)) (not-false _ (c .if2 .left))
+
+loop-again : tie.Need-loop-again Inv-loop μ-loop
+loop-again c =
+    let b = c .before .before .before .before in
+    let t = b .before .before in
+    let p = t .before .before .before in
+    let l = p .before .before .loop in
+    let a = p .before .before .before .before .args in (
+      λ cs first k.
+          search-back (a .v) cs first (a .work .now) (l .head) (l .entries) (l .work) (l .inv .0 cs first k) (p .propagate .result .head) (p .propagate .result .len) (p .propagate .result .clash) (p .propagate .last .0) (gone p cs first k)
+          (t .if1 .taken) (b .backtrack .result .head) (b .backtrack .result .len) (b .backtrack .result .found) (b .backtrack .last .0) (b .backtrack .ensures (coded cs) (gone p cs first k .held)) (not-false _ (c .if2 .left)),
+      b .backtrack .kept .0 ∙ p .propagate .kept .0 ∙ l .inv .1,
+    )
+
+unset-requires : tie.Need-unset-requires Inv-loop μ-loop
+unset-requires c κs =
+    let p = c .before .before .before .before in
+    let s = p .before .before .before .before in
+    omega (arith, gone p (s .pre .clauses) (s .pre .first) (s .pre .started) .held .room)
+
+same-length-2 : tie.Need-same-length-2 Inv-loop μ-loop
+same-length-2 c =
+    let p = c .before .before .before .before .before .before in
+    p .propagate .kept .0 ∙ p .before .before .loop .inv .1
+
+returns-2 : tie.Need-returns-2 Inv-loop μ-loop
+returns-2 c cs first k =
+    let u = c .before in
+    let t = u .before .before in
+    let p = t .before .before .before in
+    let l = p .before .before .loop in
+    let a = p .before .before .before .before .args in
+    search-found (a .v) cs first (a .work .now) (l .head) (l .entries) (l .work) (l .inv .0 cs first k) (p .propagate .result .head) (p .propagate .result .len) (p .propagate .result .clash) (p .propagate .last .0) (gone p cs first k)
+    (t .if1 .left) (u .unset .result) (u .unset .ensures) (c .if3 .taken)
+
+first-requires : tie.Need-first-requires Inv-loop μ-loop
+first-requires c κs =
+    let e = c .before .before in
+    let u = e .before in
+    let p = u .before .before .before .before .before in
+    let s = p .before .before .before .before in
+    let h = gone p (s .pre .clauses) (s .pre .first) (s .pre .started) .held in
+    (omega (arith, u .unset .ensures .within, e .if3 .left), (h .small, omega (arith, h .room)))
+
+push-requires : tie.Need-push-requires Inv-loop μ-loop
+push-requires c κs =
+    let e = c .before .before .before in
+    let u = e .before in
+    let t = u .before .before in
+    let p = t .before .before .before in
+    let l = p .before .before .loop in
+    let s = p .before .before .before .before in
+    let a = s .args in
+    let cs = s .pre .clauses in
+    let first = s .pre .first in
+    let k = s .pre .started in
+    choice-pushable (a .v) cs first (a .work .now) (l .head) (l .entries) (l .work) (l .inv .0 cs first k) (p .propagate .result .head) (p .propagate .result .len) (p .propagate .result .clash) (p .propagate .last .0) (gone p cs first k)
+    (t .if1 .left) (u .unset .result) (u .unset .ensures) (e .if3 .left) (c .first .result) (c .first .ensures)
+
+add-entries : tie.Need-add-entries Inv-loop μ-loop
+add-entries c =
+    let p = c .before .before .before .before .before .before .before .before .before .before .before .before in
+    let s = p .before .before .before .before in
+    let h = gone p (s .pre .clauses) (s .pre .first) (s .pre .started) .held in
+    omega (arith, h .len-v, h .small)
+
+loop-less-2 : tie.Need-loop-less-2 Inv-loop μ-loop
+loop-less-2 c =
+    let y = c .before .before in
+    let f = y .before in
+    let e = f .before .before .before in
+    let u = e .before in
+    let t = u .before .before in
+    let p = t .before .before .before in
+    let l = p .before .before .loop in
+    let s = p .before .before .before .before in
+    let a = s .args in
+    let cs = s .pre .clauses in
+    let first = s .pre .first in
+    let k = s .pre .started in
+    choice-falls₁ (a .v) cs first (a .work .now) (l .head) (l .entries) (l .work) (l .inv .0 cs first k) (p .propagate .result .head) (p .propagate .result .len) (p .propagate .result .clash) (p .propagate .last .0) (gone p cs first k)
+    (t .if1 .left) (u .unset .result) (u .unset .ensures) (e .if3 .left) (f .first .result) (f .first .ensures) (y .push .last .0) (y .push .ensures)
+
+loop-again-2 : tie.Need-loop-again-2 Inv-loop μ-loop
+loop-again-2 c =
+    let y = c .before .before in
+    let f = y .before in
+    let e = f .before .before .before in
+    let u = e .before in
+    let t = u .before .before in
+    let p = t .before .before .before in
+    let l = p .before .before .loop in
+    let a = p .before .before .before .before .args in (
+      λ cs first k.
+          search-choice (a .v) cs first (a .work .now) (l .head) (l .entries) (l .work) (l .inv .0 cs first k) (p .propagate .result .head) (p .propagate .result .len) (p .propagate .result .clash) (p .propagate .last .0) (gone p cs first k)
+          (t .if1 .left) (u .unset .result) (u .unset .ensures) (e .if3 .left) (f .first .result) (f .first .ensures) (y .push .last .0) (y .push .ensures),
+      y .push .kept .0 ∙ p .propagate .kept .0 ∙ l .inv .1,
+    )
+
+pub search-spec : {M : Type 1} → statement M
+search-spec =
+    tie.close
+    (tie.spec
+    Inv-loop
+    μ-loop
+    loop-holds
+    propagate-requires
+    backtrack-requires
+    same-length
+    returns
+    loop-less
+    loop-again
+    unset-requires
+    same-length-2
+    returns-2
+    first-requires
+    push-requires
+    add-entries
+    loop-less-2
+    loop-again-2)

@@ -1,0 +1,102 @@
+-- What the parts of the search ask and leave, and what the whole search answers: the theory's walk.
+use mathlib.Core.Path.{_≡_}
+use mathlib.Core.Bool.{Bool, true, false, cond}
+use mathlib.Core.Option.{Option, none, some}
+use mathlib.Core.List.{List, [], map}
+use Prim.Native.Nat.{ℕ, zero, suc, _+_, _-_, _*_, _≤_, _<_}
+use lib.Dec.{eqb}
+use lib.ListN.{length, getD, take}
+use lib.Seq.{slice}
+use Rattle.theory.specs.Lists.{all}
+use Rattle.theory.specs.Propositional.{PropClause}
+use Rattle.theory.specs.Walk.{Partial, walked}
+use Rattle.theory.specs.Claims.Counts.{isNumbered}
+use Rattle.propagation.specs.Clauses.{coded}
+use Rattle.propagation.specs.Weights.{changed, more}
+use Rattle.propagation.specs.WorkArea.{trail, Held, Prefers, Loaded, Frame}
+use Rattle.propagation.specs.Forcing.{Forces}
+use Rattle.propagation.specs.Advance.{sinking, Calm}
+use Rattle.search.specs.Moves.{BackTo, Closed, OpenUnder}
+
+-- a number of the values' region as the theory has it: 0 unset, 1 yes, else no
+abbrev pub valueOf : ℕ → Option Bool
+valueOf zero = none
+valueOf (suc zero) = some true
+valueOf (suc (suc z)) = some false
+
+abbrev pub partialOf : List ℕ → Partial
+partialOf zs = map valueOf zs
+
+-- the bytes of a valuation, from the values' region: 1 for yes
+abbrev pub settingOf : List ℕ → List ℕ
+settingOf zs = map (λ z. cond (eqb z 1) 1 0) zs
+
+-- what the search answers, from whether it found a valuation and the values' region
+abbrev pub answered : Bool → List ℕ → Option (List ℕ)
+answered true zs = some (settingOf zs)
+answered false zs = none
+
+-- From w to w′, the search answered what the walk over the clauses answers, and changed only the values, the trail and the weights.
+pub record Solved (v : ℕ) (cs : List PropClause) (first : ℕ → Bool) (found : Bool) (w w′ : List ℕ) : Type 0 where
+  pub answer : walked v cs first .answer ≡ answered found (take v w′)
+  pub frame : Frame v (length cs) w w′
+
+-- a work area that is loaded with m clauses
+pub record Loadable (v m : ℕ) (w : List ℕ) : Type 0 where
+  pub clauses : List PropClause
+  pub first : ℕ → Bool
+  pub loaded : Loaded v clauses first w
+  pub number : length clauses ≡ m
+
+-- a work area from which a search starts: its trail has what the clauses force, none of it false in its clauses yet, and every clause is quiet
+pub record Started (v : ℕ) (cs : List PropClause) (first : ℕ → Bool) (len : ℕ) (w : List ℕ) : Type 0 where
+  pub numbered : all (all (isNumbered v)) cs ≡ true
+  pub held : Held v (coded cs) 0 len w
+  pub prefers : Prefers v v first w
+  pub calm : Calm v (coded cs) 0 len w
+  pub forces : Forces v (coded cs) [] (trail w v len)
+
+pub record Startable (v len : ℕ) (w : List ℕ) : Type 0 where
+  pub clauses : List PropClause
+  pub first : ℕ → Bool
+  pub started : Started v clauses first len w
+
+-- From w to w′, every clause was looked at once: a search can start, or a clause is wholly false.
+pub record Begun (v : ℕ) (cs : List PropClause) (first : ℕ → Bool) (len : ℕ) (clash : Bool) (w w′ : List ℕ) : Type 0 where
+  pub frame : Frame v (length cs) w w′
+  pub started : clash ≡ false → Started v cs first len w′
+  pub failed : clash ≡ true → walked v cs first .answer ≡ none
+
+-- r is the lowest of the first v numbers that is 0, or v
+pub record LowestUnset (v : ℕ) (w : List ℕ) (r : ℕ) : Type 0 where
+  pub within : r ≤ v
+  pub below : (y : ℕ) → y < r → getD w y 0 ≡ 0 → ⊥
+  pub unset : r < v → getD w r 0 ≡ 0
+
+-- the literal of variable x that is tried first
+abbrev pub preferred : ℕ → ℕ → List ℕ → ℕ
+preferred v x w = cond (eqb (getD w (6 * v + x) 0) 1) (2 * x) (2 * x + 1)
+
+-- w with the weights of the clauses that have the literal of entry n raised by its part
+abbrev pub floated : ℕ → ℕ → List ℕ → List ℕ
+floated v n w =
+    changed (more (64 * sinking v n w + 1)) (slice (getD w (2 * v + 2 * sinking v n w) 0) (getD w (2 * v + 2 * sinking v n w + 1) 0) w) w
+
+-- the newest of len entries is taken off
+pub record Popped (v : ℕ) (cs : List (List ℕ)) (head len : ℕ) (w : List ℕ) (head′ : ℕ) (w′ : List ℕ) : Type 0 where
+  pub held : Held v cs head′ (len - 1) w′
+  pub frame : Frame v (length cs) w w′
+  pub same : trail w′ v (len - 1) ≡ trail w v (len - 1)
+
+-- the number of entries made false in their clauses, after the newest of len is off
+pub record Lowered (head len head′ : ℕ) : Type 0 where
+  pub down : len - 1 < head → head′ ≡ len - 1
+  pub kept : head ≤ len - 1 → head′ ≡ head
+
+-- back to the latest open choice, or none is open
+pub record Returned (v : ℕ) (cs : List (List ℕ)) (head len : ℕ) (w : List ℕ) (head′ len′ : ℕ) (found : Bool) (w′ : List ℕ) : Type 0 where
+  pub held : Held v cs head′ len′ w′
+  pub frame : Frame v (length cs) w w′
+  pub back : found ≡ true → BackTo (trail w v len) (trail w′ v len′)
+  pub level : found ≡ true → OpenUnder head (trail w v len) → head′ + 1 ≡ len′
+  pub closed : found ≡ false → Closed (trail w v len)
