@@ -4,3 +4,4 @@ pub mod Grammar
 pub mod Clauses
 pub mod Lines
 pub mod Symbols
+pub mod Sections

@@ -5,3 +5,4 @@ pub mod lines;
 pub mod names;
 pub mod symbols;
 pub mod words;
+pub mod sections;
