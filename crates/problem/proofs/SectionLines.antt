@@ -1,17 +1,17 @@
 -- Symbol lines one after the other: what is left gives what all give.
 use Prim.Native.Nat.{ℕ, suc, _+_, _-_, _≤_, _<_}
 use mathlib.Core.Path.{_≡_, refl, sym, ap, _∙_}
-use mathlib.Core.Bool.{Bool, true, false, cond, _&&_}
+use mathlib.Core.Bool.{Bool, true, cond, _&&_}
 use mathlib.Core.List.{List, [], _∷_, _++_, map, map-append}
 use native.Mathlib.Omega.{arith}
-use lib.Dec.{eqb, leb}
+use lib.Dec.{leb}
 use lib.ListN.{length, take, drop, length-take, length-append}
 use lib.Seq.{length-take-le}
 use borrow.Author.Tests.{le-leb, ne-eqb}
 use Rattle.theory.specs.Lists.{all}
 use Rattle.theory.specs.Syntax.{Kind}
 use Rattle.theory.specs.Syntax as theory
-use Rattle.theory.specs.Refusals.{Answer, answer, refused, atLine}
+use Rattle.theory.specs.Refusals.{answer, refused, atLine}
 use Rattle.theory.specs.Problem.{maxSymbols, countLine, symbolLines}
 use Rattle.theory.proofs.Tests.{and-join}
 use Rattle.theory.proofs.Lists.{all-append}
@@ -23,9 +23,9 @@ use Rattle.problem.specs.declared.symbols.SymbolLine.the-variants.{Read,
 use Rattle.problem.specs.declared.lines.CountLine.the-variants as count
 use Rattle.problem.specs.declared.sections.Section.{Section}
 use Rattle.problem.specs.Lines.{CountRead}
-use Rattle.problem.specs.Names.{Limited, Readable}
+use Rattle.problem.specs.Names.{Readable}
 use Rattle.problem.specs.Symbols.{SymbolRead}
-use Rattle.problem.specs.Sections.{Rest, linesFrom, sectionFrom, SectionRead}
+use Rattle.problem.specs.Sections.{linesFrom, sectionFrom, SectionRead}
 
 -- one symbol more
 module _ (sheet : List ℕ) (s r : Signature) (y : Symbol) (h : Readable sheet s) (count : r .count ≡ s .count + 1) (symbols : take (r .count) (r .symbols) ≡ take (s .count) (s .symbols) ++ (y ∷ [])) where
@@ -87,8 +87,8 @@ module _ (sheet : List ℕ) (at line : ℕ) (key : List ℕ) (k : Kind) (n : ℕ
             count = omega (arith, z .count);
             inside = h .within .1 .1;
             rest = first ∙ sym (h .read (n - (i + 1)) (line + i))
-              ∙ ap (λ (g : theory.Signature). symbolLines (n - (i + 1)) key k g (suc (line + i)) (drop after sheet)) (sym (signatureIn-more sheet s r y (z .readable) count symbols))
-              ∙ ap (λ (m : ℕ). symbolLines (n - (i + 1)) key k (signatureIn sheet r) m (drop after sheet)) e;
+                ∙ ap (λ (g : theory.Signature). symbolLines (n - (i + 1)) key k g (suc (line + i)) (drop after sheet)) (sym (signatureIn-more sheet s r y (z .readable) count symbols))
+                ∙ ap (λ (m : ℕ). symbolLines (n - (i + 1)) key k (signatureIn sheet r) m (drop after sheet)) e;
           }
 
       -- the next line is faulty
@@ -98,7 +98,7 @@ module _ (sheet : List ℕ) (at line : ℕ) (key : List ℕ) (k : Kind) (n : ℕ
       faults f h =
           record {
             read = ap (λ (b : Bool). cond b (answer (signatureIn sheet s, line + i, drop next sheet)) (refused (atLine f (line + i)))) (ne-eqb f 0 (h .within))
-              ∙ sym (bind-refused (symbolLines n key k (signatureIn sheet before) line (drop at sheet)) _ (atLine f (line + i)) (first ∙ sym (h .read (n - (i + 1)) (line + i))));
+                ∙ sym (bind-refused (symbolLines n key k (signatureIn sheet before) line (drop at sheet)) _ (atLine f (line + i)) (first ∙ sym (h .read (n - (i + 1)) (line + i))));
             readable = z .readable;
             count = omega (arith, z .count);
             line = omega arith;
@@ -111,7 +111,7 @@ module _ (sheet : List ℕ) (at line : ℕ) (key : List ℕ) (k : Kind) (n : ℕ
         let e : n - i ≡ 0 = omega arith in
         record {
           read = sym (bind-step (symbolLines n key k (signatureIn sheet before) line (drop at sheet)) _ (signatureIn sheet s, drop next sheet) _
-            (z .rest ∙ ap (λ (m : ℕ). symbolLines m key k (signatureIn sheet s) (line + i) (drop next sheet)) e) refl);
+              (z .rest ∙ ap (λ (m : ℕ). symbolLines m key k (signatureIn sheet s) (line + i) (drop next sheet)) e) refl);
           readable = z .readable;
           count = omega (arith, z .count, z .within);
           line = omega arith;
@@ -126,7 +126,7 @@ module _ (sheet : List ℕ) (at line : ℕ) (counting key : List ℕ) (k : Kind)
   uncounted f h readable l =
       record {
         read = ap (λ (b : Bool). cond b (answer (signatureIn sheet before, line, drop at sheet)) (refused (atLine f line))) (ne-eqb f 0 (h .within))
-          ∙ sym (bind-refused (countLine counting maxSymbols line (drop at sheet)) _ (atLine f line) (sym (h .read line)));
+            ∙ sym (bind-refused (countLine counting maxSymbols line (drop at sheet)) _ (atLine f line) (sym (h .read line)));
         readable = readable;
         count = omega arith;
         line = omega arith;

@@ -3,6 +3,6 @@ pub mod clause;
 pub mod grammar;
 pub mod lines;
 pub mod names;
+pub mod sections;
 pub mod symbols;
 pub mod words;
-pub mod sections;

@@ -8,10 +8,6 @@ use Rattle.problem.proofs.SectionLines.{uncounted, counted}
 use borrow.Author.Needs.{needs}
 use Rattle.problem.proofs.sections.read_section.Statement.{statement}
 use Rattle.problem.proofs.sections.read_section.Tie as tie
-use Rattle.problem.proofs.sections.read_section.Reads as reads
-use Rattle.problem.proofs.sections.read_section.Lts as lts
-use Rattle.problem.proofs.lines.count_line.Reads as count-line-reads
-use Rattle.problem.proofs.sections.symbol_lines.Reads as symbol-lines-reads
 
 count-line-requires : tie.Need-count-line-requires
 count-line-requires c κs = search needs

@@ -6,10 +6,6 @@ use Rattle.syntax.specs.Signatures.{kindOf}
 use Rattle.problem.proofs.SectionLines.{Reached, begins, turn, faults, ends}
 use Rattle.problem.proofs.sections.symbol_lines.Statement.{statement}
 use Rattle.problem.proofs.sections.symbol_lines.Tie as tie
-use Rattle.problem.proofs.sections.symbol_lines.Reads as reads
-use Rattle.problem.proofs.sections.symbol_lines.Lts as lts
-use Rattle.problem.proofs.symbols.symbol_line.Reads as symbol-line-reads
-use Rattle.syntax.proofs.signature.Signature.with.Reads as with-reads
 
 abbrev Inv-loop : tie.InvT-loop
 Inv-loop sheet at line key function n signature₀ next₀ i₀ signature next i = Reached sheet at line key (kindOf function) n signature₀ signature next i
