@@ -5,7 +5,7 @@ use syntax::signature::Signature;
 ghost use mathlib.Core.List.{List};
 ghost use Prim.Native.Nat.{_≤_, ℕ};
 ghost use Rattle.syntax.specs.Signatures.{signatureIn};
-ghost use Rattle.problem.specs.Names.{Limited};
+ghost use Rattle.clauses.specs.Names.{Limited};
 ghost use Rattle.interpretation.specs.Tables.{TablesOf};
 
 // Each symbol's arity, whether it is a function, and the number of its first cell.

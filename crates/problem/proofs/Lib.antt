@@ -1,10 +1,3 @@
-pub mod Held
-pub mod Naming
-pub mod Fixed
-pub mod OneWord
-pub mod Automaton
-pub mod Passing
-pub mod Going
 pub mod KeyLines
 pub mod NameBytes
 pub mod Declaring

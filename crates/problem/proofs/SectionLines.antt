@@ -23,7 +23,7 @@ use Rattle.problem.specs.declared.symbols.SymbolLine.the-variants.{Read,
 use Rattle.problem.specs.declared.lines.CountLine.the-variants as count
 use Rattle.problem.specs.declared.sections.Section.{Section}
 use Rattle.problem.specs.Lines.{CountRead}
-use Rattle.problem.specs.Names.{Readable}
+use Rattle.clauses.specs.Names.{Readable}
 use Rattle.problem.specs.Symbols.{SymbolRead}
 use Rattle.problem.specs.Sections.{linesFrom, sectionFrom, SectionRead}
 

@@ -10,7 +10,7 @@ use Rattle.theory.specs.Refusals.{Answer, answer, refused, atLine, _>>=_}
 use Rattle.theory.specs.Problem.{maxSymbols, countLine, symbolLines}
 use Rattle.syntax.specs.Signatures.{signatureIn}
 use Rattle.problem.specs.declared.sections.Section.{Section}
-use Rattle.problem.specs.Names.{Readable}
+use Rattle.clauses.specs.Names.{Readable}
 
 -- the symbols after those of g, the number of the line after them, and the text from there on
 abbrev pub Rest : Type 0

@@ -8,7 +8,7 @@ use syntax::signature::Signature;
 ghost use Prim.Native.Nat.{_+_, _^_, _≤_, _<_};
 ghost use lib.ListN.{length, drop};
 ghost use Rattle.syntax.specs.Signatures.{kindOf, signatureIn};
-ghost use Rattle.problem.specs.Names.{Readable};
+ghost use Rattle.clauses.specs.Names.{Readable};
 ghost use Rattle.problem.specs.Sections.{linesFrom, sectionFrom, SectionRead};
 
 // The symbols after those before them, the place of the next line and its number; or the number of the refusal, else 0, and its line.

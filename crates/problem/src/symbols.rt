@@ -1,7 +1,7 @@
 // A line that declares a symbol: its name, then / and one digit.
 use crate::lines::KeyLine;
 use crate::lines::key_line;
-use crate::names::find_name;
+use clauses::names::find_name;
 use syntax::limits::Problem;
 use syntax::signature::Signature;
 use syntax::signature::Symbol;
@@ -11,7 +11,7 @@ ghost use Prim.Native.Nat.{_≤_, _<_};
 ghost use lib.ListN.{length};
 ghost use Rattle.theory.specs.Problem.{isLower, isNameByte, isName};
 ghost use Rattle.syntax.specs.Signatures.{kindOf, signatureIn};
-ghost use Rattle.problem.specs.Names.{Readable};
+ghost use Rattle.clauses.specs.Names.{Readable};
 ghost use Rattle.problem.specs.Symbols.{ValueDeclared, SymbolRead};
 
 // A symbol and the place of the next line, or the number of the refusal.

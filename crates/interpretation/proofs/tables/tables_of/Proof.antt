@@ -7,7 +7,7 @@ use native.Mathlib.Numerals.{add-one}
 use native.Mathlib.Omega.{arith}
 use lib.ListN.{length, getD}
 use Rattle.syntax.specs.Signatures.{signatureIn}
-use Rattle.problem.proofs.Held.{blank, arity-at, count-signatureIn, symbolAt-signatureIn}
+use Rattle.clauses.proofs.Held.{blank, arity-at, count-signatureIn, symbolAt-signatureIn}
 use Rattle.interpretation.proofs.Tabling.{Tabled, table-within, none-tabled, one-tabled, all-tabled}
 use Rattle.interpretation.proofs.tables.tables_of.Statement.{statement}
 use Rattle.interpretation.proofs.tables.tables_of.Tie as tie

@@ -1,0 +1,107 @@
+-- What is due after one word, by the word's code.
+use Prim.Native.Nat.{ℕ, suc, _+_, _-_, _≤_, _<_}
+use mathlib.Core.Path.{_≡_, refl, sym, ap, _∙_}
+use mathlib.Core.Logic.{_⊎_, inl, inr}
+use mathlib.Core.Bool.{Bool, true, false, cond, _&&_, _||_}
+use mathlib.Core.Option.{Option, none, some}
+use mathlib.Core.List.{List}
+use native.Mathlib.Omega.{arith}
+use lib.Dec.{eqb, ltb, leb}
+use lib.ListN.{getD}
+use borrow.Author.Tests.{eqb-true, ltb-true, leb-true, ne-eqb}
+use Rattle.theory.specs.Syntax.{Kind, symbolAt}
+use Rattle.theory.specs.Syntax as theory
+use Rattle.theory.specs.Grammar.{Word, equals, symbol, letter, terms, atom, Due, dueAfterFunction, dueAfterPredicate, dueAfter}
+use Rattle.theory.proofs.Tests.{or-cases, and-left}
+use Rattle.syntax.specs.declared.signature.Signature.{Signature}
+use Rattle.syntax.specs.Signatures.{kindOf, signatureIn}
+use Rattle.syntax.specs.Codes.{wordOf}
+use Rattle.syntax.proofs.Codes.{wordOf-symbol, wordOf-letter}
+use Rattle.clauses.specs.Names.{Limited}
+use Rattle.clauses.specs.Words.{isFixed, isCode}
+use Rattle.clauses.proofs.Held.{blank, symbolAt-signatureIn}
+
+-- where nothing is due, no word but a sign can stand
+pub no-sign : (g : theory.Signature) (c : ℕ) → (c ≡ 43 → ⊥) → (c ≡ 45 → ⊥) → none ≡ dueAfter g (terms 0) (wordOf c)
+no-sign g c h k = rw (ne-eqb c 43 h, ne-eqb c 45 k) (go (eqb c 61) (ltb c 65))
+  where
+    go : (e s : Bool) → none ≡ dueAfter g (terms 0) (cond e equals (cond s (symbol c) (letter (c - 65))))
+    go true s = refl
+    go false true = refl
+    go false false = refl
+
+pub plus-sign : (g : theory.Signature) (c : ℕ) → c ≡ 43 → some atom ≡ dueAfter g (terms 0) (wordOf c)
+plus-sign g c e = ap (λ (n : ℕ). dueAfter g (terms 0) (wordOf n)) (sym e)
+
+pub minus-sign : (g : theory.Signature) (c : ℕ) → c ≡ 45 → some atom ≡ dueAfter g (terms 0) (wordOf c)
+minus-sign g c e = ap (λ (n : ℕ). dueAfter g (terms 0) (wordOf n)) (sym e)
+
+-- the codes of words
+code-cases : {P : Type 0} (n c : ℕ) → (c < n → P) → (c ≡ 43 → P) → (c ≡ 45 → P) → (c ≡ 61 → P) → (65 ≤ c → P) → isCode n c ≡ true → P
+code-cases {P} n c name plus minus equality variable e = first (or-cases (ltb c n) (isFixed c) e)
+  where
+    fourth : (eqb c 61 ≡ true) ⊎ ((leb 65 c && ltb c 73) ≡ true) → P
+    fourth (inl e) = equality (eqb-true c 61 e)
+    fourth (inr e) = variable (leb-true 65 c (and-left (leb 65 c) (ltb c 73) e))
+
+    third : (eqb c 45 ≡ true) ⊎ ((eqb c 61 || (leb 65 c && ltb c 73)) ≡ true) → P
+    third (inl e) = minus (eqb-true c 45 e)
+    third (inr e) = fourth (or-cases (eqb c 61) (leb 65 c && ltb c 73) e)
+
+    second : (eqb c 43 ≡ true) ⊎ ((eqb c 45 || (eqb c 61 || (leb 65 c && ltb c 73))) ≡ true) → P
+    second (inl e) = plus (eqb-true c 43 e)
+    second (inr e) = third (or-cases (eqb c 45) (eqb c 61 || (leb 65 c && ltb c 73)) e)
+
+    first : (ltb c n ≡ true) ⊎ (isFixed c ≡ true) → P
+    first (inl e) = name (ltb-true c n e)
+    first (inr e) = second (or-cases (eqb c 43) (eqb c 45 || (eqb c 61 || (leb 65 c && ltb c 73))) e)
+
+module _ (n c : ℕ) (small : n ≤ 24) (coded : isCode n c ≡ true) where
+  -- the codes below 43 are those of symbols
+  pub symbol-code : c < 43 → c < n
+  symbol-code h = code-cases n c (λ l. l) (λ e. absurd (omega arith)) (λ e. absurd (omega arith)) (λ e. absurd (omega arith)) (λ l. absurd (omega arith)) coded
+
+  module _ (g : theory.Signature) where
+    -- neither a sign nor = is a term
+    pub no-term : (m : ℕ) → 43 ≤ c → c < 65 → none ≡ dueAfter g (terms (suc m)) (wordOf c)
+    no-term m h k = code-cases n c (λ l. absurd (omega arith)) (at refl) (at refl) (at refl) (λ l. absurd (omega arith)) coded
+      where
+        at : {k : ℕ} → none ≡ dueAfter g (terms (suc m)) (wordOf k) → c ≡ k → none ≡ dueAfter g (terms (suc m)) (wordOf c)
+        at e h = e ∙ ap (λ (n : ℕ). dueAfter g (terms (suc m)) (wordOf n)) (sym h)
+
+    -- neither a sign nor a letter is an atom
+    pub no-atom : (c ≡ 61 → ⊥) → 43 ≤ c → none ≡ dueAfter g atom (wordOf c)
+    no-atom ne h = code-cases n c (λ l. absurd (omega arith)) (at refl) (at refl) (λ e. absurd (ne e)) (λ l. ap (dueAfter g atom) (sym (wordOf-letter c l))) coded
+      where
+        at : {k : ℕ} → none ≡ dueAfter g atom (wordOf k) → c ≡ k → none ≡ dueAfter g atom (wordOf c)
+        at e h = e ∙ ap (λ (n : ℕ). dueAfter g atom (wordOf n)) (sym h)
+
+-- a letter is a term
+pub letter-term : (g : theory.Signature) (c m : ℕ) → 65 ≤ c → some (terms m) ≡ dueAfter g (terms (suc m)) (wordOf c)
+letter-term g c m h = ap (dueAfter g (terms (suc m))) (sym (wordOf-letter c h))
+
+pub equals-atom : (g : theory.Signature) (c : ℕ) → c ≡ 61 → some (terms 2) ≡ dueAfter g atom (wordOf c)
+equals-atom g c e = ap (λ (n : ℕ). dueAfter g atom (wordOf n)) (sym e)
+
+module _ (sheet : List ℕ) (s : Signature) (h : Limited s) (c : ℕ) (below : c < 43) (held : c < s .count) where
+  -- a symbol where a term, and where an atom, is due
+  after-symbol : (d : Due) (f : Kind → ℕ → Option Due) → ((i : ℕ) → dueAfter (signatureIn sheet s) d (symbol i) ≡ f (symbolAt (signatureIn sheet s) i .kind) (symbolAt (signatureIn sheet s) i .arity))
+      → dueAfter (signatureIn sheet s) d (wordOf c) ≡ f (kindOf (getD (s .symbols) c blank .function)) (getD (s .symbols) c blank .arity)
+  after-symbol d f e =
+      ap (dueAfter (signatureIn sheet s) d) (wordOf-symbol c below) ∙ e c ∙ ap (λ (y : theory.Symbol). f (y .kind) (y .arity)) (symbolAt-signatureIn s h sheet c held)
+
+  pub function-term : (m : ℕ) → getD (s .symbols) c blank .function ≡ true → some (terms (getD (s .symbols) c blank .arity + m)) ≡ dueAfter (signatureIn sheet s) (terms (suc m)) (wordOf c)
+  function-term m e = sym (after-symbol (terms (suc m)) (λ k a. dueAfterFunction k a m) (λ i. refl) ∙ ap (λ (b : Bool). dueAfterFunction (kindOf b) (getD (s .symbols) c blank .arity) m) e)
+
+  pub predicate-no-term : (m : ℕ) → getD (s .symbols) c blank .function ≡ false → none ≡ dueAfter (signatureIn sheet s) (terms (suc m)) (wordOf c)
+  predicate-no-term m e = sym (after-symbol (terms (suc m)) (λ k a. dueAfterFunction k a m) (λ i. refl) ∙ ap (λ (b : Bool). dueAfterFunction (kindOf b) (getD (s .symbols) c blank .arity) m) e)
+
+  pub function-no-atom : getD (s .symbols) c blank .function ≡ true → none ≡ dueAfter (signatureIn sheet s) atom (wordOf c)
+  function-no-atom e = sym (after-symbol atom dueAfterPredicate (λ i. refl) ∙ ap (λ (b : Bool). dueAfterPredicate (kindOf b) (getD (s .symbols) c blank .arity)) e)
+
+  pub predicate-atom : getD (s .symbols) c blank .function ≡ false → some (terms (getD (s .symbols) c blank .arity)) ≡ dueAfter (signatureIn sheet s) atom (wordOf c)
+  predicate-atom e = sym (after-symbol atom dueAfterPredicate (λ i. refl) ∙ ap (λ (b : Bool). dueAfterPredicate (kindOf b) (getD (s .symbols) c blank .arity)) e)
+
+-- a number of terms due that is not 0
+pub some-due : (g : theory.Signature) (n : ℕ) (w : Word) (d : Option Due) → (n ≡ 0 → ⊥) → d ≡ dueAfter g (terms (suc (n - 1))) w → d ≡ dueAfter g (terms n) w
+some-due g n w d h e = let p : suc (n - 1) ≡ n = omega arith in e ∙ ap (λ (k : ℕ). dueAfter g (terms k) w) p

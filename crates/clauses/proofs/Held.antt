@@ -1,0 +1,50 @@
+-- Laws of a sheet's symbols as the code holds them: the symbol at a place, one symbol more.
+use Prim.Native.Nat.{ℕ, _+_, _≤_, _<_}
+use mathlib.Core.Path.{_≡_, sym, ap, _∙_}
+use mathlib.Core.Bool.{Bool, false}
+use mathlib.Core.List.{List}
+use native.Mathlib.Omega.{arith}
+use lib.Dec.{leb}
+use lib.ListN.{length, getD, take}
+use lib.Seq.{getD-take, length-take-le}
+use Rattle.theory.specs.Syntax.{symbolAt, noSymbol}
+use Rattle.theory.proofs.Tests.{leb-true}
+use Rattle.theory.proofs.Lists.{all-at, map-at}
+use Rattle.syntax.specs.declared.signature.Symbol.{Symbol}
+use Rattle.syntax.specs.declared.signature.Signature.{Signature}
+use Rattle.syntax.specs.Signatures.{symbolIn, signatureIn}
+use Rattle.syntax.proofs.Signatures.{length-signatureIn}
+use Rattle.clauses.specs.Names.{Limited, Readable}
+
+-- what stands past the symbols
+abbrev pub blank : Symbol
+blank = record { function = false; arity = 0; name = 0; length = 0 }
+
+module _ (s : Signature) (h : Limited s) where
+  front : length (take (s .count) (s .symbols)) ≡ s .count
+  front = length-take-le (s .count) (s .symbols) (h .held)
+
+  pub arity-at : (i : ℕ) → i < s .count → getD (s .symbols) i blank .arity ≤ 3
+  arity-at i l =
+      leb-true (getD (s .symbols) i blank .arity) 3
+      (ap (λ (y : Symbol). leb (y .arity) 3) (sym (getD-take (s .count) (s .symbols) i blank l))
+      ∙ all-at (λ (y : Symbol). leb (y .arity) 3) blank (take (s .count) (s .symbols)) i (h .arities) (omega (arith, front)))
+
+  pub count-signatureIn : (sheet : List ℕ) → length (signatureIn sheet s) ≡ s .count
+  count-signatureIn sheet = length-signatureIn sheet s (h .held)
+
+  pub symbolAt-signatureIn : (sheet : List ℕ) (i : ℕ) → i < s .count → symbolAt (signatureIn sheet s) i ≡ symbolIn sheet (getD (s .symbols) i blank)
+  unfolding signatureIn
+  symbolAt-signatureIn sheet i l =
+      map-at (symbolIn sheet) (take (s .count) (s .symbols)) i blank noSymbol (omega (arith, front))
+      ∙ ap (symbolIn sheet) (getD-take (s .count) (s .symbols) i blank l)
+
+pub name-within : (sheet : List ℕ) (s : Signature) → Readable sheet s → (i : ℕ) → i < s .count
+    → getD (s .symbols) i blank .name + getD (s .symbols) i blank .length ≤ length sheet
+name-within sheet s h i l =
+    leb-true (getD (s .symbols) i blank .name + getD (s .symbols) i blank .length) (length sheet)
+    (ap within (sym (getD-take (s .count) (s .symbols) i blank l))
+    ∙ all-at within blank (take (s .count) (s .symbols)) i (h .names) (omega (arith, front s (h .limited))))
+  where
+    within : Symbol → Bool
+    within y = leb (y .name + y .length) (length sheet)

@@ -1,0 +1,48 @@
+-- What was read of a clause line's words.
+use Prim.Native.Nat.{ℕ, _*_, _≤_, _<_}
+use mathlib.Core.Path.{_≡_}
+use mathlib.Core.Bool.{true, false}
+use mathlib.Core.Option.{none, some}
+use mathlib.Core.List.{List, [], _∷_, _++_, map}
+use lib.ListN.{length, take}
+use Rattle.theory.specs.Lists.{sum}
+use Rattle.theory.specs.Syntax.{Signature}
+use Rattle.theory.specs.Grammar.{Word, sign, equals, symbol, letter, terms}
+use Rattle.theory.specs.Lines.{wordsOf}
+use Rattle.theory.specs.Problem.{maxWords, readAll}
+use Rattle.theory.specs.Problem as theory
+use Rattle.syntax.specs.Codes.{wordOf}
+use Rattle.clauses.specs.declared.clause.Words.{Words}
+use Rattle.clauses.specs.Grammar.{dueIn, pending, dueAfterAll}
+
+-- the number of signs that a word is
+abbrev pub signCount : Word → ℕ
+signCount (sign b) = 1
+signCount equals = 0
+signCount (symbol i) = 0
+signCount (letter x) = 0
+
+-- the counts are small enough to go on
+pub record Bounded (w : Words) : Type 0 where
+  pub count : 2 * w .count < 9223372036854775808
+  pub literals : w .literals ≤ w .count
+  pub pending : pending (w .due) ≤ 3 * w .count
+
+-- w is what was read of the words ws
+pub record Passed (g : Signature) (ws : List Word) (w : Words) : Type 0 where
+  pub count : w .count ≡ length ws
+  pub held : length (w .words) ≡ maxWords
+  pub codes : map wordOf (take (w .count) (w .words)) ≡ take maxWords ws
+  pub literals : w .literals ≡ sum (map signCount ws)
+  pub due : dueIn (w .due) ≡ dueAfterAll g (some (terms 0)) ws
+  pub pending : pending (w .due) ≤ 3 * w .count
+
+-- r is what was read after one word more than w
+pub record WordTaken (g : Signature) (word : List ℕ) (w r : Words) : Type 0 where
+  pub unknown : r .unknown ≡ true → theory.wordOf g word ≡ none
+  pub known : r .unknown ≡ false → (x : Word) × (theory.wordOf g word ≡ some x) × ((ws : List Word) → Passed g ws w → Passed g (ws ++ (x ∷ [])) r)
+
+-- r is what was read of the value's words
+pub record WordsRead (g : Signature) (value : List ℕ) (r : Words) : Type 0 where
+  pub unknown : r .unknown ≡ true → readAll g (wordsOf value) ≡ none
+  pub known : r .unknown ≡ false → (ws : List Word) × (readAll g (wordsOf value) ≡ some ws) × Passed g ws r

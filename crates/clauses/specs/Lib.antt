@@ -1,0 +1,4 @@
+pub mod Names
+pub mod Words
+pub mod Grammar
+pub mod Clauses

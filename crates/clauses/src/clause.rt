@@ -1,0 +1,113 @@
+// A clause line's words: read to their codes, held to the grammar and to the limits.
+use crate::grammar::Due;
+use crate::grammar::after;
+use crate::words::Word;
+use crate::words::word_of;
+use syntax::limits::Problem;
+use syntax::signature::Signature;
+use text::lines::word_end;
+ghost use mathlib.Core.Path.{_≡_};
+ghost use mathlib.Core.Bool.{true, false};
+ghost use mathlib.Core.List.{List, [], _∷_, _++_};
+ghost use Prim.Native.Nat.{ℕ, _+_, _≤_, _<_, _^_, _*_};
+ghost use lib.ListN.{set};
+ghost use Rattle.theory.specs.Grammar as theory;
+ghost use Rattle.syntax.specs.Signatures.{signatureIn};
+ghost use Rattle.syntax.specs.Codes.{wordOf};
+ghost use Rattle.clauses.specs.Names.{Limited, Readable};
+ghost use Rattle.clauses.specs.Words.{isCode};
+ghost use Rattle.clauses.specs.Clauses.{signCount, Bounded, Passed, WordTaken, WordsRead};
+
+// What was read of a line: the codes of its first 64 words, how many words and signs, what is due, whether a word was unknown.
+pub struct Words {
+    pub words: [u8; Problem::MAX_WORDS],
+    pub count: usize,
+    pub literals: usize,
+    pub due: Due,
+    pub unknown: bool,
+}
+
+// The words of a line, however many.
+fn read_words(sheet: &[u8], signature: Signature, value: &[u8]) -> Words
+    requires { ⌜ Readable (now sheet) signature ⌝ }
+    ensures { λ r. ⌜ WordsRead (signatureIn (now (sheet .entry)) signature) (now (value .entry)) r ⌝ }
+{
+    let mut w = Words {
+        words: [0; Problem::MAX_WORDS],
+        count: 0,
+        literals: 0,
+        due: Due::Terms(0),
+        unknown: false,
+    };
+    if value.len() == 0 {
+        return w;
+    }
+    let mut at: usize = 0;
+    while at <= value.len() {
+        let end = word_end(value, at);
+        w = with_word(sheet, signature, w, &value[at..end]);
+        if w.unknown {
+            return w;
+        }
+        at = end + 1;
+    }
+    w
+}
+
+// One word more.
+fn with_word(sheet: &[u8], signature: Signature, w: Words, word: &[u8]) -> Words
+    requires { ⌜ Readable (now sheet) signature × Bounded w ⌝ }
+    ensures { λ r. ⌜ WordTaken (signatureIn (now (sheet .entry)) signature) (now (word .entry)) w r ⌝ }
+{
+    match word_of(sheet, signature, word) {
+        Word::Code(code) => with_code(signature, w, code),
+        Word::Unknown => with_unknown(w),
+    }
+}
+
+fn with_unknown(mut w: Words) -> Words
+    ensures { λ r. ⌜ r .unknown ≡ true ⌝ }
+{
+    w.unknown = true;
+    w
+}
+
+fn with_code(signature: Signature, w: Words, code: u8) -> Words
+    requires { ⌜ Limited signature × ((isCode (signature .count) code ≡ true) × Bounded w) ⌝ }
+    ensures known { λ r. ⌜ r .unknown ≡ false ⌝ }
+    ensures passed { λ r. ⌜ ((sheet : List ℕ) (ws : List theory.Word) → Passed (signatureIn sheet signature) ws w → Passed (signatureIn sheet signature) (ws ++ (wordOf code ∷ [])) r) ⌝ }
+{
+    let words = w.words;
+    let due = w.due;
+    Words {
+        words: stored(words, w.count, code),
+        count: w.count + 1,
+        literals: w.literals + signs(code),
+        due: after(signature, due, code),
+        unknown: false,
+    }
+}
+
+// The code in its place, if there is one.
+fn stored(mut words: [u8; Problem::MAX_WORDS], n: usize, code: u8) -> [u8; Problem::MAX_WORDS]
+    ensures { λ r. ⌜ r ≡ set words n code ⌝ }
+{
+    if Problem::MAX_WORDS <= n {
+        return words;
+    }
+    words[n] = code;
+    words
+}
+
+// How many signs the word is.
+fn signs(code: u8) -> usize
+    ensures { λ r. ⌜ r ≡ signCount (wordOf code) ⌝ }
+{
+    if code == 43 {
+        return 1;
+    }
+    if code == 45 {
+        return 1;
+    }
+    0
+}
