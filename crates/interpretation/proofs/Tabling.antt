@@ -1,25 +1,21 @@
 -- The tables of the first symbols, one symbol more at a time.
-use Prim.Native.Nat.{ℕ, suc, _+_, _*_, _^_, _≤_, _<_}
+use Prim.Native.Nat.{ℕ, zero, suc, _+_, _*_, _^_, _≤_, _<_}
 use mathlib.Core.Path.{_≡_, refl, sym, ap, _∙_, subst}
 use mathlib.Core.Bool.{false}
 use mathlib.Core.List.{List}
-use native.Mathlib.Nat.{le-trans, pow-le-pow-left, pow-le-pow-right}
 use native.Mathlib.Decide.{ℕ-discrete}
 use native.Mathlib.Omega.{arith}
 use lib.ListN.{length, getD, set, replicate, length-set}
 use lib.Seq.{getD-set-same, getD-set-other}
 use Rattle.theory.specs.Syntax.{symbolAt}
 use Rattle.theory.specs.Syntax as theory
-use Rattle.theory.specs.Cells.{tableSize, cellBase}
+use Rattle.theory.specs.Cells.{tableSize, cellBase, cellCount}
 use Rattle.theory.proofs.Numbering.{cellBase-suc, cellBase-length}
 use Rattle.syntax.specs.declared.signature.Symbol.{Symbol}
-use Rattle.syntax.specs.Signatures.{kindOf, symbolIn}
+use Rattle.syntax.specs.Signatures.{kindOf, symbolIn, Small}
 use Rattle.interpretation.specs.declared.tables.Tables.{Tables}
 use Rattle.interpretation.specs.Tables.{TablesOf}
-
--- a table has at most 512 cells
-pub table-within : (s a : ℕ) → s ≤ 8 → a ≤ 3 → s ^ a ≤ 512
-table-within s a h l = le-trans (pow-le-pow-left h a) (pow-le-pow-right (omega arith) l)
+use Rattle.interpretation.proofs.Ranks.{table-within}
 
 -- the tables of the first i symbols
 pub record Tabled (g : theory.Signature) (s : ℕ) (t : Tables) (i : ℕ) : Type 0 where
@@ -82,3 +78,12 @@ all-tabled g s t few p =
       base = p .base;
       cells = p .cells ∙ cellBase-length s g;
     }
+
+-- a small signature has at most 512 cells for each symbol
+pub base-within : (g : theory.Signature) (s i : ℕ) → s ≤ 8 → Small g → i ≤ length g → cellBase s g i ≤ 512 * i
+base-within g s zero h small l = omega arith
+base-within g s (suc i) h small l =
+    omega (arith, base-within g s i h small (omega arith), cellBase-suc s g i (omega arith), table-within s (symbolAt g i .arity) h (small .arities i (omega arith)))
+
+pub cellCount-small : (g : theory.Signature) (s : ℕ) → s ≤ 8 → Small g → cellCount s g ≤ 12288
+cellCount-small g s h small = omega (arith, base-within g s (length g) h small (omega arith), cellBase-length s g, small .symbols)

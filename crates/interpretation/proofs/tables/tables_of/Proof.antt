@@ -8,7 +8,8 @@ use native.Mathlib.Omega.{arith}
 use lib.ListN.{length, getD}
 use Rattle.syntax.specs.Signatures.{signatureIn}
 use Rattle.clauses.proofs.Held.{blank, arity-at, count-signatureIn, symbolAt-signatureIn}
-use Rattle.interpretation.proofs.Tabling.{Tabled, table-within, none-tabled, one-tabled, all-tabled}
+use Rattle.interpretation.proofs.Ranks.{table-within}
+use Rattle.interpretation.proofs.Tabling.{Tabled, none-tabled, one-tabled, all-tabled}
 use Rattle.interpretation.proofs.tables.tables_of.Statement.{statement}
 use Rattle.interpretation.proofs.tables.tables_of.Tie as tie
 use Rattle.interpretation.proofs.tables.tables_of.Reads as reads
