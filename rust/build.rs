@@ -18,6 +18,8 @@ fn main() {
     let folder = archive.parent().expect("a file stands in a folder");
     println!("cargo::rustc-link-search=native={}", folder.display());
     println!("cargo::rustc-link-lib=static={}", library_name(&archive));
+    // for the test that links it from C
+    println!("cargo::rustc-env=NESSKETTLE_ARCHIVE={}", archive.display());
 }
 
 fn archive() -> PathBuf {

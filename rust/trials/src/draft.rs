@@ -159,7 +159,12 @@ impl Draft {
 
     fn clause(&self, random: &mut Random, style: Style) -> Vec<String> {
         let mut words = Vec::new();
-        for _ in 0..random.between(0, style.literals) {
+        let count = match random.below(12) {
+            0 => 0,
+            1..=4 if !self.functions.is_empty() => return self.inequality(random, style),
+            _ => random.between(1, style.literals),
+        };
+        for _ in 0..count {
             let letters = random.between(1, style.letters);
             words.push(if random.once_in(2) { "+" } else { "-" }.to_string());
             if self.predicates.is_empty() || random.once_in(2) {
@@ -174,16 +179,28 @@ impl Draft {
         words
     }
 
+    /// Two function terms over one letter are not equal: there is no model of size 1, but mostly one of another.
+    fn inequality(&self, random: &mut Random, style: Style) -> Vec<String> {
+        let mut words = vec!["-".to_string(), "=".to_string()];
+        self.application(random, 1, style.depth, &mut words);
+        self.application(random, 1, style.depth, &mut words);
+        words
+    }
+
     fn terms(&self, random: &mut Random, count: usize, letters: usize, depth: usize, words: &mut Vec<String>) {
         for _ in 0..count {
             if depth == 0 || self.functions.is_empty() || random.once_in(2) {
                 words.push(LETTERS[random.below(letters)].to_string());
             } else {
-                let function = random.pick(&self.functions);
-                words.push(function.name.clone());
-                self.terms(random, function.arity, letters, depth - 1, words);
+                self.application(random, letters, depth, words);
             }
         }
+    }
+
+    fn application(&self, random: &mut Random, letters: usize, depth: usize, words: &mut Vec<String>) {
+        let function = random.pick(&self.functions);
+        words.push(function.name.clone());
+        self.terms(random, function.arity, letters, depth - 1, words);
     }
 
     /// The sheet's bytes.

@@ -1,0 +1,95 @@
+//! The command `nesskettle`: the five operations for people.
+//!
+//! It reads files, lends buffers and prints; every answer is the library's.
+
+mod find;
+mod options;
+mod report;
+mod room;
+mod tables;
+
+use options::Command;
+use report::{Failure, File};
+use std::io::Write;
+use std::process::ExitCode;
+
+/// The answer is found, yes, or a text.
+const YES: u8 = 0;
+/// The answer is none or no.
+const NO: u8 = 1;
+/// Refused, or the command was not called as it must be.
+const REFUSED: u8 = 2;
+
+fn main() -> ExitCode {
+    let answered = options::parse(std::env::args().skip(1)).and_then(run);
+    let status = answered.unwrap_or_else(|failure| {
+        eprintln!("nesskettle: {failure}");
+        REFUSED
+    });
+    ExitCode::from(status)
+}
+
+fn run(command: Command) -> Result<u8, Failure> {
+    match command {
+        Command::Help => print(options::HELP.as_bytes()),
+        Command::Version => print(concat!("nesskettle ", env!("CARGO_PKG_VERSION"), "\n").as_bytes()),
+        Command::Check { sheet } => check(&File::read(&sheet)?),
+        Command::Judge { sheet, case } => judge(&File::read(&sheet)?, &File::read(&case)?),
+        Command::Clauses { sheet, size } => clauses(&File::read(&sheet)?, size),
+        Command::ReadBack {
+            sheet,
+            size,
+            setting,
+            tables,
+        } => read_back(&File::read(&sheet)?, size, &File::read(&setting)?, tables),
+        Command::Find {
+            sheet,
+            low,
+            high,
+            tables,
+        } => find::find(&File::read(&sheet)?, low, high, tables),
+    }
+}
+
+fn check(sheet: &File) -> Result<u8, Failure> {
+    let counts = nesskettle::read(&sheet.bytes).map_err(|r| sheet.refused(r))?;
+    let functions = counted(counts.functions, "function");
+    let predicates = counted(counts.predicates, "predicate");
+    let clauses = counted(counts.clauses, "clause");
+    print(format!("{functions}, {predicates}, {clauses}\n").as_bytes())
+}
+
+fn counted(count: u64, what: &str) -> String {
+    let plural = if count == 1 { "" } else { "s" };
+    format!("{count} {what}{plural}")
+}
+
+fn judge(sheet: &File, case: &File) -> Result<u8, Failure> {
+    let yes = nesskettle::judge(&sheet.bytes, &case.bytes).map_err(|r| report::judge_refused(r, sheet, case))?;
+    print(if yes { b"yes\n" } else { b"no\n" })?;
+    Ok(if yes { YES } else { NO })
+}
+
+fn clauses(sheet: &File, size: u64) -> Result<u8, Failure> {
+    let text = room::text(|output| nesskettle::write(&sheet.bytes, size, output)).map_err(|r| sheet.refused(r))?;
+    print(&text)
+}
+
+fn read_back(sheet: &File, size: u64, setting: &File, tables: bool) -> Result<u8, Failure> {
+    let setting = setting.digits()?;
+    let read = |output: &mut [u8]| nesskettle::read_back(&sheet.bytes, size, &setting, output);
+    let case = room::text(read).map_err(|r| sheet.refused(r))?;
+    if tables {
+        print(tables::tables(&sheet.bytes, &case).as_bytes())
+    } else {
+        print(&case)
+    }
+}
+
+/// Prints an answer that is no "no".
+fn print(text: &[u8]) -> Result<u8, Failure> {
+    let mut out = std::io::stdout().lock();
+    let written = out.write_all(text).and_then(|()| out.flush());
+    written.map_err(|e| Failure(format!("cannot write the answer: {e}")))?;
+    Ok(YES)
+}

@@ -1,0 +1,165 @@
+//! The command line.
+
+use crate::report::Failure;
+
+pub const HELP: &str = "\
+nesskettle: a finite model finder. Every answer is the proved library's.
+
+  nesskettle find SHEET [--low N] [--high N] [--tables]
+      the least model at the smallest size from low to high (1 and 8 if not given):
+      prints answer=found and the case, or answer=none and settled=yes or settled=no
+  nesskettle judge SHEET CASE
+      is the case a model of the sheet? prints yes or no
+  nesskettle clauses SHEET --size N
+      prints the sheet's clauses at a size, as DIMACS text for a SAT solver
+  nesskettle read-back SHEET --size N SETTING [--tables]
+      prints the case that a setting of the propositional variables stands for
+  nesskettle check SHEET
+      is it a sheet? prints how many functions, predicates and clauses it has
+  nesskettle --help, nesskettle --version
+
+SHEET, CASE and SETTING are files; one of them may be -, standard input.
+
+A SETTING file holds one digit, 0 or 1, for each propositional variable, in
+order. Spaces, tabs and line ends between the digits do not count.
+
+--tables prints a case as tables: rows are first arguments, columns are last
+ones, and three arguments make one table for each first argument. A predicate's
+table has 1 where it holds and . where it does not.
+
+Where standard error is a terminal, find tells there which size it is at.
+
+A refused sheet or case is told with the refusal's number, what is wrong, the
+line's number and the line.
+
+Exit status: 0 found, yes, or printed; 1 none or no; 2 refused or called wrongly.
+";
+
+#[derive(Debug, PartialEq, Eq)]
+pub enum Command {
+    Help,
+    Version,
+    Check {
+        sheet: String,
+    },
+    Judge {
+        sheet: String,
+        case: String,
+    },
+    Clauses {
+        sheet: String,
+        size: u64,
+    },
+    ReadBack {
+        sheet: String,
+        size: u64,
+        setting: String,
+        tables: bool,
+    },
+    Find {
+        sheet: String,
+        low: u64,
+        high: u64,
+        tables: bool,
+    },
+}
+
+/// What the arguments ask for.
+pub fn parse(arguments: impl Iterator<Item = String>) -> Result<Command, Failure> {
+    let mut rest = Rest(arguments.collect());
+    if rest.flag("--help") || rest.flag("-h") {
+        return Ok(Command::Help);
+    }
+    if rest.flag("--version") {
+        return Ok(Command::Version);
+    }
+    if rest.0.is_empty() {
+        return Err(wrong("no command was given"));
+    }
+    match rest.0.remove(0).as_str() {
+        "check" => {
+            let [sheet] = rest.files("SHEET")?;
+            Ok(Command::Check { sheet })
+        }
+        "judge" => {
+            let [sheet, case] = rest.files("SHEET CASE")?;
+            Ok(Command::Judge { sheet, case })
+        }
+        "clauses" => {
+            let size = rest.size()?;
+            let [sheet] = rest.files("SHEET")?;
+            Ok(Command::Clauses { sheet, size })
+        }
+        "read-back" => {
+            let size = rest.size()?;
+            let tables = rest.flag("--tables");
+            let [sheet, setting] = rest.files("SHEET SETTING")?;
+            Ok(Command::ReadBack {
+                sheet,
+                size,
+                setting,
+                tables,
+            })
+        }
+        "find" => {
+            let low = rest.number("--low")?.unwrap_or(1);
+            let high = rest.number("--high")?.unwrap_or(8);
+            let tables = rest.flag("--tables");
+            let [sheet] = rest.files("SHEET")?;
+            Ok(Command::Find {
+                sheet,
+                low,
+                high,
+                tables,
+            })
+        }
+        other => Err(wrong(&format!("there is no command {other}"))),
+    }
+}
+
+/// The arguments that are not used yet.
+struct Rest(Vec<String>);
+
+impl Rest {
+    /// Takes the flag out, if it is there.
+    fn flag(&mut self, name: &str) -> bool {
+        let before = self.0.len();
+        self.0.retain(|word| word != name);
+        self.0.len() < before
+    }
+
+    /// Takes `NAME N` out, if it is there.
+    fn number(&mut self, name: &str) -> Result<Option<u64>, Failure> {
+        let Some(at) = self.0.iter().position(|word| word == name) else {
+            return Ok(None);
+        };
+        self.0.remove(at);
+        let value = if at < self.0.len() {
+            self.0.remove(at)
+        } else {
+            String::new()
+        };
+        let number = value.parse().map_err(|_| wrong(&format!("{name} takes a number")))?;
+        Ok(Some(number))
+    }
+
+    fn size(&mut self) -> Result<u64, Failure> {
+        self.number("--size")?.ok_or(wrong("--size N is needed"))
+    }
+
+    /// All that is left, which must be as many files as the command takes.
+    fn files<const N: usize>(self, names: &str) -> Result<[String; N], Failure> {
+        if let Some(option) = self.0.iter().find(|word| word.len() > 1 && word.starts_with('-')) {
+            return Err(wrong(&format!(
+                "{option} is no option of this command, or stands there twice"
+            )));
+        }
+        self.0
+            .try_into()
+            .map_err(|_| wrong(&format!("the command takes {names}")))
+    }
+}
+
+fn wrong(what: &str) -> Failure {
+    Failure(format!("{what} (nesskettle --help says more)"))
+}

@@ -1,0 +1,50 @@
+//! Buffers as long as a call says that it needs.
+
+use nesskettle::{Reason, Refusal, Search};
+
+/// The text of a call that writes one: called once to be told the length, and once more.
+pub fn text(mut call: impl FnMut(&mut [u8]) -> Result<usize, Refusal>) -> Result<Vec<u8>, Refusal> {
+    let mut output = Vec::new();
+    loop {
+        match call(&mut output) {
+            Err(refusal) if refusal.reason == Reason::OutputTooShort => output = vec![0; refusal.needed as usize],
+            Err(refusal) => return Err(refusal),
+            Ok(length) => {
+                output.truncate(length);
+                return Ok(output);
+            }
+        }
+    }
+}
+
+/// Work area and output of a search.
+#[derive(Default)]
+pub struct Room {
+    work: Vec<u32>,
+    pub output: Vec<u8>,
+}
+
+impl Room {
+    /// The room that a search up to `high` needs. No size is searched: each call here lends too little.
+    pub fn new(sheet: &[u8], low: u64, high: u64) -> Result<Room, Refusal> {
+        let mut room = Room::default();
+        loop {
+            let refusal = match nesskettle::find(sheet, low, high, &mut room.work, &mut []) {
+                Err(refusal) => refusal,
+                Ok(_) => return Ok(room),
+            };
+            match refusal.reason {
+                Reason::WorkTooShort => room.work = vec![0; refusal.needed as usize],
+                Reason::OutputTooShort => {
+                    room.output = vec![0; refusal.needed as usize];
+                    return Ok(room);
+                }
+                _ => return Err(refusal),
+            }
+        }
+    }
+
+    pub fn find(&mut self, sheet: &[u8], low: u64, high: u64) -> Result<Search, Refusal> {
+        nesskettle::find(sheet, low, high, &mut self.work, &mut self.output)
+    }
+}

@@ -1,0 +1,56 @@
+/* The five operations from C: each is called once, and what it answers is held to the specification's first example. */
+#include "nesskettle.h"
+
+#include <stdio.h>
+#include <string.h>
+
+static int failures = 0;
+
+static void expect(int holds, const char *what) {
+    if (!holds) {
+        printf("not so: %s\n", what);
+        failures++;
+    }
+}
+
+static int text_is(const uint8_t *bytes, uint64_t length, const char *text) {
+    return length == strlen(text) && memcmp(bytes, text, length) == 0;
+}
+
+int main(void) {
+    static const char text[] = "sheet=1\nfuns=2\nfun=a/0\nfun=b/0\npreds=0\nclauses=1\nclause=- = a b\n";
+    static const char least[] = "case=1\nsize=2\na=1\nb=2\n";
+    const uint8_t *sheet = (const uint8_t *)text;
+    const size_t sheet_length = strlen(text);
+    uint8_t output[100];
+    uint32_t work[1000];
+
+    nk_read_answer read = nk_read(sheet, sheet_length);
+    expect(read.outcome == NK_READ && read.funs == 2 && read.preds == 0 && read.clauses == 1, "the sheet is read");
+    read = nk_read(sheet, sheet_length - 2);
+    expect(read.outcome == NK_REFUSED && read.reason == NK_LAYOUT && read.line == 7, "a cut sheet is refused");
+
+    nk_judge_answer judged = nk_judge(sheet, sheet_length, (const uint8_t *)least, strlen(least));
+    expect(judged.outcome == NK_YES && judged.reason == 0 && judged.line == 0, "the least model is judged one");
+
+    nk_write_answer written = nk_write(sheet, sheet_length, 2, output, sizeof output);
+    expect(written.outcome == NK_WRITTEN, "the clauses are written");
+    expect(text_is(output, written.length, "p cnf 4 6\n1 2 0\n-1 -2 0\n3 4 0\n-3 -4 0\n-3 -1 0\n-4 -2 0\n"),
+           "the clauses are those of the specification");
+
+    const uint8_t setting[] = {0, 1, 1, 0};
+    written = nk_read_back(sheet, sheet_length, 2, setting, sizeof setting, output, 10);
+    expect(written.reason == NK_OUTPUT_TOO_SHORT && written.length == 22, "a short output is refused");
+    written = nk_read_back(sheet, sheet_length, 2, setting, sizeof setting, output, sizeof output);
+    expect(text_is(output, written.length, "case=1\nsize=2\na=2\nb=1\n"), "the setting is read back");
+
+    nk_find_answer found = nk_find(sheet, sheet_length, 1, 3, work, 1000, output, sizeof output);
+    expect(found.outcome == NK_FOUND && found.size == 2 && found.settled == 0, "a model of size 2 is found");
+    expect(text_is(output, found.length, least), "it is the least one");
+    found = nk_find(sheet, sheet_length, 1, 1, work, 1000, output, sizeof output);
+    expect(found.outcome == NK_NONE && found.settled == 0 && found.length == 0, "there is none of size 1");
+
+    printf("%zu %zu %zu %zu\n", sizeof(nk_read_answer), sizeof(nk_judge_answer), sizeof(nk_write_answer),
+           sizeof(nk_find_answer));
+    return failures;
+}

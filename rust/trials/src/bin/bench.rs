@@ -1,0 +1,201 @@
+//! Times each operation on the proved library and on the reference, on the same inputs, in one run.
+//!
+//! Prints medians of processor time, which other work on the machine disturbs little, and their ratio.
+//!
+//!     cargo run --release -p nesskettle-trials --bin bench [RUNS]
+
+use nesskettle_reference as reference;
+use nesskettle_trials::problems::{sheet, GROUP_CASE, MILLION};
+use nesskettle_trials::random::Random;
+use reference::{Operations, Search};
+use std::time::Duration;
+
+/// How many times each measurement is taken where the command line does not say.
+const RUNS: usize = 5;
+
+fn main() {
+    let runs = std::env::args().nth(1).and_then(|n| n.parse().ok()).unwrap_or(RUNS);
+    let bench = Bench { runs };
+    println!("{:<44}{:>12}{:>12}{:>8}  rate", "", "nesskettle", "reference", "ratio");
+    read(&bench);
+    judge(&bench);
+    write(&bench);
+    read_back(&bench);
+    find(&bench);
+}
+
+struct Bench {
+    runs: usize,
+}
+
+impl Bench {
+    /// One row: the work is done `times` times in each measurement, and the two take turns. The rate is how much of
+    /// `amount` the library does in a second.
+    fn row(&self, name: &str, times: u32, amount: Option<(f64, &str)>, mut work: impl FnMut(&Operations)) {
+        let mut measure = |operations: &Operations| {
+            let start = processor_time();
+            (0..times).for_each(|_| work(operations));
+            (processor_time() - start).as_secs_f64() / times as f64
+        };
+        let mut library = Vec::new();
+        let mut plain = Vec::new();
+        for _ in 0..self.runs {
+            library.push(measure(&nesskettle::OPERATIONS));
+            plain.push(measure(&reference::OPERATIONS));
+        }
+        let (library, plain) = (median(library), median(plain));
+        let rate = amount.map_or(String::new(), |(amount, unit)| {
+            format!("{:.0} {unit}/s", amount / library)
+        });
+        let row = format!(
+            "{name:<44}{:>12}{:>12}{:>8.2}  {rate}",
+            shown(library),
+            shown(plain),
+            library / plain
+        );
+        println!("{}", row.trim_end());
+    }
+}
+
+fn median(mut times: Vec<f64>) -> f64 {
+    times.sort_by(f64::total_cmp);
+    times[times.len() / 2]
+}
+
+fn shown(seconds: f64) -> String {
+    match seconds {
+        s if s < 1e-3 => format!("{:.2} us", s * 1e6),
+        s if s < 1.0 => format!("{:.2} ms", s * 1e3),
+        s => format!("{s:.2} s"),
+    }
+}
+
+/// The processor time that this thread has used.
+fn processor_time() -> Duration {
+    #[repr(C)]
+    struct Timespec {
+        seconds: i64,
+        nanoseconds: i64,
+    }
+    extern "C" {
+        fn clock_gettime(clock: i32, time: *mut Timespec) -> i32;
+    }
+    const CLOCK_THREAD_CPUTIME_ID: i32 = 3;
+    let mut time = Timespec {
+        seconds: 0,
+        nanoseconds: 0,
+    };
+    // SAFETY: the call writes one timespec, which is laid out as on 64-bit Linux.
+    let failed = unsafe { clock_gettime(CLOCK_THREAD_CPUTIME_ID, &mut time) };
+    assert!(failed == 0, "there is no such clock");
+    Duration::new(time.seconds as u64, time.nanoseconds as u32)
+}
+
+/// A sheet from its declarations and clauses.
+fn sheet_of(functions: &[String], predicates: &[String], clauses: &[String]) -> Vec<u8> {
+    let mut text = format!("sheet=1\nfuns={}\n", functions.len());
+    functions.iter().for_each(|f| text += &format!("fun={f}\n"));
+    text += &format!("preds={}\n", predicates.len());
+    predicates.iter().for_each(|p| text += &format!("pred={p}\n"));
+    text += &format!("clauses={}\n", clauses.len());
+    clauses.iter().for_each(|c| text += &format!("clause={c}\n"));
+    text.into_bytes()
+}
+
+fn read(bench: &Bench) {
+    let small = sheet("two-constants");
+    bench.row("read, 7 lines", 10_000, None, |o| assert!((o.read)(small).is_ok()));
+    let clause = "+ longer A B".to_string() + &" - = f A B".repeat(12);
+    let large = sheet_of(&["f/1".to_string()], &["longer/2".to_string()], &vec![clause; 64]);
+    let kilobytes = large.len() as f64 / 1e3;
+    let name = format!("read, 64 clauses of 64 words, {kilobytes:.1} kB");
+    bench.row(&name, 100, Some((kilobytes / 1e3, "MB")), |o| {
+        assert!((o.read)(&large).is_ok())
+    });
+}
+
+fn judge(bench: &Bench) {
+    let group = sheet("group");
+    bench.row("judge, group of 6", 1_000, None, |o| {
+        assert_eq!((o.judge)(group, GROUP_CASE), Ok(true))
+    });
+    let clause = "+ p A B C + p D E F - = G H + = f G H f H G".to_string();
+    let sheet = sheet_of(&["f/2".to_string()], &["p/3".to_string()], &[clause]);
+    let mut random = Random::new(6);
+    let mut values = |count: usize, least: usize, most: usize| {
+        let values: Vec<String> = (0..count).map(|_| random.between(least, most).to_string()).collect();
+        values.join(" ")
+    };
+    let case = format!("case=1\nsize=8\nf={}\np={}\n", values(64, 1, 8), values(512, 0, 1));
+    let choices = 8f64.powi(8) / 1e6;
+    bench.row(
+        "judge, 8 letters at size 8",
+        1,
+        Some((choices, "million choices")),
+        |o| assert_eq!((o.judge)(&sheet, case.as_bytes()), Ok(true)),
+    );
+}
+
+fn write(bench: &Bench) {
+    write_row(bench, "write, group at size 4", sheet("group"), 4, 100);
+    write_row(bench, "write, lattice at size 6", sheet("lattice"), 6, 3);
+    write_row(bench, "write, 1,000,000 instances", MILLION, 8, 1);
+}
+
+fn write_row(bench: &Bench, name: &str, sheet: &[u8], size: u64, times: u32) {
+    let length = reference::write(sheet, size, &mut []).expect_err("no room").needed as usize;
+    let mut output = vec![0; length];
+    bench.row(name, times, Some((length as f64 / 1e6, "MB")), |o| {
+        assert_eq!((o.write)(sheet, size, &mut output), Ok(length));
+    });
+}
+
+fn read_back(bench: &Bench) {
+    let functions: Vec<String> = (0..12).map(|i| format!("f{i}/3")).collect();
+    let predicates: Vec<String> = (0..12).map(|i| format!("p{i}/3")).collect();
+    let sheet = sheet_of(&functions, &predicates, &[]);
+    let mut random = Random::new(7);
+    let mut setting = Vec::new();
+    for _ in 0..12 * 512 {
+        let result = random.below(8);
+        setting.extend((0..8).map(|d| (d == result) as u8));
+    }
+    setting.extend((0..12 * 512).map(|_| random.below(2) as u8));
+    let mut output = vec![0; 24_902];
+    let amount = Some((setting.len() as f64 / 1e6, "million variables"));
+    bench.row("read back, 24 tables of 512 at size 8", 20, amount, |o| {
+        assert!((o.read_back)(&sheet, 8, &setting, &mut output).is_ok())
+    });
+}
+
+fn find(bench: &Bench) {
+    for (name, size, times) in [
+        ("group", 4, 5),
+        ("group", 5, 1),
+        ("group", 6, 1),
+        ("exponent-2", 6, 1),
+        ("quasigroup-5", 8, 5),
+        ("quasigroup-3", 7, 1),
+        ("quasigroup-3", 8, 1),
+        ("pigeonhole", 8, 1),
+        ("serial-order", 6, 20),
+        ("tournament", 6, 20),
+        ("steiner", 7, 20),
+        ("lattice", 4, 1),
+        ("lattice", 5, 1),
+    ] {
+        let sheet = sheet(name);
+        let (work, output) = reference::needed(sheet, size).expect("it is a sheet");
+        let mut work = vec![0; work as usize];
+        let mut output = vec![0; output as usize];
+        let expected = reference::find(sheet, size, size, &mut work, &mut output);
+        let outcome = if matches!(expected, Ok(Search::Found { .. })) {
+            "found"
+        } else {
+            "none"
+        };
+        bench.row(&format!("find, {name} at size {size}, {outcome}"), times, None, |o| {
+            assert_eq!((o.find)(sheet, size, size, &mut work, &mut output), expected);
+        });
+    }
+}

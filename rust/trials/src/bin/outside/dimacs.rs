@@ -1,0 +1,48 @@
+//! DIMACS text with more clauses, and assignments as settings.
+
+pub struct Dimacs {
+    pub text: Vec<u8>,
+    variables: usize,
+    clauses: usize,
+    /// Where the clauses begin.
+    body: usize,
+}
+
+impl Dimacs {
+    /// The text that Write left.
+    pub fn new(text: Vec<u8>) -> Self {
+        let body = 1 + text.iter().position(|&b| b == b'\n').expect("the header is a line");
+        let header = String::from_utf8_lossy(&text[..body]).into_owned();
+        let counts = header
+            .trim_end()
+            .strip_prefix("p cnf ")
+            .and_then(|counts| counts.split_once(' '));
+        let (variables, clauses) = counts.expect("the header has two counts");
+        let number = |text: &str| text.parse().expect("a count is a number");
+        Dimacs {
+            variables: number(variables),
+            clauses: number(clauses),
+            body,
+            text,
+        }
+    }
+
+    /// The clauses, and each of these numbers as one more clause.
+    pub fn with_units(&self, units: &[i32]) -> Vec<u8> {
+        let mut text = format!("p cnf {} {}\n", self.variables, self.clauses + units.len()).into_bytes();
+        text.extend_from_slice(&self.text[self.body..]);
+        for unit in units {
+            text.extend_from_slice(format!("{unit} 0\n").as_bytes());
+        }
+        text
+    }
+
+    /// The setting of an assignment. A variable that the solver leaves out may be either: no.
+    pub fn setting(&self, numbers: &[i32]) -> Vec<u8> {
+        let mut setting = vec![0; self.variables];
+        for &number in numbers.iter().filter(|&&n| n > 0) {
+            setting[number as usize - 1] = 1;
+        }
+        setting
+    }
+}

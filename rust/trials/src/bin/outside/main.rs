@@ -1,0 +1,229 @@
+//! Nesskettle against outside solvers: minisat and picosat on the clauses that Write leaves, cvc5 on the sheet's own
+//! clauses as TPTP text. `tests/outside/run` builds and runs this.
+//!
+//! Checked for each sheet and size:
+//! - a solver satisfies the clauses exactly if Find finds a model of that size;
+//! - a solver's assignment, as a setting, is read back as a case that Judge calls a model;
+//! - no model comes before the found one: with the cells before some cell as found, no smaller value of that cell is
+//!   satisfiable, and with all cells as found the clauses are;
+//!
+//! and for each sheet that the smallest size found is cvc5's.
+
+mod dimacs;
+mod sheet;
+mod solvers;
+
+use dimacs::Dimacs;
+use nesskettle::Search;
+use nesskettle_trials::draft::{Draft, BROAD, SMALL};
+use nesskettle_trials::problems;
+use nesskettle_trials::random::Random;
+use sheet::Sheet;
+use solvers::{Outcome, Smallest, Solver, Solvers};
+use std::process::ExitCode;
+
+/// How many sheets are generated.
+const GENERATED: usize = 500;
+/// The largest size of a generated sheet, and of a named problem.
+const TOP: u64 = 4;
+const NAMED_TOP: u64 = 6;
+/// Sizes with more instances are left out, and so are searches with more choices.
+const INSTANCES: u64 = 50_000;
+const CHOICES: u64 = 20_000;
+
+fn main() -> ExitCode {
+    let mut trial = Trial {
+        solvers: Solvers::new(),
+        passed: 0,
+        failed: 0,
+        undecided: 0,
+        smallest: [0; 9],
+    };
+    for problem in problems::ALL {
+        trial.sheet(problem.sheet, NAMED_TOP);
+    }
+    for example in EXAMPLES {
+        trial.sheet(example.as_bytes(), TOP);
+    }
+    let mut random = Random::new(8);
+    for round in 0..GENERATED {
+        let style = if round % 4 == 0 { BROAD } else { SMALL };
+        trial.sheet(&Draft::random(&mut random, style).sheet(), TOP);
+    }
+    let sizes = (1..=NAMED_TOP as usize).map(|size| format!("{} at {size}", trial.smallest[size]));
+    println!(
+        "smallest models: {}, none {}",
+        sizes.collect::<Vec<_>>().join(", "),
+        trial.smallest[0]
+    );
+    println!("cvc5 left {} sheets undecided in its time", trial.undecided);
+    println!("{} passed, {} failed", trial.passed, trial.failed);
+    ExitCode::from((trial.failed > 0) as u8)
+}
+
+/// The specification's examples, as sheets.
+const EXAMPLES: [&str; 7] = [
+    "sheet=1\nfuns=3\nfun=a/0\nfun=b/0\nfun=f/2\npreds=1\npred=p/2\nclauses=1\nclause=+ p f a b f b a\n",
+    "sheet=1\nfuns=0\npreds=0\nclauses=1\nclause=+ = A B\n",
+    "sheet=1\nfuns=0\npreds=0\nclauses=1\nclause=- = A B\n",
+    "sheet=1\nfuns=0\npreds=0\nclauses=1\nclause=\n",
+    "sheet=1\nfuns=0\npreds=0\nclauses=0\n",
+    "sheet=1\nfuns=1\nfun=f/1\npreds=0\nclauses=1\nclause=- = f A A\n",
+    "sheet=1\nfuns=1\nfun=a/0\npreds=1\npred=p/1\nclauses=2\nclause=+ p a\nclause=- p A + = A a\n",
+];
+
+struct Trial {
+    solvers: Solvers,
+    passed: usize,
+    failed: usize,
+    undecided: usize,
+    /// How many sheets have their smallest model at each size; at 0 those that have none.
+    smallest: [usize; 9],
+}
+
+impl Trial {
+    /// All checks of one sheet at the sizes up to `top`. A sheet that is refused is left out.
+    fn sheet(&mut self, bytes: &[u8], top: u64) {
+        if nesskettle::read(bytes).is_err() {
+            return;
+        }
+        let sheet = Sheet::new(bytes);
+        let mut smallest = None;
+        let mut searched = 0;
+        for size in (1..=top).take_while(|&size| manageable(bytes, size)) {
+            searched = size;
+            let found = self.size(&sheet, size);
+            if found && smallest.is_none() {
+                smallest = Some(size);
+            }
+        }
+        self.smallest_size(&sheet, searched, smallest);
+        self.smallest[smallest.unwrap_or(0) as usize] += 1;
+    }
+
+    /// The checks at one size; whether a model was found.
+    fn size(&mut self, sheet: &Sheet, size: u64) -> bool {
+        let dimacs = Dimacs::new(text(|output| nesskettle::write(&sheet.bytes, size, output)));
+        let found = find(&sheet.bytes, size, size);
+        for solver in Solver::BOTH {
+            let outcome = self.solvers.run(solver, &dimacs.text);
+            let satisfiable = matches!(outcome, Outcome::Satisfiable(_));
+            let decided = !matches!(outcome, Outcome::Undecided);
+            self.check(decided && satisfiable == found.is_some(), sheet, size, solver.name());
+            if let Outcome::Satisfiable(numbers) = outcome {
+                let is_model = self.reads_back_as_model(sheet, size, &dimacs.setting(&numbers));
+                self.check(is_model, sheet, size, &format!("{}'s assignment", solver.name()));
+            }
+        }
+        if let Some(case) = &found {
+            let is_least = self.is_least(sheet, size as usize, &dimacs, case);
+            self.check(is_least, sheet, size, "the found model is the least");
+        }
+        found.is_some()
+    }
+
+    fn reads_back_as_model(&self, sheet: &Sheet, size: u64, setting: &[u8]) -> bool {
+        let case = text(|output| nesskettle::read_back(&sheet.bytes, size, setting, output));
+        nesskettle::judge(&sheet.bytes, &case) == Ok(true)
+    }
+
+    /// Asks a solver, for each cell of the found model that could be smaller, for a model with the cells before as found
+    /// and this one smaller; and at last for the found model itself.
+    fn is_least(&mut self, sheet: &Sheet, size: usize, dimacs: &Dimacs, case: &[u8]) -> bool {
+        let mut as_found = Vec::new();
+        for (cell, solver) in sheet.cells(size, case).iter().zip(Solver::BOTH.into_iter().cycle()) {
+            if let Some(smaller) = cell.smaller() {
+                let units = [as_found.as_slice(), &smaller].concat();
+                if !matches!(
+                    self.solvers.run(solver, &dimacs.with_units(&units)),
+                    Outcome::Unsatisfiable
+                ) {
+                    return false;
+                }
+            }
+            as_found.push(cell.as_found());
+        }
+        matches!(
+            self.solvers.run(Solver::Minisat, &dimacs.with_units(&as_found)),
+            Outcome::Satisfiable(_)
+        )
+    }
+
+    /// cvc5's smallest model against the sizes that were searched, from 1 on.
+    fn smallest_size(&mut self, sheet: &Sheet, searched: u64, smallest: Option<u64>) {
+        if searched == 0 {
+            return;
+        }
+        let whole = find(&sheet.bytes, 1, searched).map(|case| sheet::size(&case));
+        self.check(
+            whole == smallest,
+            sheet,
+            searched,
+            "Find over all sizes and size by size",
+        );
+        let agrees = match self.solvers.smallest_model(&sheet.tptp()) {
+            Smallest::Undecided => {
+                self.undecided += 1;
+                return;
+            }
+            Smallest::Size(n) if n <= searched => smallest == Some(n),
+            Smallest::Size(_) | Smallest::None => smallest.is_none(),
+        };
+        self.check(agrees, sheet, searched, "cvc5's smallest model");
+    }
+
+    fn check(&mut self, holds: bool, sheet: &Sheet, size: u64, what: &str) {
+        if holds {
+            self.passed += 1;
+        } else {
+            self.failed += 1;
+            println!(
+                "FAILED at size {size}: {what}\n{}",
+                String::from_utf8_lossy(&sheet.bytes)
+            );
+        }
+    }
+}
+
+/// Is the sheet small enough at this size? The reference says, so that no check waits for a long search.
+fn manageable(sheet: &[u8], size: u64) -> bool {
+    let few = nesskettle_reference::instances_and_variables(sheet, size).is_ok_and(|(i, _)| i <= INSTANCES);
+    let quick = || {
+        let (work, output) = nesskettle_reference::needed(sheet, size).expect("the sheet is accepted");
+        let (mut work, mut output) = (vec![0; work as usize], vec![0; output as usize]);
+        let search = nesskettle_reference::find_within(sheet, size, size, &mut work, &mut output, CHOICES);
+        search.expect("the room is enough").is_some()
+    };
+    few && quick()
+}
+
+/// The text of a call that writes one.
+fn text(mut call: impl FnMut(&mut [u8]) -> Result<usize, nesskettle::Refusal>) -> Vec<u8> {
+    let mut output = Vec::new();
+    loop {
+        match call(&mut output) {
+            Ok(length) => {
+                output.truncate(length);
+                return output;
+            }
+            Err(refusal) if refusal.needed > 0 => output = vec![0; refusal.needed as usize],
+            Err(refusal) => panic!("{refusal}"),
+        }
+    }
+}
+
+/// The found case, if there is one.
+fn find(sheet: &[u8], low: u64, high: u64) -> Option<Vec<u8>> {
+    let (mut work, mut output) = (Vec::new(), Vec::new());
+    loop {
+        match nesskettle::find(sheet, low, high, &mut work, &mut output) {
+            Ok(Search::Found { length, .. }) => return Some(output[..length].to_vec()),
+            Ok(Search::None { .. }) => return None,
+            Err(refusal) if refusal.reason == nesskettle::Reason::WorkTooShort => {
+                work = vec![0; refusal.needed as usize]
+            }
+            Err(refusal) if refusal.needed > 0 => output = vec![0; refusal.needed as usize],
+            Err(refusal) => panic!("{refusal}"),
+        }
+    }
+}
