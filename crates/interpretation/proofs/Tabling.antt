@@ -46,7 +46,7 @@ abbrev pub with : Tables → ℕ → Symbol → ℕ → Tables
 with t i y n = record { arities = set (t .arities) i (y .arity); functions = set (t .functions) i (y .function); bases = set (t .bases) i (t .cells); cells = t .cells + n }
 
 -- the elements at places up to i where the one at i is set
-set-suc : {A : Type 0} (d x : A) (l : List A) (i : ℕ) (P : ℕ → A → Type 0) → i < length l → P i x → ((j : ℕ) → j < i → P j (getD l j d)) → (j : ℕ) → j < suc i → P j (getD (set l i x) j d)
+pub set-suc : {A : Type 0} (d x : A) (l : List A) (i : ℕ) (P : ℕ → A → Type 0) → i < length l → P i x → ((j : ℕ) → j < i → P j (getD l j d)) → (j : ℕ) → j < suc i → P j (getD (set l i x) j d)
 set-suc d x l i P h p q j k = elim (ℕ-discrete j i) [
   | yes e ↦ subst (λ (m : ℕ). P m (getD (set l i x) m d)) (sym e) (subst (λ (a : _). P i a) (sym (getD-set-same l i x d h)) p)
   | no n ↦ subst (λ (a : _). P j a) (sym (getD-set-other l i j x d n)) (q j (omega (arith, n)))

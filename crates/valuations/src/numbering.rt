@@ -1,0 +1,75 @@
+// Propositional variables and their numbering: symbol by symbol, the last argument fastest, a function's cell one for each result.
+use interpretation::vector::power;
+use syntax::limits::Problem;
+use syntax::signature::Signature;
+use syntax::signature::Symbol;
+ghost use mathlib.Core.Path.{_≡_};
+ghost use mathlib.Core.Bool.{cond};
+ghost use mathlib.Core.List.{List};
+ghost use Prim.Native.Nat.{ℕ, _+_, _*_, _^_, _≤_, _<_};
+ghost use Rattle.theory.specs.Propositional as theory;
+ghost use Rattle.syntax.specs.Signatures.{kindOf, signatureIn};
+ghost use Rattle.clauses.specs.Names.{Limited};
+ghost use Rattle.valuations.specs.Numbers.{NumberingOf};
+
+// A propositional variable, counted from 0 here; the texts count from 1.
+pub struct PropVar(pub u32);
+
+// A propositional literal as one number: 2x says yes to variable x, 2x + 1 says no.
+pub fn literal(x: PropVar, positive: bool) -> u32
+    requires { ⌜ x .0 < 2 ^ 31 ⌝ }
+    ensures { λ r. ⌜ r ≡ 2 * x .0 + cond positive 0 1 ⌝ }
+{
+    if positive {
+        return 2 * x.0;
+    }
+    2 * x.0 + 1
+}
+
+// Each symbol's first propositional variable, and how many a cell of it has.
+pub struct Numbering {
+    pub bases: [u32; Problem::MAX_SYMBOLS],
+    pub widths: [u32; Problem::MAX_SYMBOLS],
+    // V: the number of all propositional variables
+    pub count: u32,
+}
+
+pub fn numbering_of(signature: Signature, size: usize) -> Numbering
+    requires { ⌜ Limited signature × (size ≤ 8) ⌝ }
+    ensures { λ r. ⌜ ((sheet : List ℕ) → NumberingOf (signatureIn sheet signature) size r) ⌝ }
+{
+    let mut n = Numbering {
+        bases: [0; Problem::MAX_SYMBOLS],
+        widths: [0; Problem::MAX_SYMBOLS],
+        count: 0,
+    };
+    let mut i: usize = 0;
+    while i < signature.count {
+        let symbol = signature.symbols[i];
+        n.bases[i] = n.count;
+        n.widths[i] = width(symbol.function, size);
+        n.count = n.count + block_size(symbol, size);
+        i += 1;
+    }
+    n
+}
+
+// How many variables a cell has.
+pub fn width(function: bool, size: usize) -> u32
+    requires { ⌜ size ≤ 8 ⌝ }
+    ensures { λ r. ⌜ r ≡ theory.width size (kindOf function) ⌝ }
+{
+    if function {
+        return size as u32;
+    }
+    1
+}
+
+// How many variables a symbol has.
+pub fn block_size(symbol: Symbol, size: usize) -> u32
+    requires { ⌜ (symbol .arity ≤ 3) × (size ≤ 8) ⌝ }
+    ensures { λ r. ⌜ r ≡ size ^ symbol .arity * theory.width size (kindOf (symbol .function)) ⌝ }
+{
+    let cells = power(size, symbol.arity as usize) as u32;
+    cells * width(symbol.function, size)
+}
