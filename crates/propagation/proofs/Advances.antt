@@ -21,6 +21,7 @@ use Rattle.propagation.proofs.Frames.{frame-trans, trail-agree, reweigh
 use Rattle.propagation.proofs.Trails.{negated-half, fresh-down, fresh-new}
 use Rattle.propagation.proofs.Lives.{holder-at}
 use Rattle.propagation.proofs.Holds.{lowerable, scannable, reheld, sunk as sunk-is}
+use Rattle.propagation.proofs.Reading.{Read, start-is, end-is, changed-is}
 use Rattle.propagation.proofs.Visits.{Looked, AllQuiet, scan-meaning, quiet-on}
 
 pub holder-has : (x : ℕ) (cs : List (List ℕ)) (a i : ℕ) → i < length cs → elem x (getD cs i []) ≡ true → elem (a + i) (holders a x cs) ≡ true
@@ -164,39 +165,19 @@ module _ (v : ℕ) (cs : List (List ℕ)) (head len : ℕ) (w : List ℕ) (held 
           (calm i h)))
 
 -- the same of the numbers that the code has
-module _ (v : ℕ) (cs : List (List ℕ)) (head len : ℕ) (w : List ℕ) (held : Held v cs head len w) (go : head < len) (f p a b : ℕ) (fe : f ≡ sinking v head w) (pe : p ≡ f) (ae : a ≡ getD w (2 * v + 2 * p) 0) (be : b ≡ getD w (2 * v + 2 * p + 1) 0) where
-  pe′ : p ≡ sinking v head w
-  pe′ = pe ∙ fe
-
-  ae′ : a ≡ getD w (2 * v + 2 * sinking v head w) 0
-  ae′ = ae ∙ ap (λ (n : ℕ). getD w (2 * v + 2 * n) 0) pe′
-
-  be′ : b ≡ getD w (2 * v + 2 * sinking v head w + 1) 0
-  be′ = be ∙ ap (λ (n : ℕ). getD w (2 * v + 2 * n + 1) 0) pe′
-
-  pub code-literal : f < 2 * v
-  code-literal = rw fe (is v cs head len w held go)
-
+module _ (v : ℕ) (cs : List (List ℕ)) (head len : ℕ) (w : List ℕ) (held : Held v cs head len w) (go : head < len) (f p a b : ℕ) (r : Read v head w f p a b) where
   pub code-lower : Addresses (AtLeast (64 * f + 1)) a a b w
-  code-lower = rw (fe, ae′, be′) (sinks v cs head len w held go)
+  code-lower = rw (r .literal, start-is v head w f p a b r, end-is v head w f p a b r) (sinks v cs head len w held go)
 
-  module _ (w₁ : List ℕ) (e₁ : w₁ ≡ changed (less (64 * f + 1)) (slice a b w) w) where
-    e₁′ : w₁ ≡ sunk v (sinking v head w) w
-    e₁′ =
-        e₁
-        ∙ ap (λ (n : ℕ). changed (less (64 * n + 1)) (slice a b w) w) fe
-        ∙ ap (λ (n : ℕ). changed (less (64 * sinking v head w + 1)) (slice n b w) w) ae′
-        ∙ ap (λ (n : ℕ). changed (less (64 * sinking v head w + 1)) (slice (getD w (2 * v + 2 * sinking v head w) 0) n w) w) be′
+  module _ (w₁ : List ℕ) (e : w₁ ≡ changed (less (64 * f + 1)) (slice a b w) w) where
+    sunk-is₁ : w₁ ≡ sunk v (sinking v head w) w
+    sunk-is₁ = e ∙ changed-is v head w f p a b r less
 
     pub code-scan : Scannable v a a b len w₁
-    code-scan =
-        subst⁻¹ (λ (l : List ℕ). Scannable v a a b len l) e₁′
-        (subst⁻¹ (λ (n : ℕ). Scannable v n n b len (sunk v (sinking v head w) w)) ae′
-        (subst⁻¹ (λ (n : ℕ). Scannable v (getD w (2 * v + 2 * sinking v head w) 0) (getD w (2 * v + 2 * sinking v head w) 0) n len (sunk v (sinking v head w) w)) be′
-        (scans v cs head len w held go)))
+    code-scan = rw (sunk-is₁, start-is v head w f p a b r, end-is v head w f p a b r) (scans v cs head len w held go)
 
     pub code-result : scanned v (slice a b w₁) len w₁ ≡ advanced v head len w
     code-result =
-        ap (λ (l : List ℕ). scanned v (slice a b l) len l) e₁′
-        ∙ ap (λ (n : ℕ). scanned v (slice n b (sunk v (sinking v head w) w)) len (sunk v (sinking v head w) w)) ae′
-        ∙ ap (λ (n : ℕ). scanned v (slice (getD w (2 * v + 2 * sinking v head w) 0) n (sunk v (sinking v head w) w)) len (sunk v (sinking v head w) w)) be′
+        ap (λ (l : List ℕ). scanned v (slice a b l) len l) sunk-is₁
+        ∙ ap (λ (n : ℕ). scanned v (slice n b (sunk v (sinking v head w) w)) len (sunk v (sinking v head w) w)) (start-is v head w f p a b r)
+        ∙ ap (λ (n : ℕ). scanned v (slice (getD w (2 * v + 2 * sinking v head w) 0) n (sunk v (sinking v head w) w)) len (sunk v (sinking v head w) w)) (end-is v head w f p a b r)

@@ -9,6 +9,7 @@ pub mod Holds
 pub mod Pushing
 pub mod Truths
 pub mod Visits
+pub mod Reading
 pub mod Advances
 pub mod Turns
 pub mod Once

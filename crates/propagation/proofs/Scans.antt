@@ -147,7 +147,8 @@ Scanned w₀ v from to len n clash w =
     (n ≡ scanned v (slice from to w₀) len w₀ .len) × (clash ≡ scanned v (slice from to w₀) len w₀ .clash) × (w ≡ scanned v (slice from to w₀) len w₀ .mem)
 
 module _ (w₀ : List ℕ) (v from to len : ℕ) (w : List ℕ) (n k : ℕ) (now : Scanning w₀ v from to len w n k) where
-  module _ (go : k < to) (q : ℕ) (at : q ≡ getD w k 0) (n′ : ℕ) (clash : Bool) (w′ : List ℕ) (a : n′ ≡ visited v q n w .len) (b : clash ≡ visited v q n w .clash) (c : w′ ≡ visited v q n w .mem) where
+  module _ (go : k < to) (q : ℕ) (at : q ≡ getD w k 0) (n′ : ℕ) (clash : Bool) (w′ : List ℕ)
+      (a : n′ ≡ visited v q n w .len) (b : clash ≡ visited v q n w .clash) (c : w′ ≡ visited v q n w .mem) where
     pub scanning-length : length w′ ≡ length w₀
     scanning-length = ap length c ∙ onward v from k to n w (now .0) go q at .2 ∙ now .1
 

@@ -31,7 +31,9 @@ module _ (v : ℕ) (cs : List (List ℕ)) (start len : ℕ) (w₀ : List ℕ) (h
     frame′ : Frame v (length cs) w₀ w′
     frame′ = frame-trans (g .frame) (rw we (advance-frame v cs head n w (g .held) go))
 
-    meaning : (calm : Calm v cs start len w₀) → Looked v cs w (head + 1) (trail w v (head + 1)) (trail w v n) (λ l. (i : ℕ) → i < length cs → Quiet (falses (trail w v (head + 1))) l (getD cs i [])) (record { len = n′; clash = clash; mem = w′ })
+    meaning : (calm : Calm v cs start len w₀)
+        → Looked v cs w (head + 1) (trail w v (head + 1)) (trail w v n) (λ l. (i : ℕ) → i < length cs → Quiet (falses (trail w v (head + 1))) l (getD cs i []))
+        (record { len = n′; clash = clash; mem = w′ })
     meaning calm = rw (ne, ke, we) (advance-meaning v cs head n w (g .held) go (g .calm calm))
 
     forces′ : Calm v cs start len w₀ → Forces v cs (trail w₀ v len) (trail w′ v n′)

@@ -173,7 +173,8 @@ pub visit-at : (v : ℕ) (cs : List (List ℕ)) (head n : ℕ) (w hs : List ℕ)
 visit-at v cs head n w hs held first q i is e = rw e (visit-meaning v cs head n w hs held first i is)
 
 -- one clause, and then the rest
-module _ (v : ℕ) (cs : List (List ℕ)) (head : ℕ) (hs : List ℕ) (q : ℕ) (qs : List ℕ) (n : ℕ) (w : List ℕ) (i₀ : ℕ) (at₀ : q ≡ 7 * v + i₀) (one : Looked v cs w head hs (trail w v n) (λ l. Quiet (falses hs) l (getD cs i₀ [])) (visited v q n w)) where
+module _ (v : ℕ) (cs : List (List ℕ)) (head : ℕ) (hs : List ℕ) (q : ℕ) (qs : List ℕ) (n : ℕ) (w : List ℕ) (i₀ : ℕ) (at₀ : q ≡ 7 * v + i₀)
+    (one : Looked v cs w head hs (trail w v n) (λ l. Quiet (falses hs) l (getD cs i₀ [])) (visited v q n w)) where
   abbrev r : Visit
   r = visited v q n w
 

@@ -40,7 +40,8 @@ snoc-length : (pre : List ℕ) (y a : ℕ) → length pre ≡ a → length (pre 
 snoc-length pre y a l = length-append pre (y ∷ []) ∙ rw l (add-one a)
 
 -- f at the addresses of the clauses that have x takes the numbers A of the clauses to the numbers B, where it does so at a clause that has x, and A and B agree at one that lacks it
-module _ (x : ℕ) (f : ℕ → ℕ) (A B : List ℕ → ℕ) (post : List ℕ) (Fit : List ℕ → Type 0) (hit : (c : List ℕ) → Fit c → elem x c ≡ true → f (A c) ≡ B c) (miss : (c : List ℕ) → elem x c ≡ false → A c ≡ B c) where
+module _ (x : ℕ) (f : ℕ → ℕ) (A B : List ℕ → ℕ) (post : List ℕ) (Fit : List ℕ → Type 0)
+    (hit : (c : List ℕ) → Fit c → elem x c ≡ true → f (A c) ≡ B c) (miss : (c : List ℕ) → elem x c ≡ false → A c ≡ B c) where
   abbrev Changes : List (List ℕ) → ℕ → Type 0
   Changes cs a =
       (pre : List ℕ) → length pre ≡ a → changed f (holders a x cs) (pre ++ (map A cs ++ post)) ≡ pre ++ (map B cs ++ post)

@@ -49,7 +49,9 @@ module _ (v : ℕ) (cs : List (List ℕ)) (w₀ : List ℕ) (to q n : ℕ) (w : 
           within = omega (arith, end, g .held .room);
           lists = omega (arith, g .held .room);
           variables = omega (arith, g .held .small);
-          names = subst⁻¹ (λ (m : ℕ). getD w m 0 % 64 ≡ 1 → getD w m 0 / 64 / 2 < v) at (subst⁻¹ (λ (m : ℕ). m % 64 ≡ 1 → m / 64 / 2 < v) (weight-at v cs 0 n w (g .held) i is) (one-names v [] (getD cs i []) (all-at (Clause v) cs i (g .held .clauses) is)));
+          names =
+              subst⁻¹ (λ (m : ℕ). getD w m 0 % 64 ≡ 1 → getD w m 0 / 64 / 2 < v) at
+              (subst⁻¹ (λ (m : ℕ). m % 64 ≡ 1 → m / 64 / 2 < v) (weight-at v cs 0 n w (g .held) i is) (one-names v [] (getD cs i []) (all-at (Clause v) cs i (g .held .clauses) is)));
           counts = ap count (g .held .gives) ∙ values-count v (trail w v n) (g .held .fresh) ∙ trail-length v w n;
         }
 

@@ -91,16 +91,33 @@ module _ (v : ℕ) (cs : List (List ℕ)) (head len : ℕ) (w₀ : List ℕ) (h 
             within = omega (arith, p .held .room);
           }
 
-      pub backing-stop : (w₂ : List ℕ) → w₂ ≡ pushed v m u 0 w′ → t % 2 ≡ 1 → Level head h′ m → Returned v cs head len w₀ h′ (m + 1) true w₂
-      backing-stop w₂ e odd level =
-          let s : trail w₂ v (m + 1) ≡ (2 * negated (t / 2) + 0) ∷ trail w v m = ap (λ (l : List ℕ). trail l v (m + 1)) e ∙ pushed-trail v cs h′ m w′ (p .held) u 0 (omega arith) named unset ∙ rw (ue, p .same) refl in
-          record {
-            held = subst⁻¹ (λ (l : List ℕ). Held v cs h′ (m + 1) l) e (pushed-held v cs h′ m w′ (p .held) u 0 (omega arith) named unset);
-            frame = frame-trans (frame-trans (g .frame) (p .frame)) (subst⁻¹ (λ (l : List ℕ). Frame v (length cs) w′ l) e (pushed-frame v cs h′ m w′ (p .held) u 0 (omega arith) named unset));
-            back = λ z. g .back _ (subst⁻¹ (λ (l : List ℕ). BackTo l (trail w₂ v (m + 1))) top (subst⁻¹ (λ (l : List ℕ). BackTo (t ∷ trail w v m) l) s (here t odd)));
-            level = λ z o. let q = (subst (OpenUnder head) top (g .under o)) .0 odd in omega (arith, level .0 (omega (arith, q, trail-length v w m)));
-            closed = λ z. absurd (true≢false z);
-          }
+      pub backing-stop : (w₂ : List ℕ) → w₂ ≡ pushed v m u 0 w′ → t % 2 ≡ 1 → Level head h′ m → Returned v cs head len w₀ h′ n true w₂
+      backing-stop w₂ e odd level = subst (λ (k : ℕ). Returned v cs head len w₀ h′ k true w₂) back-up returned
+        where
+          back-up : m + 1 ≡ n
+          back-up = omega arith
+
+          new : trail w₂ v (m + 1) ≡ (2 * negated (t / 2) + 0) ∷ trail w v m
+          new =
+              ap (λ (l : List ℕ). trail l v (m + 1)) e
+              ∙ pushed-trail v cs h′ m w′ (p .held) u 0 (omega arith) named unset
+              ∙ rw (ue, p .same) refl
+
+          back-to : BackTo (trail w v n) (trail w₂ v (m + 1))
+          back-to =
+              subst⁻¹ (λ (l : List ℕ). BackTo l (trail w₂ v (m + 1))) top (subst⁻¹ (λ (l : List ℕ). BackTo (t ∷ trail w v m) l) new (here t odd))
+
+          returned : Returned v cs head len w₀ h′ (m + 1) true w₂
+          returned =
+              record {
+                held = subst⁻¹ (λ (l : List ℕ). Held v cs h′ (m + 1) l) e (pushed-held v cs h′ m w′ (p .held) u 0 (omega arith) named unset);
+                frame =
+                    frame-trans (frame-trans (g .frame) (p .frame))
+                    (subst⁻¹ (λ (l : List ℕ). Frame v (length cs) w′ l) e (pushed-frame v cs h′ m w′ (p .held) u 0 (omega arith) named unset));
+                back = λ z. g .back _ back-to;
+                level = λ z o. let q = (subst (OpenUnder head) top (g .under o)) .0 odd in omega (arith, level .0 (omega (arith, q, trail-length v w m)));
+                closed = λ z. absurd (true≢false z);
+              }
 
 pub backing-done : (v : ℕ) (cs : List (List ℕ)) (head len : ℕ) (w₀ : List ℕ) (h n : ℕ) (w : List ℕ) → Backing v cs head len w₀ h n w → n ≡ 0
     → Returned v cs head len w₀ h n false w

@@ -15,6 +15,7 @@ use Rattle.propagation.specs.WorkArea.{trail, values, Fresh, falses, Held, Fram
 use Rattle.propagation.specs.Advance.{sinking}
 use Rattle.propagation.proofs.Frames.{trail-agree, block-frame, front-length, reweighed-front, reweighed-frame}
 use Rattle.propagation.proofs.Lives.{weight-small}
+use Rattle.propagation.proofs.Reading.{Read, start-is, end-is, changed-is}
 use Rattle.propagation.proofs.Trails.{negated-half, fresh-down, fresh-new}
 use Rattle.propagation.proofs.Holds.{distinct, addresses, reheld}
 use Rattle.search.specs.Search.{floated}
@@ -53,7 +54,8 @@ module _ (v : ℕ) (cs : List (List ℕ)) (n len : ℕ) (w : List ℕ) (held : H
       ap (λ (q : List ℕ). changed f q w) (held .blocks x literal .holds)
       ∙ ap (λ (l : List ℕ). changed f (holders (7 * v) x cs) l) (held .weights)
       ∙ ap (λ (D : List ℕ). changed f (holders (7 * v) x cs) (pre ++ (map (weight D) cs ++ post))) falses-next
-      ∙ ap (λ (a : ℕ). changed f (holders a x cs) (pre ++ (map (weight (x ∷ falses (trail w v n))) cs ++ post))) (sym (front-length v (length cs) w (map (weight (falses (trail w v n))) cs) (length-map cs (weight (falses (trail w v n)))) (held .room)))
+      ∙ ap (λ (a : ℕ). changed f (holders a x cs) (pre ++ (map (weight (x ∷ falses (trail w v n))) cs ++ post)))
+      (sym (front-length v (length cs) w (map (weight (falses (trail w v n))) cs) (length-map cs (weight (falses (trail w v n)))) (held .room)))
       ∙ raise-weights x (falses (trail w v n)) not-yet cs (distinct v cs (n + 1) len w held) pre post
 
   pub floated-front : (i : ℕ) → i < 7 * v → getD (floated v n w) i 0 ≡ getD w i 0
@@ -70,22 +72,12 @@ module _ (v : ℕ) (cs : List (List ℕ)) (n len : ℕ) (w : List ℕ) (held : H
   floated-held = subst⁻¹ (λ (l : List ℕ). Held v cs n len l) floated-is (reheld v cs (n + 1) len w held n (omega (arith, held .head-len)))
 
 -- the same of the numbers that the code has
-module _ (v : ℕ) (cs : List (List ℕ)) (n len : ℕ) (w : List ℕ) (held : Held v cs (n + 1) len w) (f p a b : ℕ) (fe : f ≡ sinking v n w) (pe : p ≡ f) (ae : a ≡ getD w (2 * v + 2 * p) 0) (be : b ≡ getD w (2 * v + 2 * p + 1) 0) where
-  ae′ : a ≡ getD w (2 * v + 2 * sinking v n w) 0
-  ae′ = ae ∙ ap (λ (m : ℕ). getD w (2 * v + 2 * m) 0) (pe ∙ fe)
-
-  be′ : b ≡ getD w (2 * v + 2 * sinking v n w + 1) 0
-  be′ = be ∙ ap (λ (m : ℕ). getD w (2 * v + 2 * m + 1) 0) (pe ∙ fe)
-
+module _ (v : ℕ) (cs : List (List ℕ)) (n len : ℕ) (w : List ℕ) (held : Held v cs (n + 1) len w) (f p a b : ℕ) (r : Read v n w f p a b) where
   pub code-raise : Addresses (Room (64 * f + 1)) a a b w
-  code-raise = rw (fe, ae′, be′) (raisable v cs n len w held)
+  code-raise = rw (r .literal, start-is v n w f p a b r, end-is v n w f p a b r) (raisable v cs n len w held)
 
   pub code-floated : (w₁ : List ℕ) → w₁ ≡ changed (more (64 * f + 1)) (slice a b w) w → w₁ ≡ floated v n w
-  code-floated w₁ e =
-      e
-      ∙ ap (λ (m : ℕ). changed (more (64 * m + 1)) (slice a b w) w) fe
-      ∙ ap (λ (m : ℕ). changed (more (64 * sinking v n w + 1)) (slice m b w) w) ae′
-      ∙ ap (λ (m : ℕ). changed (more (64 * sinking v n w + 1)) (slice (getD w (2 * v + 2 * sinking v n w) 0) m w) w) be′
+  code-floated w₁ e = e ∙ changed-is v n w f p a b r more
 
 -- the newest entry's variable is unset
 module _ (v : ℕ) (cs : List (List ℕ)) (head n : ℕ) (w : List ℕ) (held : Held v cs head (n + 1) w) (under : head ≤ n) where

@@ -90,15 +90,15 @@ pub fn backtrack(work: &mut [u32], v: usize, head: usize, len: usize) -> Back
         let place = entries - 1;
         let top = work[v + place];
         level = pop(work, v, level, entries);
-        entries = place;
         if top % 2 == 1 {
             units::push(work, v, place, propagation::negated(top / 2), 0);
             return Back {
                 head: level,
-                len: place + 1,
+                len: entries,
                 found: true,
             };
         }
+        entries = place;
     }
     Back {
         head: level,

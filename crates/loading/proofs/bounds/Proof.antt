@@ -71,7 +71,8 @@ add-start c =
     let t = c .before in
     let l = t .before .loop in
     let s = t .before .before .before .before in
-    omega (arith, sum-fits (s .args .v) (7 * s .args .v + s .args .m) (s .args .work .now) (l .work) (l .start) (l .literal) (l .inv .2) (omega (arith, l .inv .0, l .inv .1)) (t .loop-test .taken), tallied-sum (s .args .v) (s .pre .clauses) (s .args .work .now) (s .pre .tallied), s .pre .fits, s .pre .number)
+    let fits = sum-fits _ _ _ _ _ _ (l .inv .2) (omega (arith, l .inv .0, l .inv .1)) (t .loop-test .taken) in
+    omega (arith, fits, tallied-sum (s .args .v) (s .pre .clauses) (s .args .work .now) (s .pre .tallied), s .pre .fits, s .pre .number)
 
 add-literal : tie.Need-add-literal Inv-loop μ-loop
 add-literal c = search needs

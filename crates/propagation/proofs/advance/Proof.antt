@@ -4,6 +4,7 @@ use Prim.Native.Nat.{_*_, _<_}
 use native.Mathlib.Omega.{arith}
 use Rattle.propagation.specs.Units.{Visit}
 use Rattle.propagation.specs.Advance.{sinking}
+use Rattle.propagation.proofs.Reading.{Read}
 use Rattle.propagation.proofs.Advances.{is, code-lower, code-scan, code-result}
 use borrow.Author.Needs.{needs}
 use Rattle.propagation.proofs.advance.Statement.{statement}
@@ -71,15 +72,29 @@ add-lower c =
     let s = c .before .before .before .before .before .before .before .before .before in
     omega (arith, literal s, s .pre .0 .held .small, c .before .before .before .before .before .before .negated .ensures)
 
+-- what the code has read before the weights change
+read : (t : tie.After-wide3)
+    → let s = t .before .before .before .before .before .before .before .before in
+    Read (s .args .v) (s .args .head) (s .args .work .now) (t .before .before .before .before .before .negated .result) (t .before .before .before .before .wide .result) (t .before .before .wide2 .result) (t .wide3 .result)
+read t =
+    record {
+      literal = t .before .before .before .before .before .negated .ensures;
+      index = t .before .before .before .before .wide .ensures;
+      start = t .before .before .wide2 .ensures;
+      end = t .wide3 .ensures;
+    }
+
 lower-requires : tie.Need-lower-requires
 lower-requires c κs =
     let t = c .before in
-    code-lower (t .before .before .before .before .before .before .before .before .args .v) (t .before .before .before .before .before .before .before .before .pre .0 .clauses) (t .before .before .before .before .before .before .before .before .args .head) (t .before .before .before .before .before .before .before .before .args .len) (t .before .before .before .before .before .before .before .before .args .work .now) (t .before .before .before .before .before .before .before .before .pre .0 .held) (t .before .before .before .before .before .before .before .before .pre .1) (t .before .before .before .before .before .negated .result) (t .before .before .before .before .wide .result) (t .before .before .wide2 .result) (t .wide3 .result) (t .before .before .before .before .before .negated .ensures) (t .before .before .before .before .wide .ensures) (t .before .before .wide2 .ensures) (t .wide3 .ensures)
+    let s = t .before .before .before .before .before .before .before .before in
+    code-lower _ _ _ _ _ (s .pre .0 .held) (s .pre .1) _ _ _ _ (read t)
 
 scan-requires : tie.Need-scan-requires
 scan-requires c κs =
     let t = c .before .before .before .before .before in
-    code-scan (t .before .before .before .before .before .before .before .before .args .v) (t .before .before .before .before .before .before .before .before .pre .0 .clauses) (t .before .before .before .before .before .before .before .before .args .head) (t .before .before .before .before .before .before .before .before .args .len) (t .before .before .before .before .before .before .before .before .args .work .now) (t .before .before .before .before .before .before .before .before .pre .0 .held) (t .before .before .before .before .before .before .before .before .pre .1) (t .before .before .before .before .before .negated .result) (t .before .before .before .before .wide .result) (t .before .before .wide2 .result) (t .wide3 .result) (t .before .before .before .before .before .negated .ensures) (t .before .before .before .before .wide .ensures) (t .before .before .wide2 .ensures) (t .wide3 .ensures) (c .before .before .before .lower .last .0) (c .before .before .before .lower .ensures)
+    let s = t .before .before .before .before .before .before .before .before in
+    code-scan _ _ _ _ _ (s .pre .0 .held) (s .pre .1) _ _ _ _ (read t) (c .before .before .before .lower .last .0) (c .before .before .before .lower .ensures)
 
 same-length : tie.Need-same-length
 same-length c = search needs
@@ -88,7 +103,8 @@ returns : tie.Need-returns
 returns c =
     let z = c .before .before in
     let t = z .before .before .before .before .before .before in
-    let e = code-result (t .before .before .before .before .before .before .before .before .args .v) (t .before .before .before .before .before .before .before .before .pre .0 .clauses) (t .before .before .before .before .before .before .before .before .args .head) (t .before .before .before .before .before .before .before .before .args .len) (t .before .before .before .before .before .before .before .before .args .work .now) (t .before .before .before .before .before .before .before .before .pre .0 .held) (t .before .before .before .before .before .before .before .before .pre .1) (t .before .before .before .before .before .negated .result) (t .before .before .before .before .wide .result) (t .before .before .wide2 .result) (t .wide3 .result) (t .before .before .before .before .before .negated .ensures) (t .before .before .before .before .wide .ensures) (t .before .before .wide2 .ensures) (t .wide3 .ensures) (z .before .before .before .before .lower .last .0) (z .before .before .before .before .lower .ensures) in
+    let s = t .before .before .before .before .before .before .before .before in
+    let e = code-result _ _ _ _ _ (s .pre .0 .held) (s .pre .1) _ _ _ _ (read t) _ (z .before .before .before .before .lower .ensures) in
     let o = z .scan .ensures in
     (o .0 ∙ ap (λ (r : Visit). r .len) e, o .1 ∙ ap (λ (r : Visit). r .clash) e, o .2 ∙ ap (λ (r : Visit). r .mem) e)
 

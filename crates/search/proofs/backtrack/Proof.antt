@@ -47,8 +47,9 @@ pop-requires c κs =
 
 -- after a pop
 popped : (p : tie.After-pop Inv-loop μ-loop) → (cs : List (List ℕ))
-    → Held (p .before .before .before .before .before .before .args .v) cs (p .before .before .before .before .before .before .args .head) (p .before .before .before .before .before .before .args .len) (p .before .before .before .before .before .before .args .work .now)
-    → Popped (p .before .before .before .before .before .before .args .v) cs (p .before .before .before .before .loop .level) (p .before .before .before .before .loop .entries) (p .before .before .before .before .loop .work) (p .pop .result) (p .pop .last .0)
+    → let l = p .before .before .before .before in
+    let a = l .before .before .args in
+    Held (a .v) cs (a .head) (a .len) (a .work .now) → Popped (a .v) cs (l .loop .level) (l .loop .entries) (l .loop .work) (p .pop .result) (p .pop .last .0)
 popped p cs k = p .pop .ensures .1 cs (p .before .before .before .before .loop .inv .0 cs k .held)
 
 levelled : (p : tie.After-pop Inv-loop μ-loop)
@@ -68,12 +69,7 @@ push-requires c κs =
     let s = t .before .before .before in
     let l = t .before .loop in
     let a = s .args in
-    back-pushable (a .v) (s .pre .clauses) (a .head) (a .len) (a .work .now) (l .level) (l .entries) (l .work) (l .inv .0 (s .pre .clauses) (s .pre .held)) (t .loop-test .taken) (p .pop .result) (p .pop .last .0) (popped p (s .pre .clauses) (s .pre .held)) (c .negated .result) (c .negated .ensures)
-
-add-t21 : tie.Need-add-t21 Inv-loop μ-loop
-add-t21 c =
-    let t = c .before .before .before .before .before .before .before .before .before .before .before in
-    omega (arith, holds t .len-v, holds t .small)
+    back-pushable _ _ _ _ _ _ _ _ (l .inv .0 (s .pre .clauses) (s .pre .held)) (t .loop-test .taken) _ _ (popped p (s .pre .clauses) (s .pre .held)) _ (c .negated .ensures)
 
 same-length : tie.Need-same-length Inv-loop μ-loop
 same-length c =
@@ -90,7 +86,7 @@ returns c cs k =
     let s = t .before .before .before in
     let l = t .before .loop in
     let a = s .args in
-    backing-stop (a .v) cs (a .head) (a .len) (a .work .now) (l .level) (l .entries) (l .work) (l .inv .0 cs k) (t .loop-test .taken) (p .pop .result) (p .pop .last .0) (popped p cs k) (g .negated .result) (g .negated .ensures) (u .push .last .0) (u .push .ensures) (g .before .before .if1 .taken) (levelled p)
+    backing-stop _ cs _ _ _ _ _ _ (l .inv .0 cs k) (t .loop-test .taken) _ _ (popped p cs k) _ (g .negated .ensures) _ (u .push .ensures) (g .before .before .if1 .taken) (levelled p)
 
 loop-less : tie.Need-loop-less Inv-loop μ-loop
 loop-less c = omega (arith, c .before .before .before .before .before .before .loop-test .taken)
@@ -102,7 +98,7 @@ loop-again c =
     let s = t .before .before .before in
     let l = t .before .loop in
     let a = s .args in (
-      (λ cs k. backing-turn (a .v) cs (a .head) (a .len) (a .work .now) (l .level) (l .entries) (l .work) (l .inv .0 cs k) (t .loop-test .taken) (p .pop .result) (p .pop .last .0) (popped p cs k) (c .if1 .left)),
+      (λ cs k. backing-turn _ cs _ _ _ _ _ _ (l .inv .0 cs k) (t .loop-test .taken) _ _ (popped p cs k) (c .if1 .left)),
       p .pop .kept .0 ∙ l .inv .1,
       levelled p,
     )
@@ -114,7 +110,7 @@ returns-2 : tie.Need-returns-2 Inv-loop μ-loop
 returns-2 c cs k =
     let l = c .before .loop in
     let a = c .before .before .before .args in
-    backing-done (a .v) cs (a .head) (a .len) (a .work .now) (l .level) (l .entries) (l .work) (l .inv .0 cs k) (omega (arith, c .loop-test .left))
+    backing-done _ cs _ _ _ _ _ _ (l .inv .0 cs k) (omega (arith, c .loop-test .left))
 
 pub backtrack-spec : {M : Type 1} → statement M
 backtrack-spec =
@@ -130,7 +126,6 @@ backtrack-spec =
     pop-requires
     negated-requires
     push-requires
-    add-t21
     same-length
     returns
     loop-less

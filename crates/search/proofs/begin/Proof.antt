@@ -56,8 +56,8 @@ returns c cs first k n =
     let l = t .before .loop in
     let a = t .before .before .before .args in
     let e = y .visit .ensures in
-    begun-stop (a .v) cs first (a .work .now) k (7 * a .v + a .m) (l .address) (l .entries) (l .work) (omega (arith, n)) (l .inv .2) (l .inv .0 cs first k n) (t .loop-test .taken)
-    (y .visit .result .len) (y .visit .result .clash) (y .visit .last .0) (e .0) (e .1) (e .2) (c .if1 .taken)
+    begun-stop _ cs first _ k (7 * a .v + a .m) _ _ _ (omega (arith, n)) (l .inv .2) (l .inv .0 cs first k n) (t .loop-test .taken)
+    _ _ _ (e .0) (e .1) (e .2) (c .if1 .taken)
 
 add-address : tie.Need-add-address Inv-loop μ-loop
 add-address c =
@@ -76,8 +76,8 @@ loop-again c =
     let a = t .before .before .before .args in
     let e = y .visit .ensures in (
       λ cs first k n.
-          begun-turn (a .v) cs first (a .work .now) k (7 * a .v + a .m) (l .address) (l .entries) (l .work) (omega (arith, n)) (l .inv .2) (l .inv .0 cs first k n) (t .loop-test .taken)
-          (y .visit .result .len) (y .visit .result .clash) (y .visit .last .0) (e .0) (e .1) (e .2) (c .if1 .left),
+          begun-turn _ cs first _ k (7 * a .v + a .m) _ _ _ (omega (arith, n)) (l .inv .2) (l .inv .0 cs first k n) (t .loop-test .taken)
+          _ _ _ (e .0) (e .1) (e .2) (c .if1 .left),
       y .visit .kept .0 ∙ l .inv .1,
       omega (arith, l .inv .2),
     )
@@ -89,7 +89,7 @@ returns-2 : tie.Need-returns-2 Inv-loop μ-loop
 returns-2 c cs first k n =
     let l = c .before .loop in
     let a = c .before .before .before .args in
-    begun-done (a .v) cs first (a .work .now) k (7 * a .v + a .m) (l .address) (l .entries) (l .work) (omega (arith, n)) (l .inv .2) (l .inv .0 cs first k n) (c .loop-test .left)
+    begun-done _ cs first _ k (7 * a .v + a .m) _ _ _ (omega (arith, n)) (l .inv .2) (l .inv .0 cs first k n) (c .loop-test .left)
 
 pub begin-spec : {M : Type 1} → statement M
 begin-spec =

@@ -2,6 +2,7 @@
 use Prim.Native.Nat.{_*_, _<_}
 use native.Mathlib.Omega.{arith}
 use Rattle.propagation.specs.Advance.{sinking}
+use Rattle.propagation.proofs.Reading.{Read}
 use Rattle.search.proofs.Unwinding.{literal, code-raise, code-floated}
 use borrow.Author.Needs.{needs}
 use Rattle.search.proofs.recall.Statement.{statement}
@@ -69,10 +70,23 @@ add-raise c =
     let s = c .before .before .before .before .before .before .before .before .before in
     omega (arith, bound s, s .pre .held .small, c .before .before .before .before .before .before .negated .ensures)
 
+-- what the code has read before the weights change
+read : (t : tie.After-wide3)
+    → let s = t .before .before .before .before .before .before .before .before in
+    Read (s .args .v) (s .args .place) (s .args .work .now) (t .before .before .before .before .before .negated .result) (t .before .before .before .before .wide .result) (t .before .before .wide2 .result) (t .wide3 .result)
+read t =
+    record {
+      literal = t .before .before .before .before .before .negated .ensures;
+      index = t .before .before .before .before .wide .ensures;
+      start = t .before .before .wide2 .ensures;
+      end = t .wide3 .ensures;
+    }
+
 raise-requires : tie.Need-raise-requires
 raise-requires c κs =
     let t = c .before in
-    code-raise (t .before .before .before .before .before .before .before .before .args .v) (t .before .before .before .before .before .before .before .before .pre .clauses) (t .before .before .before .before .before .before .before .before .args .place) (t .before .before .before .before .before .before .before .before .args .len) (t .before .before .before .before .before .before .before .before .args .work .now) (t .before .before .before .before .before .before .before .before .pre .held) (t .before .before .before .before .before .negated .result) (t .before .before .before .before .wide .result) (t .before .before .wide2 .result) (t .wide3 .result) (t .before .before .before .before .before .negated .ensures) (t .before .before .before .before .wide .ensures) (t .before .before .wide2 .ensures) (t .wide3 .ensures)
+    let s = t .before .before .before .before .before .before .before .before in
+    code-raise _ _ _ _ _ (s .pre .held) _ _ _ _ (read t)
 
 same-length : tie.Need-same-length
 same-length c = search needs
@@ -80,7 +94,8 @@ same-length c = search needs
 returns : tie.Need-returns
 returns c =
     let t = c .before .before .before .before in
-    code-floated (t .before .before .before .before .before .before .before .before .args .v) (t .before .before .before .before .before .before .before .before .pre .clauses) (t .before .before .before .before .before .before .before .before .args .place) (t .before .before .before .before .before .before .before .before .args .len) (t .before .before .before .before .before .before .before .before .args .work .now) (t .before .before .before .before .before .before .before .before .pre .held) (t .before .before .before .before .before .negated .result) (t .before .before .before .before .wide .result) (t .before .before .wide2 .result) (t .wide3 .result) (t .before .before .before .before .before .negated .ensures) (t .before .before .before .before .wide .ensures) (t .before .before .wide2 .ensures) (t .wide3 .ensures) (c .before .before .raise .last .0) (c .before .before .raise .ensures)
+    let s = t .before .before .before .before .before .before .before .before in
+    code-floated _ _ _ _ _ (s .pre .held) _ _ _ _ (read t) (c .before .before .raise .last .0) (c .before .before .raise .ensures)
 
 pub recall-spec : {M : Type 1} → statement M
 recall-spec =

@@ -31,7 +31,8 @@ loop-holds c =
 -- after propagation, of any clauses that the work area was given with
 gone : (p : tie.After-propagate Inv-loop μ-loop) (cs : List PropClause) (first : ℕ → Bool)
     → Started (p .before .before .before .before .args .v) cs first (p .before .before .before .before .args .len) (p .before .before .before .before .args .work .now)
-    → Propagated (p .before .before .before .before .args .v) (coded cs) (p .before .before .loop .head) (p .before .before .loop .entries) (p .before .before .loop .work) (p .propagate .result .head) (p .propagate .result .len) (p .propagate .result .clash) (p .propagate .last .0)
+    → Propagated (p .before .before .before .before .args .v) (coded cs) (p .before .before .loop .head) (p .before .before .loop .entries) (p .before .before .loop .work)
+    (p .propagate .result .head) (p .propagate .result .len) (p .propagate .result .clash) (p .propagate .last .0)
 gone p cs first k =
     let s = p .before .before .loop .inv .0 cs first k in
     p .propagate .ensures (coded cs) (s .held) (s .calm)
@@ -60,8 +61,8 @@ returns c cs first k =
     let p = t .before .before .before in
     let l = p .before .before .loop in
     let a = p .before .before .before .before .args in
-    search-none (a .v) cs first (a .work .now) (l .head) (l .entries) (l .work) (l .inv .0 cs first k) (p .propagate .result .head) (p .propagate .result .len) (p .propagate .result .clash) (p .propagate .last .0) (gone p cs first k)
-    (t .if1 .taken) (b .backtrack .result .head) (b .backtrack .result .len) (b .backtrack .result .found) (b .backtrack .last .0) (b .backtrack .ensures (coded cs) (gone p cs first k .held)) (not-true _ (c .if2 .taken))
+    search-none _ cs first _ _ _ _ (l .inv .0 cs first k) _ _ _ _ (gone p cs first k)
+    (t .if1 .taken) _ _ _ _ (b .backtrack .ensures (coded cs) (gone p cs first k .held)) (not-true _ (c .if2 .taken))
 
 loop-less : tie.Need-loop-less Inv-loop μ-loop
 loop-less c =
@@ -74,8 +75,8 @@ loop-less c =
     let cs = s .pre .clauses in
     let first = s .pre .first in
     let k = s .pre .started in
-    back-falls₁ (a .v) cs first (a .work .now) (l .head) (l .entries) (l .work) (l .inv .0 cs first k) (p .propagate .result .head) (p .propagate .result .len) (p .propagate .result .clash) (p .propagate .last .0) (gone p cs first k)
-    (t .if1 .taken) (b .backtrack .result .head) (b .backtrack .result .len) (b .backtrack .result .found) (b .backtrack .last .0) (b .backtrack .ensures (coded cs) (gone p cs first k .held)) (not-false _ (c .if2 .left))
+    back-falls₁ _ cs first _ _ _ _ (l .inv .0 cs first k) _ _ _ _ (gone p cs first k)
+    (t .if1 .taken) _ _ _ _ (b .backtrack .ensures (coded cs) (gone p cs first k .held)) (not-false _ (c .if2 .left))
 
 loop-again : tie.Need-loop-again Inv-loop μ-loop
 loop-again c =
@@ -85,8 +86,8 @@ loop-again c =
     let l = p .before .before .loop in
     let a = p .before .before .before .before .args in (
       λ cs first k.
-          search-back (a .v) cs first (a .work .now) (l .head) (l .entries) (l .work) (l .inv .0 cs first k) (p .propagate .result .head) (p .propagate .result .len) (p .propagate .result .clash) (p .propagate .last .0) (gone p cs first k)
-          (t .if1 .taken) (b .backtrack .result .head) (b .backtrack .result .len) (b .backtrack .result .found) (b .backtrack .last .0) (b .backtrack .ensures (coded cs) (gone p cs first k .held)) (not-false _ (c .if2 .left)),
+          search-back _ cs first _ _ _ _ (l .inv .0 cs first k) _ _ _ _ (gone p cs first k)
+          (t .if1 .taken) _ _ _ _ (b .backtrack .ensures (coded cs) (gone p cs first k .held)) (not-false _ (c .if2 .left)),
       b .backtrack .kept .0 ∙ p .propagate .kept .0 ∙ l .inv .1,
     )
 
@@ -108,8 +109,8 @@ returns-2 c cs first k =
     let p = t .before .before .before in
     let l = p .before .before .loop in
     let a = p .before .before .before .before .args in
-    search-found (a .v) cs first (a .work .now) (l .head) (l .entries) (l .work) (l .inv .0 cs first k) (p .propagate .result .head) (p .propagate .result .len) (p .propagate .result .clash) (p .propagate .last .0) (gone p cs first k)
-    (t .if1 .left) (u .unset .result) (u .unset .ensures) (c .if3 .taken)
+    search-found _ cs first _ _ _ _ (l .inv .0 cs first k) _ _ _ _ (gone p cs first k)
+    (t .if1 .left) _ (u .unset .ensures) (c .if3 .taken)
 
 first-requires : tie.Need-first-requires Inv-loop μ-loop
 first-requires c κs =
@@ -132,8 +133,8 @@ push-requires c κs =
     let cs = s .pre .clauses in
     let first = s .pre .first in
     let k = s .pre .started in
-    choice-pushable (a .v) cs first (a .work .now) (l .head) (l .entries) (l .work) (l .inv .0 cs first k) (p .propagate .result .head) (p .propagate .result .len) (p .propagate .result .clash) (p .propagate .last .0) (gone p cs first k)
-    (t .if1 .left) (u .unset .result) (u .unset .ensures) (e .if3 .left) (c .first .result) (c .first .ensures)
+    choice-pushable _ cs first _ _ _ _ (l .inv .0 cs first k) _ _ _ _ (gone p cs first k)
+    (t .if1 .left) _ (u .unset .ensures) (e .if3 .left) _ (c .first .ensures)
 
 add-entries : tie.Need-add-entries Inv-loop μ-loop
 add-entries c =
@@ -156,8 +157,8 @@ loop-less-2 c =
     let cs = s .pre .clauses in
     let first = s .pre .first in
     let k = s .pre .started in
-    choice-falls₁ (a .v) cs first (a .work .now) (l .head) (l .entries) (l .work) (l .inv .0 cs first k) (p .propagate .result .head) (p .propagate .result .len) (p .propagate .result .clash) (p .propagate .last .0) (gone p cs first k)
-    (t .if1 .left) (u .unset .result) (u .unset .ensures) (e .if3 .left) (f .first .result) (f .first .ensures) (y .push .last .0) (y .push .ensures)
+    choice-falls₁ _ cs first _ _ _ _ (l .inv .0 cs first k) _ _ _ _ (gone p cs first k)
+    (t .if1 .left) _ (u .unset .ensures) (e .if3 .left) _ (f .first .ensures) _ (y .push .ensures)
 
 loop-again-2 : tie.Need-loop-again-2 Inv-loop μ-loop
 loop-again-2 c =
@@ -170,8 +171,8 @@ loop-again-2 c =
     let l = p .before .before .loop in
     let a = p .before .before .before .before .args in (
       λ cs first k.
-          search-choice (a .v) cs first (a .work .now) (l .head) (l .entries) (l .work) (l .inv .0 cs first k) (p .propagate .result .head) (p .propagate .result .len) (p .propagate .result .clash) (p .propagate .last .0) (gone p cs first k)
-          (t .if1 .left) (u .unset .result) (u .unset .ensures) (e .if3 .left) (f .first .result) (f .first .ensures) (y .push .last .0) (y .push .ensures),
+          search-choice _ cs first _ _ _ _ (l .inv .0 cs first k) _ _ _ _ (gone p cs first k)
+          (t .if1 .left) _ (u .unset .ensures) (e .if3 .left) _ (f .first .ensures) _ (y .push .ensures),
       y .push .kept .0 ∙ p .propagate .kept .0 ∙ l .inv .1,
     )
 

@@ -39,7 +39,8 @@ slice-read-value c = omega (arith, named (c .before))
 
 -- the value that was read is the variable's
 value : (c : tie.After-wide)
-    → getD (c .before .before .before .before .before .args .work .now) (c .wide .result) 0 ≡ getD (c .before .before .before .before .before .args .work .now) (getD (c .before .before .before .before .before .args .work .now) (c .before .before .before .before .before .args .address) 0 / 64 / 2) 0
+    → let a = c .before .before .before .before .before .args in
+    getD (a .work .now) (c .wide .result) 0 ≡ getD (a .work .now) (getD (a .work .now) (a .address) 0 / 64 / 2) 0
 value c = ap (λ (x : ℕ). getD (c .before .before .before .before .before .args .work .now) x 0) (c .wide .ensures)
 
 -- an unset variable leaves room on the trail
