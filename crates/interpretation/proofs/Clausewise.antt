@@ -20,7 +20,7 @@ use Rattle.syntax.specs.Variables.{letterOf, lettersOf}
 use Rattle.syntax.proofs.Codes.{known-declared}
 use Rattle.interpretation.specs.declared.tables.Tables.{Tables}
 use Rattle.interpretation.specs.declared.truth.Machine.{Machine}
-use Rattle.interpretation.specs.Truth.{Held, WordLent, ClauseLent, lettersAmong}
+use Rattle.interpretation.specs.Truth.{Chosen, Held, WordLent, ClauseLent, lettersAmong}
 
 -- a clause true of the words behind is true of all
 pub clause-grows : (g : Signature) (I : Interpretation) (ρ : Assignment) (ws : List Word) (i : ℕ) → clauseTrue I ρ (readWords g (drop i ws) .clause) ≡ true
@@ -48,7 +48,7 @@ letters-drop xs (w ∷ ws) (suc i) h =
     letters-drop xs ws i
     (and-right (all (λ x. elem x xs) (letterOf w)) (lettersAmong xs ws) (sym (all-append (λ x. elem x xs) (letterOf w) (lettersOf ws)) ∙ h))
 
-module _ {words place : List ℕ} {t : Tables} {cells : List ℕ} {s : ℕ} {choice : List ℕ} (c : ClauseLent words place t cells s choice) where
+module _ {words place : List ℕ} {t : Tables} {cells : List ℕ} {s : ℕ} (c : ClauseLent words place t cells s) {choice : List ℕ} (chosen : Chosen (c .variables) s choice) where
   -- no word is read at first
   pub none-held : Held (c .signature) (interpretation s (c .signature) cells) (assign (c .variables) choice) s (drop (length words) (map wordOf words)) (replicate 64 0)
       (record { top = 64; atom = false; holds = false })
@@ -83,6 +83,7 @@ module _ {words place : List ℕ} {t : Tables} {cells : List ℕ} {s : ℕ} {cho
           signature = c .signature;
           variables = c .variables;
           lent = c .lent;
+          chosen = chosen;
           behind = drop i (map wordOf words);
           known = rw words-at at (all-drop (isKnown (c .signature)) (i - 1) (map wordOf words) (c .known));
           letters = rw words-at at (letters-drop (c .variables) (map wordOf words) (i - 1) (c .letters));

@@ -73,11 +73,11 @@ module _ {word : ℕ} {place : List ℕ} {t : Tables} {cells : List ℕ} {s : �
     letter-below = omega (arith, word-below)
 
     pub letter-placed : getD place (word - 65) 0 < length choice
-    letter-placed = omega (arith, place-below (w .variables) _ (w .lent .places) (word - 65) letter-below letter-occurs, w .lent .chosen)
+    letter-placed = omega (arith, place-below (w .variables) _ (w .lent .places) (word - 65) letter-below letter-occurs, w .chosen .counted)
 
     pub letter-value-below : assign (w .variables) choice (word - 65) < s
     letter-value-below =
-        rw (assign-placed (w .variables) _ (w .lent .places) (word - 65) letter-below letter-occurs choice) (allBelow-at s choice (getD place (word - 65) 0) letter-placed (w .lent .below))
+        rw (assign-placed (w .variables) _ (w .lent .places) (word - 65) letter-below letter-occurs choice) (allBelow-at s choice (getD place (word - 65) 0) letter-placed (w .chosen .below))
 
     pub letter-read : (v : ℕ) → v ≡ assign (w .variables) choice (word - 65)
         → Held (w .signature) (interpretation s (w .signature) cells) (assign (w .variables) choice) s (wordOf word ∷ w .behind) (set stack (m .top - 1) v)

@@ -6,3 +6,5 @@ pub mod Signs
 pub mod Stack
 pub mod Lending
 pub mod Clausewise
+pub mod Choices
+pub mod ClausesLent

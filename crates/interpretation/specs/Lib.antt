@@ -1,3 +1,4 @@
 pub mod Vectors
 pub mod Tables
 pub mod Truth
+pub mod Judging

@@ -6,7 +6,7 @@ use mathlib.Core.List.{List, _∷_, map}
 use lib.ListN.{length, drop}
 use Rattle.theory.specs.Lists.{all, elem}
 use Rattle.theory.specs.Vectors.{AllBelow}
-use Rattle.theory.specs.Syntax.{Signature}
+use Rattle.theory.specs.Syntax.{Signature, Clause}
 use Rattle.theory.specs.Truth.{Interpretation, Assignment, values, atomTrue, clauseTrue, assign}
 use Rattle.theory.specs.Cells.{interpretation, isInterpretation}
 use Rattle.theory.specs.Grammar.{Word, Due, atom, clause, grammarFrom, grammar, readWords}
@@ -25,15 +25,18 @@ PlacesIn xs place = Places xs (record { place = place; count = length xs })
 abbrev pub tablesIn : List ℕ → List Bool → List ℕ → List ℕ → Tables
 tablesIn arities functions bases cells = record { arities = arities; functions = functions; bases = bases; cells = length cells }
 
--- the tables of the signature, an interpretation of it at size s, and a choice of values for the variables xs
-pub record Lent (g : Signature) (xs : List ℕ) (place : List ℕ) (t : Tables) (cells : List ℕ) (s : ℕ) (choice : List ℕ) : Type 0 where
+-- the tables of the signature, an interpretation of it at size s, and the places of the variables xs
+pub record Lent (g : Signature) (xs : List ℕ) (place : List ℕ) (t : Tables) (cells : List ℕ) (s : ℕ) : Type 0 where
   pub size : s ≤ 8
   pub small : Small g
   pub tables : TablesOf g s t
   pub values : isInterpretation s g cells ≡ true
   pub letters : length place ≡ 8
   pub places : PlacesIn xs place
-  pub chosen : length choice ≡ length xs
+
+-- a choice of elements for the variables xs
+pub record Chosen (xs : List ℕ) (s : ℕ) (choice : List ℕ) : Type 0 where
+  pub counted : length choice ≡ length xs
   pub below : AllBelow s choice
 
 -- every letter of the words is one of the variables xs
@@ -52,7 +55,8 @@ pub record Held (g : Signature) (I : Interpretation) (ρ : Assignment) (s : ℕ)
 pub record WordLent (word : ℕ) (place : List ℕ) (t : Tables) (cells : List ℕ) (s : ℕ) (choice stack : List ℕ) (m : Machine) : Type 0 where
   pub signature : Signature
   pub variables : List ℕ
-  pub lent : Lent signature variables place t cells s choice
+  pub lent : Lent signature variables place t cells s
+  pub chosen : Chosen variables s choice
   pub behind : List Word
   pub known : all (isKnown signature) (wordOf word ∷ behind) ≡ true
   pub letters : lettersAmong variables (wordOf word ∷ behind) ≡ true
@@ -69,11 +73,15 @@ WordRead word place t cells s choice stack m stack′ m′ =
     → Held (w .signature) (interpretation s (w .signature) cells) (assign (w .variables) choice) s (wordOf word ∷ w .behind) stack′ m′
 
 -- the words of a clause
-pub record ClauseLent (words place : List ℕ) (t : Tables) (cells : List ℕ) (s : ℕ) (choice : List ℕ) : Type 0 where
+pub record ClauseLent (words place : List ℕ) (t : Tables) (cells : List ℕ) (s : ℕ) : Type 0 where
   pub signature : Signature
   pub variables : List ℕ
-  pub lent : Lent signature variables place t cells s choice
+  pub lent : Lent signature variables place t cells s
   pub fits : length words ≤ 64
   pub known : all (isKnown signature) (map wordOf words) ≡ true
   pub letters : lettersAmong variables (map wordOf words) ≡ true
   pub good : grammar signature (map wordOf words) ≡ clause
+
+-- the clause that they are
+abbrev pub clauseOf : {words place : List ℕ} {t : Tables} {cells : List ℕ} {s : ℕ} → ClauseLent words place t cells s → Clause
+clauseOf {words = words} c = readWords (c .signature) (map wordOf words) .clause

@@ -6,7 +6,7 @@ use syntax::limits::Problem;
 use syntax::words::ClauseWords;
 ghost use mathlib.Core.Path.{_≡_};
 ghost use mathlib.Core.Bool.{true};
-ghost use mathlib.Core.List.{List, map, _∷_};
+ghost use mathlib.Core.List.{List};
 ghost use Prim.Native.Nat.{_+_, _-_, _<_, _≤_, ℕ};
 ghost use lib.ListN.{getD, length};
 ghost use Rattle.theory.specs.Lists.{elem};
@@ -14,10 +14,9 @@ ghost use Rattle.theory.specs.Vectors.{AllBelow, rank};
 ghost use Rattle.theory.specs.Syntax.{Literal, Signature, Term, Terms, apply, equal, holds, variable};
 ghost use Rattle.theory.specs.Truth.{Assignment, Interpretation, assign, atomTrue, clauseTrue, literalTrue, value, values};
 ghost use Rattle.theory.specs.Cells.{cell, interpretation};
-ghost use Rattle.theory.specs.Grammar.{readWords};
 ghost use Rattle.theory.specs.Grammar as words;
 ghost use Rattle.syntax.specs.Codes.{wordOf};
-ghost use Rattle.interpretation.specs.Truth.{ClauseLent, PlacesIn, WordLent, WordRead, tablesIn};
+ghost use Rattle.interpretation.specs.Truth.{Chosen, ClauseLent, PlacesIn, WordLent, WordRead, clauseOf, tablesIn};
 
 // The top of the stack, and the truth of the atom read last.
 pub struct Machine {
@@ -193,8 +192,8 @@ pub fn clause_value(
     size: usize,
     choice: &[u8],
 ) -> bool
-    requires { ⌜ ClauseLent (now words) (now place) (tablesIn (now arities) (now functions) (now bases) (now cells)) (now cells) size (now choice) ⌝ }
-    ensures { λ r. ⌜ ((c : ClauseLent (now (words .entry)) (now (place .entry)) (tablesIn (now (arities .entry)) (now (functions .entry)) (now (bases .entry)) (now (cells .entry))) (now (cells .entry)) size (now (choice .entry))) → r ≡ clauseTrue (interpretation size (c .signature) (now (cells .entry))) (assign (c .variables) (now (choice .entry))) (readWords (c .signature) (map wordOf (now (words .entry))) .clause)) ⌝ }
+    requires { ⌜ ((c : ClauseLent (now words) (now place) (tablesIn (now arities) (now functions) (now bases) (now cells)) (now cells) size) × Chosen (c .variables) size (now choice)) ⌝ }
+    ensures { λ r. ⌜ ((c : ClauseLent (now (words .entry)) (now (place .entry)) (tablesIn (now (arities .entry)) (now (functions .entry)) (now (bases .entry)) (now (cells .entry))) (now (cells .entry)) size) → Chosen (c .variables) size (now (choice .entry)) → r ≡ clauseTrue (interpretation size (c .signature) (now (cells .entry))) (assign (c .variables) (now (choice .entry))) (clauseOf c)) ⌝ }
 {
     let mut stack = [0; Problem::MAX_WORDS];
     let mut m = Machine {
