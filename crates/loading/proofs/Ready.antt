@@ -8,13 +8,14 @@ use native.Mathlib.Omega.{arith}
 use lib.Dec.{leb, ltb}
 use lib.ListN.{length, getD, drop, replicate, length-append, length-replicate, length-drop, length-map, List·getD-append}
 use lib.Seq.{ext-getD, getD-append-add, getD-drop}
-use Rattle.theory.specs.Lists.{all}
+use Rattle.theory.specs.Lists.{all, sum}
 use Rattle.theory.specs.Propositional.{PropLiteral, PropClause}
 use Rattle.theory.specs.Claims.Counts.{isNumbered}
 use Rattle.theory.proofs.Tests.{and-left, and-right, leb-true, ltb-true, ltb-false}
 use Rattle.propagation.specs.Clauses.{code, codes, once, coded}
-use Rattle.propagation.specs.WorkArea.{Held, Prefers, Loaded}
+use Rattle.propagation.specs.WorkArea.{Held, Prefers, Loaded, Frame}
 use Rattle.propagation.proofs.Truths.{zero-at}
+use Rattle.loading.specs.Filling.{areaEnd}
 use Rattle.loading.specs.Loading.{InRange, Tallied, Entered}
 use Rattle.loading.proofs.Tallying.{tallied-none}
 use Rattle.loading.proofs.Clearing.{cleared}
@@ -56,6 +57,19 @@ pub codes-range : (v : ℕ) (c : PropClause) → all (isNumbered v) c ≡ true �
 codes-range v [] h i k = absurd (not-suc-le-zero k)
 codes-range v (l ∷ c) h zero k = code-range v l (and-left (isNumbered v l) (all (isNumbered v) c) h)
 codes-range v (l ∷ c) h (suc i) k = codes-range v c (and-right (isNumbered v l) (all (isNumbered v) c) h) i (le-of-suc-le-suc k)
+
+-- what clauses need of a work area, by how many clauses and literals they are
+pub areaEnd-codes : (v : ℕ) (cs : List PropClause) → areaEnd v (map codes cs) ≡ 7 * v + length cs + sum (map length cs)
+areaEnd-codes v cs = omega (arith, length-map cs codes, lengths cs)
+  where
+    lengths : (cs : List PropClause) → sum (map length (map codes cs)) ≡ sum (map length cs)
+    lengths [] = refl
+    lengths (c ∷ cs) = omega (arith, length-map c code, lengths cs)
+
+-- After a search, clearing what the clauses needed clears all.
+pub searched-cleared : (v : ℕ) (cs es : List (List ℕ)) (m : ℕ) (w w′ : List ℕ) → Entered v cs es w → length cs ≡ m → Frame v m w w′
+    → (n : ℕ) → areaEnd v cs ≤ n → n ≤ length w′ → cleared w′ n ≡ replicate (length w′) 0
+searched-cleared v cs es m w w′ f e g n h k = zeros-cleared w′ n k (λ i l. g .rest i (omega arith) ∙ f .rest i (omega arith))
 
 -- All clauses are entered, and all first values told: the area is loaded.
 pub entered-loaded : (v : ℕ) (cs : List PropClause) (first : ℕ → Bool) (w : List ℕ) → all (all (isNumbered v)) cs ≡ true
