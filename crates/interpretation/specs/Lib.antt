@@ -1,4 +1,2 @@
 pub mod Vectors
 pub mod Tables
-pub mod Truth
-pub mod Judging

@@ -1,6 +1,4 @@
-// Interpretations (document 01: cases): elements, cells, argument vectors, truth, and the text of a case.
-pub mod judging;
+// What interpretations (document 01: cases) are made of: elements, cells, argument vectors, the tables of symbols.
 pub mod numbers;
 pub mod tables;
-pub mod truth;
 pub mod vector;

@@ -1,0 +1,145 @@
+-- Counting through the choices of values: those before the one reached make the clause true.
+use Prim.Native.Nat.{ℕ, zero, suc, _+_, _-_, _%_, _^_, _≤_, _<_}
+use mathlib.Core.Path.{_≡_, refl, sym, ap, _∙_, subst}
+use mathlib.Core.Bool.{Bool, true, false, not}
+use mathlib.Core.Option.{Option, none, some}
+use mathlib.Core.List.{List, [], _∷_}
+use native.Mathlib.Nat.{zero-mul, mod-eq-of-lt}
+use native.Mathlib.Omega.{arith}
+use lib.ListN.{length, drop, take, replicate, drop-of-length-le}
+use lib.Seq.{length-take-le}
+use Rattle.theory.specs.Lists.{firstThat}
+use Rattle.theory.specs.Vectors.{vectors, rank, AllBelow}
+use Rattle.theory.specs.Truth.{clauseTrue, assign}
+use Rattle.theory.specs.Cells.{interpretation}
+use Rattle.interpretation.specs.declared.tables.Tables.{Tables}
+use Rattle.interpretation.specs.declared.vector.ArgumentVector.{ArgumentVector}
+use Rattle.interpretation.specs.Vectors.{digitsIn, firstVector, IsVector, IsNext}
+use Rattle.truth.specs.Values.{Chosen, ClauseLent, clauseOf}
+use Rattle.judging.specs.Choices.{failsAt, firstFailing}
+use Rattle.interpretation.proofs.Counting.{length-vectors, drop-vectors}
+
+-- a is the vector of rank i, if there is one
+pub record Reached (s n : ℕ) (a : ArgumentVector) (i : ℕ) : Type 0 where
+  pub count : a .count ≡ n
+  pub size : a .size ≡ s
+  pub long : length (a .digits) ≡ 10
+  pub vector : IsVector a
+  pub within : i ≤ s ^ n
+  pub ranked : i < s ^ n → rank s (digitsIn a) ≡ i
+
+zeros-rank : (s n k : ℕ) → rank s (take n (replicate k 0)) ≡ 0
+zeros-rank s zero k = refl
+zeros-rank s (suc n) zero = refl
+zeros-rank s (suc n) (suc k) = let v : List ℕ = take n (replicate k 0) in omega (arith, zeros-rank s n k, zero-mul (s ^ length v))
+
+zeros-below : (s n k : ℕ) → 1 ≤ s → AllBelow s (take n (replicate k 0))
+zeros-below s zero k h = tt
+zeros-below s (suc n) zero h = tt
+zeros-below s (suc n) (suc k) h = (h, zeros-below s n k h)
+
+-- the first vector has rank 0
+pub first-reached : (s n : ℕ) → 1 ≤ s → n ≤ 10 → Reached s n (firstVector n s) 0
+first-reached s n h l =
+    record {
+      count = refl;
+      size = refl;
+      long = refl;
+      vector = record { places = l; positive = h; below = zeros-below s n 10 h };
+      within = omega arith;
+      ranked = λ k. zeros-rank s n 10;
+    }
+
+-- the next has the next rank
+pub next-reached : (s n : ℕ) (a r : ArgumentVector) (i : ℕ) → length (r .digits) ≡ 10 → Reached s n a i → i < s ^ n → IsNext a r → Reached s n r (suc i)
+next-reached s n a r i long p h x =
+    record {
+      count = x .count ∙ p .count;
+      size = x .size ∙ p .size;
+      long = long;
+      vector = x .vector;
+      within = h;
+      ranked = λ k.
+          let e : rank s (digitsIn r) ≡ (rank s (digitsIn a) + 1) % s ^ n =
+          subst (λ (m : ℕ). rank s (digitsIn r) ≡ (rank s (digitsIn a) + 1) % s ^ m) (p .count)
+          (subst (λ (z : ℕ). rank z (digitsIn r) ≡ (rank z (digitsIn a) + 1) % z ^ a .count) (p .size) (x .next)) in
+          e ∙ ap (λ (j : ℕ). (j + 1) % s ^ n) (p .ranked h) ∙ mod-eq-of-lt {n = i + 1} (omega arith) ∙ omega arith;
+    }
+
+module _ {A : Type 0} (p : A → Bool) (x : A) (xs : List A) where
+  first-here : p x ≡ true → firstThat p (x ∷ xs) ≡ some x
+  first-here e = go (p x) e
+    where
+      go : (b : Bool) → b ≡ true → (elim b as (λ _. Option A) [ true ↦ some x | false ↦ firstThat p xs ]) ≡ some x
+      go true e = refl
+      go false e = let z : _≡_ {A = ℕ} 0 1 = cc in absurd (omega arith)
+
+  first-later : p x ≡ false → firstThat p (x ∷ xs) ≡ firstThat p xs
+  first-later e = go (p x) e
+    where
+      go : (b : Bool) → b ≡ false → (elim b as (λ _. Option A) [ true ↦ some x | false ↦ firstThat p xs ]) ≡ firstThat p xs
+      go true e = let z : _≡_ {A = ℕ} 0 1 = cc in absurd (omega arith)
+      go false e = refl
+
+module _ (s n : ℕ) (a : ArgumentVector) (i : ℕ) (r : Reached s n a i) where
+  pub reached-length : length (digitsIn a) ≡ n
+  reached-length = length-take-le (a .count) (a .digits) (omega (arith, r .vector .places, r .long)) ∙ r .count
+
+  pub reached-below : AllBelow s (digitsIn a)
+  reached-below = rw (r .size) at (r .vector .below)
+
+  module _ (p : List ℕ → Bool) where
+    at : i < s ^ n → drop i (vectors s n) ≡ digitsIn a ∷ drop (suc i) (vectors s n)
+    at h = drop-vectors s n i (digitsIn a) reached-length reached-below (r .ranked h)
+
+    -- it passes the test, or the first that does comes after it
+    pub found-here : i < s ^ n → p (digitsIn a) ≡ true → firstThat p (drop i (vectors s n)) ≡ some (digitsIn a)
+    found-here h e = ap (firstThat p) (at h) ∙ first-here p (digitsIn a) (drop (suc i) (vectors s n)) e
+
+    pub found-later : i < s ^ n → p (digitsIn a) ≡ false → firstThat p (drop i (vectors s n)) ≡ firstThat p (drop (suc i) (vectors s n))
+    found-later h e = ap (firstThat p) (at h) ∙ first-later p (digitsIn a) (drop (suc i) (vectors s n)) e
+
+    -- after the last there is none
+    pub found-none : s ^ n ≤ i → firstThat p (drop i (vectors s n)) ≡ none
+    found-none h = ap (firstThat p) (drop-of-length-le (vectors s n) {i = i} (omega (arith, length-vectors s n)))
+
+-- the clause is true under the choices before the one reached
+pub record Passed (words place : List ℕ) (t : Tables) (cells : List ℕ) (s n : ℕ) (a : ArgumentVector) (i : ℕ) : Type 0 where
+  pub reached : Reached s n a i
+  pub rest : (c : ClauseLent words place t cells s) → n ≡ length (c .variables) → firstFailing c ≡ firstThat (failsAt c) (drop i (vectors s n))
+
+module _ {words place : List ℕ} {t : Tables} {cells : List ℕ} {s n : ℕ} {a : ArgumentVector} {i : ℕ} (p : Passed words place t cells s n a i) where
+  lent : take (n - 0) (a .digits) ≡ digitsIn a
+  lent = let e : n - 0 ≡ a .count = omega (arith, p .reached .count) in ap (λ (m : ℕ). take m (a .digits)) e
+
+  -- the digits, as they are lent, are a choice
+  pub passed-chosen : (xs : List ℕ) → n ≡ length xs → Chosen xs s (take (n - 0) (a .digits))
+  passed-chosen xs e = rw lent (record { counted = reached-length s n a i (p .reached) ∙ e; below = reached-below s n a i (p .reached) })
+
+  module _ (c : ClauseLent words place t cells s) (e : n ≡ length (c .variables)) where
+    lent-value : (b : Bool) → b ≡ clauseTrue (interpretation s (c .signature) cells) (assign (c .variables) (take (n - 0) (a .digits))) (clauseOf c) → failsAt c (digitsIn a) ≡ not b
+    lent-value b q = sym (ap not (q ∙ ap (λ (v : List ℕ). clauseTrue (interpretation s (c .signature) cells) (assign (c .variables) v) (clauseOf c)) lent))
+
+    pub passed-fails : (b : Bool) → i < s ^ n → b ≡ false → b ≡ clauseTrue (interpretation s (c .signature) cells) (assign (c .variables) (take (n - 0) (a .digits))) (clauseOf c)
+        → some (digitsIn a) ≡ firstFailing c
+    passed-fails b h z q = sym (p .rest c e ∙ found-here s n a i (p .reached) (failsAt c) h (lent-value b q ∙ ap not z))
+
+    pub passed-none : s ^ n ≤ i → none ≡ firstFailing c
+    passed-none h = sym (p .rest c e ∙ found-none s n a i (p .reached) (failsAt c) h)
+
+  pub passed-next : (b : Bool) (r : ArgumentVector) → length (r .digits) ≡ 10 → i < s ^ n → b ≡ true → IsNext a r
+      → ((c : ClauseLent words place t cells s) → n ≡ length (c .variables)
+      → b ≡ clauseTrue (interpretation s (c .signature) cells) (assign (c .variables) (take (n - 0) (a .digits))) (clauseOf c))
+      → Passed words place t cells s n r (suc i)
+  passed-next b r long h z x q =
+      record {
+        reached = next-reached s n a r i long (p .reached) h x;
+        rest = λ c e. p .rest c e ∙ found-later s n a i (p .reached) (failsAt c) h (lent-value c e b (q c e) ∙ ap not z);
+      }
+
+pub none-passed : (words place : List ℕ) (t : Tables) (cells : List ℕ) (s n : ℕ) (a : ArgumentVector) → 1 ≤ s → n ≤ 10 → a ≡ firstVector n s → Passed words place t cells s n a 0
+none-passed words place t cells s n a h l e =
+    record {
+      reached = rw e (first-reached s n h l);
+      rest = λ c k. ap (λ (m : ℕ). firstThat (failsAt c) (vectors s m)) (sym k);
+    }

@@ -1,0 +1,4 @@
+pub mod Signs
+pub mod Stack
+pub mod Lending
+pub mod Clausewise

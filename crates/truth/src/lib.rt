@@ -1,0 +1,2 @@
+// The truth of a clause in an interpretation.
+pub mod values;

@@ -1,0 +1,224 @@
+// The truth of a clause under a choice of values, in the order of source 004: variables, terms from inside out, atoms, signs, the clause.
+// The words are read from the last to the first. The values of the terms read stand in a stack, the first term's on top.
+use interpretation::numbers::Cell;
+use interpretation::numbers::Element;
+use syntax::limits::Problem;
+use syntax::words::ClauseWords;
+ghost use mathlib.Core.Path.{_≡_};
+ghost use mathlib.Core.Bool.{true};
+ghost use mathlib.Core.List.{List};
+ghost use Prim.Native.Nat.{_+_, _-_, _<_, _≤_, ℕ};
+ghost use lib.ListN.{getD, length};
+ghost use Rattle.theory.specs.Lists.{elem};
+ghost use Rattle.theory.specs.Vectors.{AllBelow, rank};
+ghost use Rattle.theory.specs.Syntax.{Literal, Signature, Term, Terms, apply, equal, holds, variable};
+ghost use Rattle.theory.specs.Truth.{Assignment, Interpretation, assign, atomTrue, clauseTrue, literalTrue, value, values};
+ghost use Rattle.theory.specs.Cells.{cell, interpretation};
+ghost use Rattle.theory.specs.Grammar as words;
+ghost use Rattle.syntax.specs.Codes.{wordOf};
+ghost use Rattle.truth.specs.Values.{Chosen, ClauseLent, PlacesIn, WordLent, WordRead, clauseOf, tablesIn};
+
+// The top of the stack, and the truth of the atom read last.
+pub struct Machine {
+    pub top: usize,
+    pub atom: bool,
+    // a literal read is true
+    pub holds: bool,
+}
+
+// Variables: the value that the choice has for the letter.
+pub fn variable_value(choice: &[u8], place: &[u8], letter: u8) -> Element
+    requires { ⌜ (65 ≤ letter) × ((letter - 65 < length (now place)) × (getD (now place) (letter - 65) 0 < length (now choice))) ⌝ }
+    ensures { λ r. ⌜ ((I : Interpretation) (xs : List ℕ) → PlacesIn xs (now (place .entry)) → letter - 65 < 8 → elem (letter - 65) xs ≡ true → r .0 ≡ value I (assign xs (now (choice .entry))) (variable (letter - 65))) ⌝ }
+{
+    let x = (letter - ClauseWords::LETTER) as usize;
+    let p = place[x] as usize;
+    Element(choice[p])
+}
+
+// The cell of the symbol with this first cell at the values of its terms.
+pub fn cell_at(base: usize, arguments: &[u8], size: usize) -> Cell
+    requires { ⌜ (base ≤ 12288) × ((size ≤ 8) × ((length (now arguments) ≤ 3) × AllBelow size (now arguments))) ⌝ }
+    ensures { λ r. ⌜ r .0 ≡ base + rank size (now (arguments .entry)) ⌝ }
+{
+    let mut rank: usize = 0;
+    let mut i: usize = 0;
+    while i < arguments.len() {
+        rank = rank * size + arguments[i] as usize;
+        i += 1;
+    }
+    Cell(base + rank)
+}
+
+// Functions: the value of a function at the values of its terms.
+pub fn function_value(cells: &[u8], c: Cell) -> Element
+    requires { ⌜ c .0 < length (now cells) ⌝ }
+    ensures { λ r. ⌜ ((s : ℕ) (g : Signature) (ρ : Assignment) (f : ℕ) (ts : Terms) → c .0 ≡ cell s g f (values (interpretation s g (now (cells .entry))) ρ ts) → r .0 ≡ value (interpretation s g (now (cells .entry))) ρ (apply f ts)) ⌝ }
+{
+    let i = c.0;
+    Element(cells[i])
+}
+
+// Atomic formulas: the truth of a predicate at the values of its terms.
+pub fn predicate_value(cells: &[u8], c: Cell) -> bool
+    requires { ⌜ c .0 < length (now cells) ⌝ }
+    ensures { λ r. ⌜ ((s : ℕ) (g : Signature) (ρ : Assignment) (p : ℕ) (ts : Terms) → c .0 ≡ cell s g p (values (interpretation s g (now (cells .entry))) ρ ts) → r ≡ atomTrue (interpretation s g (now (cells .entry))) ρ (holds p ts)) ⌝ }
+{
+    let i = c.0;
+    cells[i] == 1
+}
+
+// Atomic formulas: two terms are equal if they have the same value.
+pub fn equality_value(left: Element, right: Element) -> bool
+    ensures { λ r. ⌜ ((I : Interpretation) (ρ : Assignment) (t u : Term) → left .0 ≡ value I ρ t → right .0 ≡ value I ρ u → r ≡ atomTrue I ρ (equal t u)) ⌝ }
+{
+    left.0 == right.0
+}
+
+// Signs: a literal is true if its sign agrees with its atom.
+pub fn literal_value(code: u8, atom: bool) -> bool
+    ensures { λ r. ⌜ ((I : Interpretation) (ρ : Assignment) (l : Literal) → wordOf code ≡ words.sign (l .sign) → atom ≡ atomTrue I ρ (l .atom) → r ≡ literalTrue I ρ l) ⌝ }
+{
+    if code == ClauseWords::PLUS {
+        return atom;
+    }
+    !atom
+}
+
+// The machine after a function or a predicate.
+fn read_symbol(
+    word: u8,
+    place: &[u8],
+    arities: &[u8],
+    functions: &[bool],
+    bases: &[usize],
+    cells: &[u8],
+    size: usize,
+    choice: &[u8],
+    stack: &mut [u8],
+    m: Machine,
+) -> Machine
+    requires { ⌜ (word < 43) × WordLent word (now place) (tablesIn (now arities) (now functions) (now bases) (now cells)) (now cells) size (now choice) (now stack) m ⌝ }
+    ensures { λ r. ⌜ WordRead word (now (place .entry)) (tablesIn (now (arities .entry)) (now (functions .entry)) (now (bases .entry)) (now (cells .entry))) (now (cells .entry)) size (now (choice .entry)) (now (stack .entry)) m (now (stack .exit)) r ⌝ }
+{
+    let f = word as usize;
+    let top = m.top;
+    let rest = top + arities[f] as usize;
+    let c = cell_at(bases[f], &stack[top..rest], size);
+    if functions[f] {
+        let v = function_value(cells, c);
+        stack[rest - 1] = v.0;
+        return Machine {
+            top: rest - 1,
+            atom: m.atom,
+            holds: m.holds,
+        };
+    }
+    Machine {
+        top: rest,
+        atom: predicate_value(cells, c),
+        holds: m.holds,
+    }
+}
+
+// The machine after one more word.
+fn read_word(
+    word: u8,
+    place: &[u8],
+    arities: &[u8],
+    functions: &[bool],
+    bases: &[usize],
+    cells: &[u8],
+    size: usize,
+    choice: &[u8],
+    stack: &mut [u8],
+    m: Machine,
+) -> Machine
+    requires { ⌜ WordLent word (now place) (tablesIn (now arities) (now functions) (now bases) (now cells)) (now cells) size (now choice) (now stack) m ⌝ }
+    ensures { λ r. ⌜ WordRead word (now (place .entry)) (tablesIn (now (arities .entry)) (now (functions .entry)) (now (bases .entry)) (now (cells .entry))) (now (cells .entry)) size (now (choice .entry)) (now (stack .entry)) m (now (stack .exit)) r ⌝ }
+{
+    if word < ClauseWords::PLUS {
+        return read_symbol(
+            word,
+            place,
+            arities,
+            functions,
+            bases,
+            cells,
+            size,
+            choice,
+            stack,
+            m,
+        );
+    }
+    if ClauseWords::LETTER <= word {
+        let v = variable_value(choice, place, word);
+        let top = m.top - 1;
+        stack[top] = v.0;
+        return Machine {
+            top,
+            atom: m.atom,
+            holds: m.holds,
+        };
+    }
+    let top = m.top;
+    if word == ClauseWords::EQUALS {
+        let left = Element(stack[top]);
+        let right = Element(stack[top + 1]);
+        return Machine {
+            top: top + 2,
+            atom: equality_value(left, right),
+            holds: m.holds,
+        };
+    }
+    if literal_value(word, m.atom) {
+        return Machine {
+            top,
+            atom: m.atom,
+            holds: true,
+        };
+    }
+    m
+}
+
+// The clause: one of its literals is true.
+pub fn clause_value(
+    words: &[u8],
+    place: &[u8],
+    arities: &[u8],
+    functions: &[bool],
+    bases: &[usize],
+    cells: &[u8],
+    size: usize,
+    choice: &[u8],
+) -> bool
+    requires { ⌜ ((c : ClauseLent (now words) (now place) (tablesIn (now arities) (now functions) (now bases) (now cells)) (now cells) size) × Chosen (c .variables) size (now choice)) ⌝ }
+    ensures { λ r. ⌜ ((c : ClauseLent (now (words .entry)) (now (place .entry)) (tablesIn (now (arities .entry)) (now (functions .entry)) (now (bases .entry)) (now (cells .entry))) (now (cells .entry)) size) → Chosen (c .variables) size (now (choice .entry)) → r ≡ clauseTrue (interpretation size (c .signature) (now (cells .entry))) (assign (c .variables) (now (choice .entry))) (clauseOf c)) ⌝ }
+{
+    let mut stack = [0; Problem::MAX_WORDS];
+    let mut m = Machine {
+        top: Problem::MAX_WORDS,
+        atom: false,
+        holds: false,
+    };
+    let mut i = words.len();
+    while 0 < i {
+        i -= 1;
+        m = read_word(
+            words[i],
+            place,
+            arities,
+            functions,
+            bases,
+            cells,
+            size,
+            choice,
+            &mut stack,
+            m,
+        );
+        if m.holds {
+            return true;
+        }
+    }
+    false
+}
