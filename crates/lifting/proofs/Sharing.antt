@@ -9,6 +9,7 @@ use lib.Dec.{ltb}
 use lib.ListN.{length, getD, set, length-append, length-set, List·getD-append}
 use lib.Seq.{ext-getD, getD-set-same, getD-set-other, getD-append-seam}
 use borrow.Author.Tests.{le-ltb}
+use Rattle.theory.proofs.WellFormed.{within}
 use Rattle.theory.specs.Lists.{all, placeThat}
 use Rattle.theory.specs.Syntax.{Signature, symbolAt, Term, variable, apply, Terms, count, functionOf, termVariables, termsVariables, termOk, termsOk}
 use Rattle.theory.specs.Flattening.{placeOr0, functionTerms, allFunctionTerms, sameTerm, addTerm, variableFor}
@@ -22,7 +23,7 @@ use Rattle.syntax.specs.Signatures.{Small}
 use Rattle.lifting.specs.declared.table.Table.{Table}
 use Rattle.lifting.specs.Places.{placeIn, places}
 use Rattle.lifting.specs.Rows.{isRow, firstFrom, rowOf, withRow}
-use Rattle.lifting.specs.Lifts.{outer, inner, within, Holds, Lifts}
+use Rattle.lifting.specs.Lifts.{outer, inner, Holds, Lifts}
 use Rattle.lifting.proofs.Rows.{row-function, row-arguments, arguments-row, placeOr, first-place}
 use Rattle.lifting.proofs.Triples.{length-three, three-at, three-other}
 use Rattle.lifting.proofs.Standing.{length-places, places-inj}

@@ -15,9 +15,8 @@ use Rattle.theory.proofs.Lists.{all-append}
 use Rattle.theory.proofs.Finding.{placeThat-some, any→placeThat}
 use Rattle.theory.proofs.Distinct.{elem-any}
 use Rattle.theory.proofs.LiftedTerms.{place, covered, coveredAll, covered-among, covered-first, covered-rest}
-use Rattle.theory.proofs.WellFormed.{length-variablesFor}
+use Rattle.theory.proofs.WellFormed.{length-variablesFor, within}
 use Rattle.lifting.specs.Places.{placeIn, places}
-use Rattle.lifting.specs.Lifts.{within}
 
 pub length-places : (xs : List ℕ) (found : List Term) (ts : Terms) → length (places xs found ts) ≡ count ts
 length-places xs found ts = length-map (variablesFor found ts) (placeIn xs) ∙ length-variablesFor found ts

@@ -7,6 +7,7 @@ use mathlib.Core.List.{List, [], _∷_, _++_, append-assoc}
 use native.Mathlib.Nat.{add-zero}
 use native.Mathlib.Omega.{arith}
 use lib.ListN.{length, getD, set, replicate, length-append, getD-replicate}
+use Rattle.theory.proofs.WellFormed.{within}
 use Rattle.theory.specs.Lists.{all, elem}
 use Rattle.theory.specs.Syntax.{Signature, symbolAt, Term, variable, apply, Terms, empty, cons, count, functionOf, termVariables, termsVariables, termOk, termsOk}
 use Rattle.theory.specs.Grammar.{Word, letter, symbol, termWords, termsWords}
@@ -24,7 +25,7 @@ use Rattle.lifting.specs.declared.table.Lifted.{Lifted}
 use Rattle.lifting.specs.declared.terms.AllLifted.{AllLifted}
 use Rattle.lifting.specs.Places.{placeIn, places}
 use Rattle.lifting.specs.Rows.{rowOf, shared}
-use Rattle.lifting.specs.Lifts.{within, Lifts}
+use Rattle.lifting.specs.Lifts.{Lifts}
 use Rattle.lifting.specs.Reading.{wordsFrom, TermThere, TermsThere, TermLifted, TermsLifted}
 use Rattle.lifting.proofs.Standing.{own-place, within-first, within-rest}
 use Rattle.lifting.proofs.Sharing.{shared-variable, shared-lifts}
@@ -91,7 +92,7 @@ module _ {codes place arities : List ℕ} {owns at : ℕ} {t : Table} (s : TermT
             arity = d .arity ∙ ap (λ (f : ℕ). symbolAt g f .arity) c;
           })
 
-  variable-term : 65 ≤ getD codes at 0 → VariableTerm
+  pub variable-term : 65 ≤ getD codes at 0 → VariableTerm
   variable-term h = ⊎-elim (λ v. v) (λ p. absurd (omega (arith, p .below, s .source .small .symbols))) split
 
   pub function-term : getD codes at 0 < 65 → FunctionTerm

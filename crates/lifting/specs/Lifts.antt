@@ -1,11 +1,12 @@
 -- The lifted terms that the table of rows stands for.
 use Prim.Native.Nat.{ℕ, _+_, _*_, _<_}
 use mathlib.Core.Path.{_≡_}
-use mathlib.Core.Bool.{Bool, true}
+use mathlib.Core.Bool.{true}
 use mathlib.Core.List.{List}
 use lib.ListN.{length, getD}
-use Rattle.theory.specs.Lists.{all, elem}
+use Rattle.theory.specs.Lists.{all}
 use Rattle.theory.specs.Syntax.{Signature, Term, variable, apply, Terms, empty, termVariables, termOk}
+use Rattle.theory.proofs.WellFormed.{within}
 use Rattle.theory.proofs.LiftedTerms.{covered, isApply, different}
 use Rattle.lifting.specs.declared.table.Table.{Table}
 use Rattle.lifting.specs.Places.{places}
@@ -18,10 +19,6 @@ outer (apply f ts) = f
 abbrev pub inner : Term → Terms
 inner (variable x) = empty
 inner (apply f ts) = ts
-
--- every variable is one of these
-abbrev pub within : List ℕ → List ℕ → Bool
-within xs ys = all (λ y. elem y xs) ys
 
 -- row i is that of the i-th term found: its function, and the places of the variables that stand for its arguments
 pub record Holds (xs : List ℕ) (found : List Term) (t : Table) : Type 0 where

@@ -5,6 +5,7 @@ use mathlib.Core.Bool.{true}
 use mathlib.Core.List.{List, _++_, map}
 use lib.Dec.{eqb}
 use lib.ListN.{length, getD, take, drop}
+use Rattle.theory.proofs.WellFormed.{within}
 use Rattle.theory.specs.Lists.{all, placeThat}
 use Rattle.theory.specs.Syntax.{Signature, Term, Terms, count, termVariables, termsVariables, termOk, termsOk}
 use Rattle.theory.specs.Grammar.{Word, termWords, termsWords}
@@ -16,7 +17,7 @@ use Rattle.lifting.specs.declared.table.Table.{Table}
 use Rattle.lifting.specs.declared.table.Lifted.{Lifted}
 use Rattle.lifting.specs.declared.terms.AllLifted.{AllLifted}
 use Rattle.lifting.specs.Places.{placeIn, places}
-use Rattle.lifting.specs.Lifts.{within, Lifts}
+use Rattle.lifting.specs.Lifts.{Lifts}
 
 -- what the readers' lists stand for: a signature, the codes of the clause's words, and its own variables
 pub record Source (codes place arities : List ℕ) (owns : ℕ) : Type 0 where

@@ -7,12 +7,12 @@ use mathlib.Core.List.{List, [], _∷_, _++_, append-assoc, append-nil}
 use native.Mathlib.Omega.{arith}
 use lib.ListN.{length, length-append}
 use Rattle.theory.specs.Lists.{all}
-use Rattle.theory.specs.Syntax.{Term, variable, apply, Terms, empty, cons}
+use Rattle.theory.specs.Syntax.{Term, variable, apply, Terms, empty, cons, Atom, equal, holds}
 use Rattle.theory.specs.Grammar.{termWords, termsWords}
-use Rattle.theory.specs.Flattening.{functionTerms, allFunctionTerms, sameTerm, addTerm, addTerms, new, placeOr0, variableFor, variablesFor}
+use Rattle.theory.specs.Flattening.{turnedAtom, functionTerms, allFunctionTerms, sameTerm, addTerm, addTerms, FlatVariable, own, new, placeOr0, variableFor, variablesFor, flatPredicate, flatResult, shallowAtom}
 use Rattle.theory.proofs.Lists.{all-imply}
 use Rattle.theory.proofs.Finding.{placeThat-append}
-use Rattle.theory.proofs.LiftedTerms.{among, addTerms-keeps, place, covered, coveredAll, covered-among, covered-first, covered-rest}
+use Rattle.theory.proofs.LiftedTerms.{among, addTerms-keeps, place, covered, coveredAll, covered-among, coveredAtom, covered-first, covered-rest, covered-left, covered-right}
 
 -- terms are added one list after the other
 pub addTerms-append : (found ts us : List Term) → addTerms found (ts ++ us) ≡ addTerms (addTerms found ts) us
@@ -77,3 +77,13 @@ module _ (found us : List Term) where
   -- and its function terms stay found
   pub among-grown : (ts : List Term) → all (among found) ts ≡ true → all (among (addTerms found us)) ts ≡ true
   among-grown ts h = all-imply (among found) (among (addTerms found us)) ts (λ t. addTerms-keeps found us t) h
+
+  -- so an atom from which what is to be lifted is found stays as it was made shallow
+  pub shallowAtom-grown : (a : Atom) → coveredAtom found (turnedAtom a) ≡ true → shallowAtom (addTerms found us) (turnedAtom a) ≡ shallowAtom found (turnedAtom a)
+  shallowAtom-grown (equal (variable x) (variable y)) h = refl
+  shallowAtom-grown (equal (variable x) (apply f ts)) h =
+      ap (λ (ys : List FlatVariable). flatResult f ys (own x)) (variablesFor-grown ts (covered-left found f ts (variable x) h))
+  shallowAtom-grown (equal (apply f ts) u) h =
+      ap (λ (ys : List FlatVariable). flatResult f ys (variableFor (addTerms found us) u)) (variablesFor-grown ts (covered-left found f ts u h))
+      ∙ ap (flatResult f (variablesFor found ts)) (variableFor-grown u (covered-right found f ts u h))
+  shallowAtom-grown (holds p ts) h = ap (flatPredicate p) (variablesFor-grown ts h)

@@ -325,3 +325,18 @@ pub map-drop : {A B : Type 0} (f : A → B) (n : ℕ) (xs : List A) → map f (d
 map-drop f zero xs = refl
 map-drop f (suc n) [] = refl
 map-drop f (suc n) (x ∷ xs) = map-drop f n xs
+
+-- images that agree on the numbers of a range, or on the elements that pass a test
+pub map-upFrom : {A : Type 0} (f g : ℕ → A) (a n : ℕ) → ((i : ℕ) → a ≤ i → i < a + n → f i ≡ g i) → map f (upFrom a n) ≡ map g (upFrom a n)
+map-upFrom f g a zero h = refl
+map-upFrom f g a (suc n) h =
+    let p : f a ≡ g a = h a (omega arith) (omega arith) in
+    let q : map f (upFrom (suc a) n) ≡ map g (upFrom (suc a) n) = map-upFrom f g (suc a) n (λ i l k. h i (omega arith) (omega arith)) in
+    cc
+
+pub map-all : {A B : Type 0} (p : A → Bool) (f g : A → B) (xs : List A) → all p xs ≡ true → ((x : A) → p x ≡ true → f x ≡ g x) → map f xs ≡ map g xs
+map-all p f g [] h k = refl
+map-all p f g (x ∷ xs) h k =
+    let e : f x ≡ g x = k x (and-left (p x) (all p xs) h) in
+    let q : map f xs ≡ map g xs = map-all p f g xs (and-right (p x) (all p xs) h) k in
+    cc

@@ -111,7 +111,7 @@ flatScoped owns n ls = all (λ (l : FlatLiteral). flatAtomScoped owns n (l .atom
 
 module _ (owns : List ℕ) where
   -- every variable of the list is one of the own ones
-  abbrev within : List ℕ → Bool
+  abbrev pub within : List ℕ → Bool
   within xs = all (λ x. elem x owns) xs
 
   within-left : (xs ys : List ℕ) → within (xs ++ ys) ≡ true → within xs ≡ true
@@ -193,7 +193,7 @@ module _ (owns : List ℕ) where
         (definitions-scoped (suc i) ts (omega arith) (and-right (within (termVariables t)) (all (λ t. within (termVariables t)) ts) h) (and-right (covered lifted t) (all (covered lifted) ts) k))
 
 -- the variables of each literal are variables of the clause
-variables-within : (c : Clause) → all (λ (l : Literal). within (variables c) (atomVariables (l .atom))) c ≡ true
+pub variables-within : (c : Clause) → all (λ (l : Literal). within (variables c) (atomVariables (l .atom))) c ≡ true
 variables-within c =
     let xs : List ℕ = concatMap (λ (l : Literal). atomVariables (l .atom)) c in
     sym (all-concatMap (λ x. elem x (distinct xs)) (λ (l : Literal). atomVariables (l .atom)) c) ∙ elem-all (λ x. elem x (distinct xs)) xs (λ x e. elem-distinct x xs e)

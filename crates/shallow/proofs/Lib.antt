@@ -1,0 +1,4 @@
+pub mod Written
+pub mod Equalities
+pub mod Atoms
+pub mod Progress

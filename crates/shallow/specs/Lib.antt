@@ -1,0 +1,4 @@
+pub mod Placed
+pub mod Literals
+pub mod Flattenable
+pub mod Shallow
