@@ -1,0 +1,4 @@
+pub mod Texts
+pub mod Codes
+pub mod Streams
+pub mod OneClause
