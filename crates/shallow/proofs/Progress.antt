@@ -239,10 +239,12 @@ pub clause-lifted : {arities : List ℕ} {c m : ClauseWords} (s : Flattenable ar
 clause-lifted {arities} {c} {m} s h fits {l} p k =
     let d : Clause = merged (clauseIn (s .signature) c) in
     let own : variablesIn m ≡ variables d = sym (variables-clauseIn (s .signature) m (h .isClause)) ∙ ap variables (h .clause) in
-    let done : p .done ≡ d = progress-end (merged-flattenable s h) fits p k ∙ h .clause in
+    let all : p .done ≡ clauseIn (s .signature) m = progress-end (merged-flattenable s h) fits p k in
+    let done : p .done ≡ d = all ∙ h .clause in
     record {
       owns = p .owns ∙ ap length own;
       few = omega (arith, p .owns, own-few (merged-flattenable s h) fits);
+      room = omega (arith, p .lifts .holds .count, p .room, p .next, ap length (ap clauseWords all ∙ clauseWords-clauseIn (s .signature) m (h .isClause)), length-wordsIn m fits, h .isClause .fits);
       lifts =
           subst (λ (ys : List ℕ). Lifts (s .signature) ys (liftedTerms (map turned d)) (l .table)) own
           (subst (λ (e : Clause). Lifts (s .signature) (variablesIn m) (liftedTerms (map turned e)) (l .table)) done (p .lifts));

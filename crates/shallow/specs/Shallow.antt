@@ -106,5 +106,6 @@ EqualityMade {codes} {place} {arities} {l} {b} {at} s r =
 pub record ClauseLifted {arities : List ℕ} {w : ClauseWords} (s : Flattenable arities w) (r : Lifting) : Type 0 where
   pub owns : r .owns ≡ length (variables (merged (clauseIn (s .signature) w)))
   pub few : r .owns ≤ 8
+  pub room : r .table .count ≤ 64
   pub lifts : Lifts (s .signature) (variables (merged (clauseIn (s .signature) w))) (liftedTerms (map turned (merged (clauseIn (s .signature) w)))) (r .table)
   pub made : Made (s .signature) (variables (merged (clauseIn (s .signature) w))) (liftedTerms (map turned (merged (clauseIn (s .signature) w)))) (merged (clauseIn (s .signature) w)) r

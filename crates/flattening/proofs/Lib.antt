@@ -1,0 +1,3 @@
+pub mod Assembling
+pub mod Definitions
+pub mod PlacedInstances

@@ -1,0 +1,47 @@
+-- A flattened clause put together: the rows of the lifted terms, then the literals.
+use Prim.Native.Nat.{ℕ, _+_, _*_, _≤_, _<_}
+use mathlib.Core.Path.{_≡_}
+use mathlib.Core.Bool.{false}
+use mathlib.Core.List.{List}
+use lib.ListN.{length, getD, set, replicate}
+use Rattle.shallow.specs.declared.literals.Shape.the-variants.{FunctionResult}
+use Rattle.shallow.specs.declared.literals.Literal.{Literal}
+use Rattle.shallow.specs.declared.literals.Lifting.{Lifting}
+use Rattle.flattening.specs.declared.flat.FlatClause.{FlatClause}
+use Rattle.shallow.specs.Literals.{noLiteral, threeAt}
+
+-- no literal written
+unfoldable pub emptyFlat : ℕ → ℕ → FlatClause
+emptyFlat count variables = record { literals = replicate 26 noLiteral; arguments = replicate 78 0; count = count; variables = variables }
+
+-- literal k, with its arguments
+abbrev pub withFlat : FlatClause → ℕ → Literal → List ℕ → FlatClause
+withFlat c k l xs =
+    record {
+      literals = set (c .literals) k l;
+      arguments = set (set (set (c .arguments) (k * 3) (getD xs 0 0)) (k * 3 + 1) (getD xs 1 0)) (k * 3 + 2) (getD xs 2 0);
+      count = c .count;
+      variables = c .variables;
+    }
+
+-- t ≠ y for the i-th lifted term t and its new variable y
+abbrev pub definitionAt : Lifting → ℕ → Literal
+definitionAt l i = record { sign = false; shape = FunctionResult (getD (l .table .functions) i 0) (l .owns + i) }
+
+-- the lifted terms and literals are few enough
+pub record Assemblable (l : Lifting) : Type 0 where
+  pub rows : length (l .table .arguments) ≡ 192
+  pub arguments : length (l .arguments) ≡ 48
+  pub terms : l .table .count ≤ 10
+  pub literals : l .count ≤ 16
+  pub few : l .owns ≤ 8
+
+-- the definitions come first, in order, then the literals
+pub record Assembled (l : Lifting) (r : FlatClause) : Type 0 where
+  pub wide : length (r .arguments) ≡ 78
+  pub count : r .count ≡ l .table .count + l .count
+  pub variables : r .variables ≡ l .owns + l .table .count
+  pub definition : (i : ℕ) → i < l .table .count → getD (r .literals) i noLiteral ≡ definitionAt l i
+  pub definition-arguments : (i : ℕ) → i < l .table .count → threeAt (r .arguments) i ≡ threeAt (l .table .arguments) i
+  pub literal : (j : ℕ) → j < l .count → getD (r .literals) (l .table .count + j) noLiteral ≡ getD (l .literals) j noLiteral
+  pub literal-arguments : (j : ℕ) → j < l .count → threeAt (r .arguments) (l .table .count + j) ≡ threeAt (l .arguments) j

@@ -1,0 +1,103 @@
+// A flattened clause: t ≠ y for each lifted term t and its new variable y, then the shallow literals. The crate's two entries stand here.
+use shallow::literals::Lifting;
+use shallow::literals::Literal;
+use shallow::literals::Shape;
+use shallow::literals::lift;
+use syntax::words::ClauseWords;
+ghost use mathlib.Core.Path.{_≡_};
+ghost use Prim.Native.Nat.{_*_, _+_, _<_};
+ghost use lib.ListN.{length};
+ghost use Rattle.theory.specs.Flattening as theory;
+ghost use Rattle.syntax.specs.Codes.{clauseIn};
+ghost use Rattle.shallow.specs.Literals.{threeAt};
+ghost use Rattle.shallow.specs.Placed.{placed};
+ghost use Rattle.shallow.specs.Flattenable.{Flattenable};
+ghost use Rattle.flattening.specs.Flat.{WithinLimits, flatIn};
+ghost use Rattle.flattening.specs.Assembled.{Assemblable, Assembled, emptyFlat, withFlat};
+
+// At most 10 lifted terms and 16 literals, three arguments each.
+pub struct FlatClause {
+    pub literals: [Literal; 26],
+    pub arguments: [u8; 78],
+    pub count: usize,
+    pub variables: usize,
+}
+
+// k: the number of variables of the flattened clause.
+pub fn variable_count(c: ClauseWords, arities: &[u8]) -> usize
+    requires { ⌜ Flattenable (now arities) c ⌝ }
+    ensures { λ r. ⌜ ((s : Flattenable (now (arities .entry)) c) → r ≡ theory.variableCount (theory.flatten (clauseIn (s .signature) c))) ⌝ }
+{
+    lift(c, arities).variables()
+}
+
+// The flattened clause of a clause within the limits, with places for variables.
+pub fn flatten(c: ClauseWords, arities: &[u8]) -> FlatClause
+    requires { ⌜ WithinLimits (now arities) c ⌝ }
+    ensures { λ r. ⌜ ((s : WithinLimits (now (arities .entry)) c) → flatIn (s .clause .signature) r ≡ placed (theory.flatten (clauseIn (s .clause .signature) c))) ⌝ }
+{
+    assembled(lift(c, arities))
+}
+
+// The definitions of the lifted terms, then the literals.
+fn assembled(l: Lifting) -> FlatClause
+    requires { ⌜ Assemblable l ⌝ }
+    ensures { λ r. ⌜ Assembled l r ⌝ }
+{
+    let table = l.table;
+    let owns = l.owns;
+    let rows = table.arguments;
+    let mut flat = empty(table.count + l.count, owns as usize + table.count);
+    let mut i: usize = 0;
+    while i < table.count {
+        let definition = Literal {
+            sign: false,
+            shape: Shape::FunctionResult(table.functions[i], owns + i as u8),
+        };
+        flat = put(flat, i, definition, three(&rows, i));
+        i += 1;
+    }
+    let literals = l.literals;
+    let arguments = l.arguments;
+    let mut j: usize = 0;
+    while j < l.count {
+        let literal = literals[j];
+        flat = put(flat, i + j, literal, three(&arguments, j));
+        j += 1;
+    }
+    flat
+}
+
+// So many literals and variables, no literal written yet.
+fn empty(count: usize, variables: usize) -> FlatClause
+    ensures { λ r. ⌜ r ≡ emptyFlat count variables ⌝ }
+{
+    FlatClause {
+        literals: [Literal {
+            sign: false,
+            shape: Shape::Predicate(0),
+        }; 26],
+        arguments: [0; 78],
+        count,
+        variables,
+    }
+}
+
+// The three arguments of number i.
+fn three(arguments: &[u8], i: usize) -> [u8; 3]
+    requires { ⌜ i * 3 + 2 < length (now arguments) ⌝ }
+    ensures { λ r. ⌜ r ≡ threeAt (now (arguments .entry)) i ⌝ }
+{
+    [arguments[i * 3], arguments[i * 3 + 1], arguments[i * 3 + 2]]
+}
+
+fn put(mut flat: FlatClause, k: usize, literal: Literal, arguments: [u8; 3]) -> FlatClause
+    requires { ⌜ k < 26 ⌝ }
+    ensures { λ r. ⌜ r ≡ withFlat flat k literal arguments ⌝ }
+{
+    flat.literals[k] = literal;
+    flat.arguments[k * 3] = arguments[0];
+    flat.arguments[k * 3 + 1] = arguments[1];
+    flat.arguments[k * 3 + 2] = arguments[2];
+    flat
+}
