@@ -5,15 +5,16 @@ use mathlib.Core.Bool.{Bool, false}
 use mathlib.Core.List.{List}
 use native.Mathlib.Omega.{arith}
 use lib.Dec.{leb}
-use lib.ListN.{length, getD, take}
+use lib.ListN.{length, getD, take, length-take, length-map}
 use lib.Seq.{getD-take, length-take-le}
 use Rattle.theory.specs.Syntax.{symbolAt, noSymbol}
+use Rattle.theory.specs.Syntax as theory
 use Rattle.theory.proofs.Tests.{leb-true}
 use Rattle.theory.proofs.Lists.{all-at, map-at}
 use Rattle.syntax.specs.declared.signature.Symbol.{Symbol}
 use Rattle.syntax.specs.declared.signature.Signature.{Signature}
-use Rattle.syntax.specs.Signatures.{symbolIn, signatureIn}
-use Rattle.syntax.proofs.Signatures.{length-signatureIn}
+use Rattle.syntax.specs.Signatures.{symbolIn, signatureIn, aritiesOf, Arities, Small}
+use Rattle.syntax.proofs.Signatures.{length-signatureIn, arities-signatureIn}
 use Rattle.clauses.specs.Names.{Limited, Readable}
 
 -- what stands past the symbols
@@ -38,6 +39,21 @@ module _ (s : Signature) (h : Limited s) where
   symbolAt-signatureIn sheet i l =
       map-at (symbolIn sheet) (take (s .count) (s .symbols)) i blank noSymbol (omega (arith, front))
       ∙ ap (symbolIn sheet) (getD-take (s .count) (s .symbols) i blank l)
+
+  pub small-signatureIn : (sheet : List ℕ) → Small (signatureIn sheet s)
+  small-signatureIn sheet =
+      record {
+        symbols = omega (arith, count-signatureIn sheet, h .count);
+        arities = λ i l.
+            let k : i < s .count = omega (arith, count-signatureIn sheet) in
+            omega (arith, ap (λ (y : theory.Symbol). y .arity) (symbolAt-signatureIn sheet i k), arity-at i k);
+      }
+
+  -- the arities that were taken out are those of the signature
+  pub arities-held : (sheet arities : List ℕ) → take (s .count) arities ≡ aritiesOf (take (s .count) (s .symbols)) → Arities (signatureIn sheet s) arities
+  arities-held sheet arities e =
+      arities-signatureIn sheet s arities (h .held)
+      (omega (arith, ap length e, length-map (take (s .count) (s .symbols)) (λ (y : Symbol). y .arity), front, length-take (s .count) arities)) e
 
 pub name-within : (sheet : List ℕ) (s : Signature) → Readable sheet s → (i : ℕ) → i < s .count
     → getD (s .symbols) i blank .name + getD (s .symbols) i blank .length ≤ length sheet

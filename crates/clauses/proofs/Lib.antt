@@ -5,3 +5,4 @@ pub mod OneWord
 pub mod Automaton
 pub mod Passing
 pub mod Going
+pub mod Finished

@@ -1,18 +1,23 @@
 -- What was read of a clause line's words.
 use Prim.Native.Nat.{ℕ, _*_, _≤_, _<_}
 use mathlib.Core.Path.{_≡_}
-use mathlib.Core.Bool.{true, false}
+use mathlib.Core.Bool.{true, false, cond}
 use mathlib.Core.Option.{none, some}
 use mathlib.Core.List.{List, [], _∷_, _++_, map}
+use lib.Dec.{eqb}
 use lib.ListN.{length, take}
 use Rattle.theory.specs.Lists.{sum}
-use Rattle.theory.specs.Syntax.{Signature}
+use Rattle.theory.specs.Syntax.{Signature, Clause}
 use Rattle.theory.specs.Grammar.{Word, sign, equals, symbol, letter, terms}
 use Rattle.theory.specs.Lines.{wordsOf}
-use Rattle.theory.specs.Problem.{maxWords, readAll}
+use Rattle.theory.specs.Flattening.{flatten, variableCount}
+use Rattle.theory.specs.Refusals.{Answer, answer, refused, atLine}
+use Rattle.theory.specs.Problem.{maxWords, maxLiterals, maxVariables, readAll, clauseOf}
 use Rattle.theory.specs.Problem as theory
-use Rattle.syntax.specs.Codes.{wordOf}
+use Rattle.syntax.specs.declared.words.ClauseWords.{ClauseWords}
+use Rattle.syntax.specs.Codes.{wordOf, clauseIn, IsClause}
 use Rattle.clauses.specs.declared.clause.Words.{Words}
+use Rattle.clauses.specs.declared.clause.ClauseLine.{ClauseLine}
 use Rattle.clauses.specs.Grammar.{dueIn, pending, dueAfterAll}
 
 -- the number of signs that a word is
@@ -46,3 +51,18 @@ pub record WordTaken (g : Signature) (word : List ℕ) (w r : Words) : Type 0 wh
 pub record WordsRead (g : Signature) (value : List ℕ) (r : Words) : Type 0 where
   pub unknown : r .unknown ≡ true → readAll g (wordsOf value) ≡ none
   pub known : r .unknown ≡ false → (ws : List Word) × (readAll g (wordsOf value) ≡ some ws) × Passed g ws r
+
+-- what the value of line l was read to
+abbrev pub clauseLineIn : Signature → ℕ → ClauseLine → Answer Clause
+clauseLineIn g l r = cond (eqb (r .fault) 0) (answer (clauseIn g (r .words))) (refused (atLine (r .fault) l))
+
+-- the clause words are a clause within the limits
+pub record Accepted (g : Signature) (w : ClauseWords) : Type 0 where
+  pub clause : IsClause g w
+  pub literals : length (clauseIn g w) ≤ maxLiterals
+  pub variables : variableCount (flatten (clauseIn g w)) ≤ maxVariables
+
+-- r is what the value is read to, whatever the number of its line
+pub record ClauseRead (g : Signature) (value : List ℕ) (r : ClauseLine) : Type 0 where
+  pub read : (l : ℕ) → clauseLineIn g l r ≡ clauseOf g l value
+  pub accepted : r .fault ≡ 0 → Accepted g (r .words)

@@ -5,6 +5,7 @@ use crate::words::Word;
 use crate::words::word_of;
 use syntax::limits::Problem;
 use syntax::signature::Signature;
+use syntax::words::ClauseWords;
 use text::lines::word_end;
 ghost use mathlib.Core.Path.{_≡_};
 ghost use mathlib.Core.Bool.{true, false};
@@ -25,6 +26,24 @@ pub struct Words {
     pub literals: usize,
     pub due: Due,
     pub unknown: bool,
+}
+
+// A clause's words, or the number of the refusal, 5 to 7; 0 for none.
+pub struct ClauseLine {
+    pub words: ClauseWords,
+    pub fault: u8,
+}
+
+fn refused(fault: u8) -> ClauseLine
+    ensures { λ r. ⌜ r .fault ≡ fault ⌝ }
+{
+    ClauseLine {
+        words: ClauseWords {
+            words: [0; Problem::MAX_WORDS],
+            count: 0,
+        },
+        fault,
+    }
 }
 
 // The words of a line, however many.

@@ -10,7 +10,7 @@ ghost use Rattle.syntax.specs.Signatures.{signatureIn};
 ghost use Rattle.syntax.specs.Codes.{wordOf};
 ghost use Rattle.clauses.specs.Names.{Limited};
 ghost use Rattle.clauses.specs.Words.{isCode};
-ghost use Rattle.clauses.specs.Grammar.{dueIn, pending, dueNext};
+ghost use Rattle.clauses.specs.Grammar.{dueIn, pending, dueNext, isFinished};
 
 pub enum Due {
     // so many terms; with none due a sign or the end
@@ -19,6 +19,17 @@ pub enum Due {
     Atom,
     // nothing that could follow: a word stands where it cannot
     Nothing,
+}
+
+// Whether the words may end there.
+pub fn is_finished(due: Due) -> bool
+    ensures { λ r. ⌜ r ≡ isFinished (dueIn due) ⌝ }
+{
+    match due {
+        Due::Terms(n) => n == 0,
+        Due::Atom => false,
+        Due::Nothing => false,
+    }
 }
 
 // What is due after one word more.
