@@ -22,7 +22,9 @@ use Rattle.theory.proofs.Lists.{all-imply}
 use Rattle.theory.proofs.Answers.{bind-step, bind-refused, orRefuse-of-some, orRefuse-of-none, check-of-true, check-of-false}
 use Rattle.theory.proofs.Parsing.{isLetter, readAll-known}
 use Rattle.syntax.specs.declared.words.ClauseWords.{ClauseWords}
+use Rattle.syntax.specs.Signatures.{Arities, Small}
 use Rattle.syntax.specs.Codes.{wordsIn, clauseIn, isKnown, IsClause}
+use Rattle.shallow.specs.Flattenable.{Flattenable}
 use Rattle.clauses.specs.declared.clause.Words.{Words}
 use Rattle.clauses.specs.declared.clause.ClauseLine.{ClauseLine}
 use Rattle.clauses.specs.Grammar.{dueIn, dueAfterAll, isFinished}
@@ -160,6 +162,10 @@ module _ (g : Signature) (value : List ℕ) where
           module _ (short : w .literals ≤ 16) where
             pub coded-literals : length (clauseIn g coded) ≤ maxLiterals
             coded-literals = omega (arith, ap length clauseIn-coded, literals-read)
+
+            -- it can be flattened
+            abbrev pub coded-flattenable : (arities : List ℕ) → Arities g arities → Small g → Flattenable arities coded
+            coded-flattenable arities table small = record { signature = g; table = table; small = small; clause = coded-clause; literals = coded-literals }
 
             module _ (n : ℕ) (counted : n ≡ variableCount (flatten (clauseIn g coded))) where
               variables-read : variableCount (flatten written) ≡ n

@@ -1,8 +1,10 @@
 // A clause line's words: read to their codes, held to the grammar and to the limits.
 use crate::grammar::Due;
 use crate::grammar::after;
+use crate::grammar::is_finished;
 use crate::words::Word;
 use crate::words::word_of;
+use flattening::flat::variable_count;
 use syntax::limits::Problem;
 use syntax::signature::Signature;
 use syntax::words::ClauseWords;
@@ -17,7 +19,7 @@ ghost use Rattle.syntax.specs.Signatures.{signatureIn};
 ghost use Rattle.syntax.specs.Codes.{wordOf};
 ghost use Rattle.clauses.specs.Names.{Limited, Readable};
 ghost use Rattle.clauses.specs.Words.{isCode};
-ghost use Rattle.clauses.specs.Clauses.{signCount, Bounded, Passed, WordTaken, WordsRead};
+ghost use Rattle.clauses.specs.Clauses.{signCount, Bounded, Passed, WordTaken, WordsRead, ClauseRead};
 
 // What was read of a line: the codes of its first 64 words, how many words and signs, what is due, whether a word was unknown.
 pub struct Words {
@@ -32,6 +34,37 @@ pub struct Words {
 pub struct ClauseLine {
     pub words: ClauseWords,
     pub fault: u8,
+}
+
+// The clause of what follows a clause line's key.
+pub fn read_clause(sheet: &[u8], signature: Signature, value: &[u8]) -> ClauseLine
+    requires { ⌜ Readable (now sheet) signature ⌝ }
+    ensures { λ r. ⌜ ClauseRead (signatureIn (now (sheet .entry)) signature) (now (value .entry)) r ⌝ }
+{
+    let w = read_words(sheet, signature, value);
+    if w.unknown {
+        return refused(5);
+    }
+    let due = w.due;
+    if !is_finished(due) {
+        return refused(6);
+    }
+    if Problem::MAX_WORDS < w.count {
+        return refused(7);
+    }
+    if Problem::MAX_LITERALS < w.literals {
+        return refused(7);
+    }
+    let words = w.words;
+    let c = ClauseWords {
+        words,
+        count: w.count,
+    };
+    let arities = signature.arities();
+    if Problem::MAX_VARIABLES < variable_count(c, &arities) {
+        return refused(7);
+    }
+    ClauseLine { words: c, fault: 0 }
 }
 
 fn refused(fault: u8) -> ClauseLine

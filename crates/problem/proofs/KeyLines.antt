@@ -14,6 +14,7 @@ use Rattle.theory.specs.Refusals.{Answer, answer, atLine, _>>=_, check, orRefus
 use Rattle.theory.specs.Problem.{keyLine, countLine}
 use Rattle.theory.proofs.Answers.{bind-step, bind-refused, orRefuse-of-some, orRefuse-of-none, check-of-true, check-of-false}
 use Rattle.text.specs.Lines.{part, LineEnd, StartsWith}
+use Rattle.text.proofs.Ends.{line-later}
 use Rattle.text.proofs.Part.{drop-part, length-part}
 use Rattle.problem.specs.declared.lines.KeyLine.the-variants as key
 use Rattle.problem.specs.declared.lines.CountLine.{CountLine}
@@ -50,7 +51,7 @@ module _ (sheet : List ℕ) (at end : ℕ) (keyBytes : List ℕ) (e : LineEnd sh
         record {
           read = λ l. sym (line-cut l _ (bind-step (orRefuse (afterKey keyBytes (part sheet at end)) (atLine 2 l)) _ _ _ (orRefuse-of-some (afterKey keyBytes (part sheet at end)) (atLine 2 l) _ (s .found))
               (ap (λ (v : List ℕ). answer (v, drop (suc end) sheet)) (drop-part sheet at end (length keyBytes)))));
-          within = (omega (arith, s .room refl, length-part sheet at end (e .from) (e .within), e .from), omega (arith, e .within));
+          within = (line-later sheet at end (length keyBytes) (omega (arith, s .room refl, length-part sheet at end (e .from) (e .within), e .from)) e, omega (arith, e .within));
         }
 
 module _ (sheet : List ℕ) (from end limit : ℕ) where

@@ -3,3 +3,8 @@ pub mod NameBytes
 pub mod Declaring
 pub mod SymbolLines
 pub mod SectionLines
+pub mod ClausePlaces
+pub mod ClauseTaking
+pub mod Stages
+pub mod WholeSheet
+pub mod WordsAgain

@@ -27,6 +27,22 @@ use Rattle.clauses.specs.Names.{Readable}
 use Rattle.problem.specs.Symbols.{SymbolRead}
 use Rattle.problem.specs.Sections.{linesFrom, sectionFrom, SectionRead}
 
+-- no symbol
+pub signatureIn-none : (sheet : List ℕ) (s : Signature) → s .count ≡ 0 → signatureIn sheet s ≡ []
+unfolding signatureIn
+signatureIn-none sheet s e = ap (λ (n : ℕ). map (symbolIn sheet) (take n (s .symbols))) e
+
+pub readable-none : (sheet : List ℕ) (s : Signature) → s .count ≡ 0 → Readable sheet s
+readable-none sheet s e =
+    record {
+      limited = record {
+        count = omega arith;
+        held = omega arith;
+        arities = ap (λ (n : ℕ). all (λ (y : Symbol). leb (y .arity) 3) (take n (s .symbols))) e;
+      };
+      names = ap (λ (n : ℕ). all (λ (y : Symbol). leb (y .name + y .length) (length sheet)) (take n (s .symbols))) e;
+    }
+
 -- one symbol more
 module _ (sheet : List ℕ) (s r : Signature) (y : Symbol) (h : Readable sheet s) (count : r .count ≡ s .count + 1) (symbols : take (r .count) (r .symbols) ≡ take (s .count) (s .symbols) ++ (y ∷ [])) where
   pub signatureIn-more : signatureIn sheet r ≡ signatureIn sheet s ++ (symbolIn sheet y ∷ [])

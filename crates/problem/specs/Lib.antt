@@ -1,3 +1,4 @@
 pub mod Lines
 pub mod Symbols
 pub mod Sections
+pub mod Problems

@@ -7,7 +7,7 @@ use lib.ListN.{length, drop}
 use Rattle.theory.specs.Lines.{Cut, countOf}
 use Rattle.theory.specs.Refusals.{Answer, answer, refused, atLine, _>>=_, check, orRefuse}
 use Rattle.theory.specs.Problem.{keyLine, countLine}
-use Rattle.text.specs.Lines.{part}
+use Rattle.text.specs.Lines.{part, LineEnd}
 use Rattle.problem.specs.declared.lines.KeyLine.{KeyLine}
 use Rattle.problem.specs.declared.lines.KeyLine.the-variants as key
 use Rattle.problem.specs.declared.lines.CountLine.{CountLine}
@@ -18,15 +18,15 @@ abbrev pub keyLineIn : List ℕ → ℕ → KeyLine → Answer Cut
 keyLineIn sheet l (key.Value from end) = answer (part sheet from end, drop (suc end) sheet)
 keyLineIn sheet l key.Fault = refused (atLine 2 l)
 
--- the value, and the LF after it, stand within n bytes
-abbrev pub ValueWithin : ℕ → KeyLine → Type 0
-ValueWithin n (key.Value from end) = (from ≤ end) × (end < n)
-ValueWithin n key.Fault = Unit {0}
+-- the line from the value on ends at the LF, which stands within the sheet
+abbrev pub ValueWithin : List ℕ → KeyLine → Type 0
+ValueWithin sheet (key.Value from end) = LineEnd sheet from end × (end < length sheet)
+ValueWithin sheet key.Fault = Unit {0}
 
 -- r is what the line from `at` on with this key is read to
 pub record KeyRead (sheet : List ℕ) (at : ℕ) (key : List ℕ) (r : KeyLine) : Type 0 where
   pub read : (l : ℕ) → keyLineIn sheet l r ≡ keyLine key l (drop at sheet)
-  pub within : ValueWithin (length sheet) r
+  pub within : ValueWithin sheet r
 
 -- the count of a line's value, and the text after the line
 unfoldable pub countValue : ℕ → ℕ → Cut → Answer (ℕ × List ℕ)

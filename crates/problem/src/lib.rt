@@ -1,4 +1,6 @@
 // Reading a problem (document 01: a sheet): signature, where each clause stands, or the refusal of the first faulty line.
+pub mod clause_lines;
 pub mod lines;
 pub mod sections;
+pub mod sheet;
 pub mod symbols;

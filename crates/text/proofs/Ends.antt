@@ -1,17 +1,17 @@
 -- Where a line and a word end, byte by byte.
 use mathlib.Core.Path.{_≡_, refl, sym, ap, _∙_}
 use mathlib.Core.Bool.{Bool, true, false, cond}
-use mathlib.Core.Option.{none, some}
+use mathlib.Core.Option.{Option, none, some}
 use mathlib.Core.List.{List, [], _∷_}
-use Prim.Native.Nat.{ℕ, suc, _+_, _≤_, _<_}
+use Prim.Native.Nat.{ℕ, zero, suc, _+_, _≤_, _<_}
 use native.Mathlib.Numerals.{add-one}
 use native.Mathlib.Omega.{arith}
-use lib.Dec.{ltb}
+use lib.Dec.{eqb, ltb}
 use lib.ListN.{length, getD, drop, drop-of-length-le}
 use lib.Seq.{drop-cons}
 use borrow.Author.Tests.{lt-ltb, le-ltb, eq-eqb, ne-eqb}
 use Rattle.theory.specs.Bytes.{LF, space}
-use Rattle.theory.specs.Lines.{addFront, cutLine, addByte, cutWords}
+use Rattle.theory.specs.Lines.{Cut, addFront, cutLine, addByte, cutWords}
 use Rattle.text.specs.Lines.{part, LineEnd, WordEnd}
 use Rattle.text.proofs.Part.{part-none, part-cons}
 
@@ -55,6 +55,45 @@ module _ (text : List ℕ) (i : ℕ) where
       go : (b : Bool) → addFront x (cond b (some (part text (i + 1) r, drop (suc r) text)) none) ≡ cond b (some (x ∷ part text (i + 1) r, drop (suc r) text)) none
       go true = refl
       go false = refl
+
+-- a line that goes on past a byte ends where it ends from the next byte on
+line-next : (text : List ℕ) (i r : ℕ) → i < r → LineEnd text i r → LineEnd text (i + 1) r
+line-next text i r l z =
+    record {
+      from = omega arith;
+      within = z .within;
+      cut = ap (λ (n : ℕ). cutLine (drop n text)) (add-one i) ∙ go (eqb x LF) (cutLine (drop (suc i) text)) (ltb r (length text)) whole;
+    }
+  where
+    x : ℕ
+    x = getD text i 0
+
+    whole : cond (eqb x LF) (some ([], drop (suc i) text)) (addFront x (cutLine (drop (suc i) text))) ≡ cond (ltb r (length text)) (some (x ∷ part text (i + 1) r, drop (suc r) text)) none
+    whole =
+        ap cutLine (sym (drop-cons text i 0 (omega (arith, z .within)))) ∙ z .cut
+        ∙ ap (λ (w : List ℕ). cond (ltb r (length text)) (some (w, drop (suc r) text)) none) (part-cons text i r 0 l (z .within))
+
+    size : Option Cut → ℕ
+    size none = 0
+    size (some p) = length (p .0)
+
+    shorter : Option Cut → Option Cut
+    shorter none = none
+    shorter (some p) = some (drop 1 (p .0), p .1)
+
+    go : (e : Bool) (o : Option Cut) (b : Bool) → cond e (some ([], drop (suc i) text)) (addFront x o) ≡ cond b (some (x ∷ part text (i + 1) r, drop (suc r) text)) none
+        → o ≡ cond b (some (part text (i + 1) r, drop (suc r) text)) none
+    go true o true h = absurd (omega (arith, ap size h))
+    go true o false h = let z : _≡_ {A = ℕ} 0 1 = cc in absurd (omega arith)
+    go false none true h = let z : _≡_ {A = ℕ} 0 1 = cc in absurd (omega arith)
+    go false none false h = refl
+    go false (some p) true h = ap shorter h
+    go false (some p) false h = let z : _≡_ {A = ℕ} 0 1 = cc in absurd (omega arith)
+
+-- and so from any place within it
+pub line-later : (text : List ℕ) (i r k : ℕ) → i + k ≤ r → LineEnd text i r → LineEnd text (i + k) r
+line-later text i r zero l z = let e : i ≡ i + 0 = omega arith in rw (← e) z
+line-later text i r (suc k) l z = let e : i + 1 + k ≡ i + suc k = omega arith in rw (← e) (line-later text (i + 1) r k (omega arith) (line-next text i r (omega arith) z))
 
 module _ (line : List ℕ) (i : ℕ) where
   -- a word ends at a space

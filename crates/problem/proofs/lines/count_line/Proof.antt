@@ -1,5 +1,4 @@
 -- `count_line` reads the key, then the count.
-use lib.ListN.{length}
 use Rattle.problem.specs.declared.lines.KeyLine.the-variants.{Value}
 use Rattle.problem.specs.Lines.{ValueWithin}
 use Rattle.problem.proofs.KeyLines.{count-unkeyed, count-keyed}
@@ -17,7 +16,7 @@ enum-known-from : tie.Need-enum-known-from
 enum-known-from c = search needs
 
 count-at-requires : tie.Need-count-at-requires
-count-at-requires c κs = let h : ValueWithin (length (c .before .before .before .before .before .before .args .sheet .now)) (Value _ _) = rw (c .before .from .given .1) at (c .before .before .before .key-line .ensures .within) in h
+count-at-requires c κs = let h : ValueWithin (c .before .before .before .before .before .before .args .sheet .now) (Value _ _) = rw (c .before .from .given .1) at (c .before .before .before .key-line .ensures .within) in (h .0 .from, h .1)
 
 returns : tie.Need-returns
 returns c = let a = c .before .before .before .before .before .args in count-unkeyed (a .sheet .now) (a .at) (a .key .now) (a .limit) (rw (c .enum-told .given .1) at (c .before .before .key-line .ensures))

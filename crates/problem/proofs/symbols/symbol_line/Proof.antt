@@ -1,5 +1,4 @@
 -- `symbol_line` reads the key, then the symbol.
-use lib.ListN.{length}
 use Rattle.syntax.specs.Signatures.{kindOf, signatureIn}
 use Rattle.problem.specs.declared.lines.KeyLine.the-variants.{Value}
 use Rattle.problem.specs.Lines.{ValueWithin}
@@ -21,7 +20,7 @@ symbol-at-requires : tie.Need-symbol-at-requires
 symbol-at-requires c κs =
     let z = c .before .before .before .before .before .before in
     let a = z .args in
-    let h : ValueWithin (length (a .sheet .now)) (Value _ _) = rw (c .before .from .given .1) at (c .before .before .before .key-line .ensures .within) in (h .0, (h .1, z .pre .1))
+    let h : ValueWithin (a .sheet .now) (Value _ _) = rw (c .before .from .given .1) at (c .before .before .before .key-line .ensures .within) in (h .0 .from, (h .1, z .pre .1))
 
 returns : tie.Need-returns
 returns c =
