@@ -15,19 +15,11 @@ use Rattle.theory.proofs.Lists.{all-append}
 use Rattle.theory.proofs.Finding.{placeThat-some, any→placeThat}
 use Rattle.theory.proofs.Distinct.{elem-any}
 use Rattle.theory.proofs.LiftedTerms.{place, covered, coveredAll, covered-among, covered-first, covered-rest}
-use Rattle.theory.proofs.WellFormed.{length-variablesFor, within}
+use Rattle.theory.proofs.WellFormed.{length-variablesFor, within, within-left, within-right}
 use Rattle.lifting.specs.Places.{placeIn, places}
 
 pub length-places : (xs : List ℕ) (found : List Term) (ts : Terms) → length (places xs found ts) ≡ count ts
 length-places xs found ts = length-map (variablesFor found ts) (placeIn xs) ∙ length-variablesFor found ts
-
-pub within-first : (xs : List ℕ) (t : Term) (ts : Terms) → within xs (termsVariables (cons t ts)) ≡ true → within xs (termVariables t) ≡ true
-within-first xs t ts h =
-    and-left (within xs (termVariables t)) (within xs (termsVariables ts)) (sym (all-append (λ y. elem y xs) (termVariables t) (termsVariables ts)) ∙ h)
-
-pub within-rest : (xs : List ℕ) (t : Term) (ts : Terms) → within xs (termsVariables (cons t ts)) ≡ true → within xs (termsVariables ts) ≡ true
-within-rest xs t ts h =
-    and-right (within xs (termVariables t)) (within xs (termsVariables ts)) (sym (all-append (λ y. elem y xs) (termVariables t) (termsVariables ts)) ∙ h)
 
 -- a variable's place is among the clause's own, and it is the one there
 pub record OwnPlace (xs : List ℕ) (x : ℕ) : Type 0 where
@@ -70,7 +62,7 @@ module _ (xs : List ℕ) (found : List Term) where
   places-inj (cons t ts) empty a b h k e = let z : _≡_ {A = ℕ} (suc (length (places xs found ts))) 0 = ap length e in absurd (omega arith)
   places-inj (cons t ts) (cons u us) a b h k e =
       let p : t ≡ u =
-      place-inj t u (covered-first found t ts a) (covered-first found u us b) (within-first xs t ts h) (within-first xs u us k) (ap (λ (l : List ℕ). getD l 0 0) e) in
+      place-inj t u (covered-first found t ts a) (covered-first found u us b) (within-left xs (termVariables t) (termsVariables ts) h) (within-left xs (termVariables u) (termsVariables us) k) (ap (λ (l : List ℕ). getD l 0 0) e) in
       let q : ts ≡ us =
-      places-inj ts us (covered-rest found t ts a) (covered-rest found u us b) (within-rest xs t ts h) (within-rest xs u us k) (ap (λ (l : List ℕ). drop 1 l) e) in
+      places-inj ts us (covered-rest found t ts a) (covered-rest found u us b) (within-right xs (termVariables t) (termsVariables ts) h) (within-right xs (termVariables u) (termsVariables us) k) (ap (λ (l : List ℕ). drop 1 l) e) in
       cc

@@ -7,7 +7,7 @@ use mathlib.Core.List.{List, [], _∷_, _++_, append-assoc}
 use native.Mathlib.Nat.{add-zero}
 use native.Mathlib.Omega.{arith}
 use lib.ListN.{length, getD, set, replicate, length-append, getD-replicate}
-use Rattle.theory.proofs.WellFormed.{within}
+use Rattle.theory.proofs.WellFormed.{within, within-left, within-right}
 use Rattle.theory.specs.Lists.{all, elem}
 use Rattle.theory.specs.Syntax.{Signature, symbolAt, Term, variable, apply, Terms, empty, cons, count, functionOf, termVariables, termsVariables, termOk, termsOk}
 use Rattle.theory.specs.Grammar.{Word, letter, symbol, termWords, termsWords}
@@ -27,7 +27,7 @@ use Rattle.lifting.specs.Places.{placeIn, places}
 use Rattle.lifting.specs.Rows.{rowOf, shared}
 use Rattle.lifting.specs.Lifts.{Lifts}
 use Rattle.lifting.specs.Reading.{wordsFrom, TermThere, TermsThere, TermLifted, TermsLifted}
-use Rattle.lifting.proofs.Standing.{own-place, within-first, within-rest}
+use Rattle.lifting.proofs.Standing.{own-place}
 use Rattle.lifting.proofs.Sharing.{shared-variable, shared-lifts}
 use Rattle.lifting.proofs.Words.{words-fit, words-after, first-below, first-word, first-after}
 
@@ -230,7 +230,7 @@ module _ {codes place arities : List ℕ} {owns at n : ℕ} {t : Table} (s : Ter
           source = s .source;
           term = p .first;
           ok = and-left (termOk (s .source .signature) (p .first)) (termsOk (s .source .signature) (p .others)) all-ok;
-          own = within-first (s .source .variables) (p .first) (p .others) all-own;
+          own = within-left (s .source .variables) (termVariables (p .first)) (termsVariables (p .others)) all-own;
           rest = termsWords (p .others) ++ s .rest;
           words = words-there;
           found = s .found;
@@ -250,7 +250,7 @@ module _ {codes place arities : List ℕ} {owns at n : ℕ} {t : Table} (s : Ter
             terms = p .others;
             counted = omega (arith, ap count (p .is), s .counted);
             ok = and-right (termOk (s .source .signature) (p .first)) (termsOk (s .source .signature) (p .others)) all-ok;
-            own = within-rest (s .source .variables) (p .first) (p .others) all-own;
+            own = within-right (s .source .variables) (termVariables (p .first)) (termsVariables (p .others)) all-own;
             rest = s .rest;
             words =
                 ap (wordsFrom codes (s .source .length)) (e .next)

@@ -114,10 +114,10 @@ module _ (owns : List ℕ) where
   abbrev pub within : List ℕ → Bool
   within xs = all (λ x. elem x owns) xs
 
-  within-left : (xs ys : List ℕ) → within (xs ++ ys) ≡ true → within xs ≡ true
+  pub within-left : (xs ys : List ℕ) → within (xs ++ ys) ≡ true → within xs ≡ true
   within-left xs ys h = and-left (within xs) (within ys) (sym (all-append (λ x. elem x owns) xs ys) ∙ h)
 
-  within-right : (xs ys : List ℕ) → within (xs ++ ys) ≡ true → within ys ≡ true
+  pub within-right : (xs ys : List ℕ) → within (xs ++ ys) ≡ true → within ys ≡ true
   within-right xs ys h = and-right (within xs) (within ys) (sym (all-append (λ x. elem x owns) xs ys) ∙ h)
 
   turnedAtom-within : (a : Atom) → within (atomVariables a) ≡ true → within (atomVariables (turnedAtom a)) ≡ true
