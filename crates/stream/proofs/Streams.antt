@@ -52,32 +52,43 @@ module _ (mode : Mode) (v : ℕ) where
   pub consumes-same : (cs ds : List PropClause) (x : State) → cs ≡ ds → Consumes mode v cs x → Consumes mode v ds x
   consumes-same cs ds x e h = subst (λ (l : List PropClause). Consumes mode v l x) e h
 
-  -- The clauses f a, f (a + 1), .., n lists one after the other, of which i are taken.
+  pub consumed-same : (cs ds : List PropClause) (x y : State) → cs ≡ ds → Consumed mode v cs x y → Consumed mode v ds x y
+  consumed-same cs ds x y e h = subst (λ (l : List PropClause). Consumed mode v l x y) e h
+
+  -- The clauses f a, f (a + 1), .., n lists one after the other, of which i are taken; k is a + i.
   module _ (f : ℕ → List PropClause) (a n : ℕ) (x : State) where
-    pub next-consumes : (i : ℕ) (y : State) → i < n → Consumes mode v (concatMap f (upFrom a n)) x → Consumed mode v (concatMap f (upFrom a i)) x y → Consumes mode v (f (a + i)) y
-    next-consumes i y l h p =
-        first-consumes (f (a + i)) (concatMap f (upFrom (suc (a + i)) (n - suc i))) y
-        (rest-consumes (concatMap f (upFrom a i)) (f (a + i) ++ concatMap f (upFrom (suc (a + i)) (n - suc i))) x y (consumes-same (concatMap f (upFrom a n)) _ x whole h) p)
+    pub begun-consumed : (i : ℕ) → i ≡ 0 → Consumed mode v (concatMap f (upFrom a i)) x x
+    begun-consumed i e = consumed-same [] (concatMap f (upFrom a i)) x x (ap (λ (m : ℕ). concatMap f (upFrom a m)) (sym e)) (none-consumed x)
+
+    pub next-consumes : (i k : ℕ) (y : State) → i < n → k ≡ a + i → Consumes mode v (concatMap f (upFrom a n)) x → Consumed mode v (concatMap f (upFrom a i)) x y → Consumes mode v (f k) y
+    next-consumes i k y l e h p =
+        first-consumes (f k) (concatMap f (upFrom (suc (a + i)) (n - suc i))) y
+        (rest-consumes (concatMap f (upFrom a i)) (f k ++ concatMap f (upFrom (suc (a + i)) (n - suc i))) x y (consumes-same (concatMap f (upFrom a n)) _ x whole h) p)
       where
         count : i + suc (n - suc i) ≡ n
         count = omega arith
 
-        whole : concatMap f (upFrom a n) ≡ concatMap f (upFrom a i) ++ (f (a + i) ++ concatMap f (upFrom (suc (a + i)) (n - suc i)))
+        whole : concatMap f (upFrom a n) ≡ concatMap f (upFrom a i) ++ (f k ++ concatMap f (upFrom (suc (a + i)) (n - suc i)))
         whole =
-            ap (λ (k : ℕ). concatMap f (upFrom a k)) (sym count)
+            ap (λ (m : ℕ). concatMap f (upFrom a m)) (sym count)
             ∙ ap (concatMap f) (sym (upFrom-append a i (suc (n - suc i))))
             ∙ concatMap-append f (upFrom a i) (upFrom (a + i) (suc (n - suc i)))
+            ∙ ap (λ (m : ℕ). concatMap f (upFrom a i) ++ (f m ++ concatMap f (upFrom (suc (a + i)) (n - suc i)))) (sym e)
 
-    pub more-consumed : (i : ℕ) (y z : State) → Consumed mode v (concatMap f (upFrom a i)) x y → Consumed mode v (f (a + i)) y z → Consumed mode v (concatMap f (upFrom a (suc i))) x z
-    more-consumed i y z p q =
-        subst (λ (l : List PropClause). Consumed mode v l x z) (sym whole) (both-consumed (concatMap f (upFrom a i)) (f (a + i)) x y z p q)
+    pub more-consumed : (i j k : ℕ) (y z : State) → j ≡ suc i → k ≡ a + i → Consumed mode v (concatMap f (upFrom a i)) x y → Consumed mode v (f k) y z → Consumed mode v (concatMap f (upFrom a j)) x z
+    more-consumed i j k y z d e p q =
+        consumed-same (concatMap f (upFrom a i) ++ f k) (concatMap f (upFrom a j)) x z (sym whole) (both-consumed (concatMap f (upFrom a i)) (f k) x y z p q)
       where
-        count : i + 1 ≡ suc i
+        count : j ≡ i + 1
         count = omega arith
 
-        whole : concatMap f (upFrom a (suc i)) ≡ concatMap f (upFrom a i) ++ f (a + i)
+        whole : concatMap f (upFrom a j) ≡ concatMap f (upFrom a i) ++ f k
         whole =
-            ap (λ (k : ℕ). concatMap f (upFrom a k)) (sym count)
+            ap (λ (m : ℕ). concatMap f (upFrom a m)) count
             ∙ ap (concatMap f) (sym (upFrom-append a i 1))
             ∙ concatMap-append f (upFrom a i) ((a + i) ∷ [])
             ∙ ap (λ (l : List PropClause). concatMap f (upFrom a i) ++ l) (append-nil (f (a + i)))
+            ∙ ap (λ (m : ℕ). concatMap f (upFrom a i) ++ f m) (sym e)
+
+    pub all-consumed : (i : ℕ) (y : State) → i ≡ n → Consumed mode v (concatMap f (upFrom a i)) x y → Consumed mode v (concatMap f (upFrom a n)) x y
+    all-consumed i y e p = consumed-same (concatMap f (upFrom a i)) (concatMap f (upFrom a n)) x y (ap (λ (m : ℕ). concatMap f (upFrom a m)) e) p
