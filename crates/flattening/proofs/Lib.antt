@@ -1,3 +1,4 @@
 pub mod Assembling
 pub mod Definitions
 pub mod PlacedInstances
+pub mod PlacedScope
