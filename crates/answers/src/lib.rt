@@ -1,0 +1,59 @@
+// What the operations answer: a result, or a numbered refusal. `specs/Answers` gives document 01's number and values for each of them.
+ghost use mathlib.Core.Path.{_≡_};
+ghost use Rattle.theory.specs.Refusals as theory;
+ghost use Rattle.answers.specs.Answers.{refusalIn};
+
+// A refusal: its number, its line or 0, and the needed length with 10 and 11, else 0.
+pub struct Refusal {
+    pub number: u8,
+    pub line: usize,
+    pub needed: usize,
+}
+
+// Read: the numbers of functions, predicates and clauses.
+pub enum ReadAnswer {
+    Counts(usize, usize, usize),
+    Refused(Refusal),
+}
+
+// Judge: the case is a model, or it is none.
+pub enum JudgeAnswer {
+    Yes,
+    No,
+    Refused(Refusal),
+}
+
+// Write and Read back: the length of the text.
+pub enum WriteAnswer {
+    Written(usize),
+    Refused(Refusal),
+}
+
+// Find: the size of the model and the length of its case, or none and the mark settled.
+pub enum FindAnswer {
+    Found(u64, usize),
+    Nothing(bool),
+    Refused(Refusal),
+}
+
+// A refusal at a line, or at none: 0.
+pub fn at_line(number: u8, line: usize) -> Refusal
+    ensures { λ r. ⌜ refusalIn r ≡ theory.atLine number line ⌝ }
+{
+    Refusal {
+        number,
+        line,
+        needed: 0,
+    }
+}
+
+// A refusal that tells the needed length.
+pub fn needing(number: u8, needed: usize) -> Refusal
+    ensures { λ r. ⌜ refusalIn r ≡ theory.needing number needed ⌝ }
+{
+    Refusal {
+        number,
+        line: 0,
+        needed,
+    }
+}
