@@ -1,14 +1,14 @@
 -- Counting through the vectors: the vector of rank i is the one at place i of them all.
-use Prim.Native.Nat.{ℕ, zero, suc, _^_, _<_}
-use mathlib.Core.Path.{_≡_, refl, sym, ap, _∙_}
+use Prim.Native.Nat.{ℕ, suc, _^_, _<_}
+use mathlib.Core.Path.{_≡_, sym, ap, _∙_}
 use mathlib.Core.Bool.{Bool, true, _&&_}
-use mathlib.Core.List.{List, [], _∷_, map}
+use mathlib.Core.List.{List, [], _∷_}
 use native.Mathlib.Nat.{zero-add}
 use native.Mathlib.Omega.{arith}
 use lib.Dec.{eqb, ltb}
 use lib.ListN.{length, getD, drop, length-map}
 use lib.Seq.{drop-cons}
-use Rattle.theory.specs.Lists.{all, upTo}
+use Rattle.theory.specs.Lists.{all}
 use Rattle.theory.specs.Vectors.{vectors, rank, AllBelow}
 use Rattle.theory.proofs.Tests.{eqb-true, eqb-of-≡, and-left, and-right, and-join}
 use Rattle.theory.proofs.Lists.{all-at, map-at, length-upFrom, getD-upFrom}

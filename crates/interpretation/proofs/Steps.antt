@@ -1,10 +1,10 @@
 -- The step to the next vector: the places passed were at their last digit and are 0.
-use Prim.Native.Nat.{ℕ, suc, _+_, _*_, _-_, _%_, _^_, _≤_, _<_}
+use Prim.Native.Nat.{ℕ, suc, _+_, _*_, _-_, _^_, _≤_, _<_}
 use mathlib.Core.Path.{_≡_, refl, sym, ap, _∙_}
 use mathlib.Core.List.{List}
 use native.Mathlib.Nat.{add-mul, one-mul, zero-mul, mul-comm, pow-zero, pow-suc, sub-zero, mod-eq-of-lt, mod-self}
 use native.Mathlib.Omega.{arith}
-use lib.ListN.{length, getD, set, take, length-set}
+use lib.ListN.{length, getD, set, length-set}
 use lib.Seq.{length-take-le, getD-take, take-set-lt}
 use Rattle.theory.specs.Vectors.{rank, AllBelow}
 use Rattle.theory.proofs.Vectors.{rank-lt}

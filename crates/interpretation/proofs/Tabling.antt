@@ -12,7 +12,10 @@ use Rattle.theory.specs.Syntax as theory
 use Rattle.theory.specs.Cells.{tableSize, cellBase, cellCount}
 use Rattle.theory.proofs.Numbering.{cellBase-suc, cellBase-length}
 use Rattle.syntax.specs.declared.signature.Symbol.{Symbol}
-use Rattle.syntax.specs.Signatures.{kindOf, symbolIn, Small}
+use Rattle.syntax.specs.declared.signature.Signature.{Signature}
+use Rattle.syntax.specs.Signatures.{kindOf, symbolIn, signatureIn, Small}
+use Rattle.clauses.specs.Names.{Limited}
+use Rattle.clauses.proofs.Held.{arity-at, count-signatureIn, symbolAt-signatureIn}
 use Rattle.interpretation.specs.declared.tables.Tables.{Tables}
 use Rattle.interpretation.specs.Tables.{TablesOf}
 use Rattle.interpretation.proofs.Ranks.{table-within}
@@ -87,3 +90,11 @@ base-within g s (suc i) h small l =
 
 pub cellCount-small : (g : theory.Signature) (s : ℕ) → s ≤ 8 → Small g → cellCount s g ≤ 12288
 cellCount-small g s h small = omega (arith, base-within g s (length g) h small (omega arith), cellBase-length s g, small .symbols)
+
+-- the signature of limited symbols is small
+pub limited-small : (sheet : List ℕ) (y : Signature) → Limited y → Small (signatureIn sheet y)
+limited-small sheet y h =
+    record {
+      symbols = omega (arith, count-signatureIn y h sheet, h .count);
+      arities = λ i l. rw (symbolAt-signatureIn y h sheet i (omega (arith, count-signatureIn y h sheet))) (arity-at y h i (omega (arith, count-signatureIn y h sheet)));
+    }

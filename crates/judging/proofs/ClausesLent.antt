@@ -1,16 +1,15 @@
 -- A clause of the signature and its variables' places, as they are lent to the search for a failing choice.
-use Prim.Native.Nat.{ℕ, _-_, _≤_, _<_}
-use mathlib.Core.Path.{_≡_, refl, sym, ap, _∙_, subst}
-use mathlib.Core.Bool.{Bool, true, not}
-use mathlib.Core.Option.{Option}
+use Prim.Native.Nat.{ℕ, _-_, _≤_}
+use mathlib.Core.Path.{_≡_, refl, sym, ap, _∙_}
+use mathlib.Core.Bool.{true, not}
 use mathlib.Core.List.{List, map}
 use native.Mathlib.Nat.{sub-zero}
 use native.Mathlib.Omega.{arith}
-use lib.ListN.{length, getD, take}
+use lib.ListN.{length, take}
 use lib.Seq.{length-take-le}
 use Rattle.theory.specs.Lists.{elem, firstThat}
 use Rattle.theory.specs.Vectors.{vectors}
-use Rattle.theory.specs.Syntax.{Signature, Clause, variables}
+use Rattle.theory.specs.Syntax.{Signature, variables}
 use Rattle.theory.specs.Truth.{clauseTrue, assign, failingChoice}
 use Rattle.theory.specs.Cells.{interpretation}
 use Rattle.theory.specs.Grammar.{readWords}
@@ -24,7 +23,7 @@ use Rattle.syntax.specs.Variables.{lettersOf, CodesBelow, Places, variablesIn}
 use Rattle.syntax.proofs.Places.{letters-below}
 use Rattle.syntax.proofs.Clauses.{codesBelow, variables-clauseIn}
 use Rattle.interpretation.specs.declared.tables.Tables.{Tables}
-use Rattle.truth.specs.Values.{ClauseLent, clauseOf, lettersAmong, tablesIn}
+use Rattle.truth.specs.Values.{ClauseLent, lettersAmong, tablesIn}
 use Rattle.judging.specs.Choices.{firstFailing, Judged}
 
 module _ {g : Signature} {c : ClauseWords} {t : Tables} {cells : List ℕ} {s : ℕ} (j : Judged g c t cells s) (held : length (c .words) ≡ 64) where

@@ -8,12 +8,11 @@ use truth::values::clause_value;
 ghost use mathlib.Core.Path.{_≡_};
 ghost use Prim.Native.Nat.{_≤_};
 ghost use lib.ListN.{length};
-ghost use Rattle.theory.specs.Lists.{firstThat};
 ghost use Rattle.theory.specs.Syntax.{Signature};
 ghost use Rattle.theory.specs.Truth.{failingChoice};
 ghost use Rattle.theory.specs.Cells.{interpretation};
 ghost use Rattle.syntax.specs.Codes.{clauseIn};
-ghost use Rattle.truth.specs.Values.{ClauseLent, clauseOf, tablesIn};
+ghost use Rattle.truth.specs.Values.{ClauseLent, tablesIn};
 ghost use Rattle.judging.specs.Choices.{Judged, choiceIn, firstFailing};
 
 // A choice of values under which a clause fails, if there is one.

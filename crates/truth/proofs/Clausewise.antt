@@ -1,18 +1,17 @@
 -- A clause's words read from the last to the first: each is lent what it needs, and a literal that is true makes the clause true.
 use Prim.Native.Nat.{ℕ, zero, suc, _-_, _≤_, _<_}
-use mathlib.Core.Path.{_≡_, refl, sym, ap, _∙_, subst}
-use mathlib.Core.Bool.{Bool, true, false}
-use mathlib.Core.List.{List, [], _∷_, _++_, map}
+use mathlib.Core.Path.{_≡_, refl, sym, ap, _∙_}
+use mathlib.Core.Bool.{true, false}
+use mathlib.Core.List.{List, [], _∷_, map}
 use native.Mathlib.Omega.{arith}
 use lib.ListN.{length, getD, drop, replicate, length-map, length-drop}
 use lib.Seq.{drop-cons, drop-length}
 use Rattle.theory.specs.Lists.{all, elem}
-use Rattle.theory.specs.Vectors.{AllBelow}
-use Rattle.theory.specs.Syntax.{Kind, function, predicate, Signature, symbolAt, empty}
+use Rattle.theory.specs.Syntax.{Kind, function, predicate, Signature, symbolAt}
 use Rattle.theory.specs.Truth.{Interpretation, Assignment, clauseTrue, literalTrue, assign}
 use Rattle.theory.specs.Cells.{interpretation}
-use Rattle.theory.specs.Grammar.{Word, sign, equals, symbol, letter, Due, atom, clause, grammarFrom, readSymbol, readWords}
-use Rattle.theory.proofs.Tests.{and-left, and-right, or-right}
+use Rattle.theory.specs.Grammar.{Word, sign, equals, symbol, letter, atom, clause, readSymbol, readWords}
+use Rattle.theory.proofs.Tests.{and-right, or-right}
 use Rattle.theory.proofs.Lists.{all-append, all-drop, map-at}
 use Rattle.theory.proofs.DueWords.{DueAt, due-at}
 use Rattle.syntax.specs.Codes.{wordOf, isKnown}

@@ -1,8 +1,8 @@
 -- What a word of a clause finds: its values on the stack, its cell among the cells.
 use Prim.Native.Nat.{ℕ, suc, _+_, _-_, _≤_, _<_}
-use mathlib.Core.Path.{_≡_, refl, sym, ap, _∙_, subst}
+use mathlib.Core.Path.{_≡_, refl, sym, ap, _∙_}
 use mathlib.Core.Bool.{Bool, true, false, _||_}
-use mathlib.Core.List.{List, [], _∷_, _++_}
+use mathlib.Core.List.{List, _∷_, _++_}
 use native.Mathlib.Omega.{arith}
 use lib.ListN.{length, getD, set, take, drop, length-drop}
 use lib.Seq.{length-take-le}
@@ -10,15 +10,13 @@ use Rattle.theory.specs.Lists.{all, elem}
 use Rattle.theory.specs.Vectors.{rank, AllBelow}
 use Rattle.theory.specs.Syntax.{function, predicate, Signature, symbolAt, Term, Terms, apply, equal, holds, Literal, count}
 use Rattle.theory.specs.Truth.{value, values, atomTrue, literalTrue, assign}
-use Rattle.theory.specs.Cells.{valueCount, cell, cellBase, cellKinds, cellCount, interpretation}
+use Rattle.theory.specs.Cells.{valueCount, cell, cellKinds, cellCount, interpretation}
 use Rattle.theory.specs.Grammar.{Word, sign, equals, symbol, letter, takeTerms, readWords}
 use Rattle.theory.proofs.Tests.{ltb-true, and-left, and-right}
-use Rattle.theory.proofs.Lists.{all-append}
 use Rattle.theory.proofs.Grammar.{words-read}
 use Rattle.theory.proofs.DueWords.{taken, terms-words, word-passed, taken-due}
-use Rattle.theory.proofs.Numbering.{cellBase-length, cell-below, kind-at-cell}
+use Rattle.theory.proofs.Numbering.{cell-below, kind-at-cell}
 use Rattle.theory.proofs.Interpretations.{length-interpretation, value-below}
-use Rattle.theory.proofs.Vectors.{allBelow-getD}
 use Rattle.syntax.specs.Signatures.{kindOf}
 use Rattle.syntax.specs.Codes.{codeOf, wordOf, isKnown}
 use Rattle.syntax.specs.Variables.{letterOf, lettersOf}
@@ -28,7 +26,7 @@ use Rattle.interpretation.specs.declared.tables.Tables.{Tables}
 use Rattle.truth.specs.declared.values.Machine.{Machine}
 use Rattle.truth.specs.Values.{Held, WordLent, lettersAmong}
 use Rattle.interpretation.proofs.Ranks.{allBelow-at, allBelow-take}
-use Rattle.interpretation.proofs.Tabling.{base-within, cellCount-small}
+use Rattle.interpretation.proofs.Tabling.{base-within}
 use Rattle.truth.proofs.Stack.{held-count, held-take, letter-held, equality-held, sign-held, function-held, predicate-held}
 
 -- the values that a symbol finds on the stack, as many as its arity

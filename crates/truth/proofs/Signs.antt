@@ -3,7 +3,7 @@ use Prim.Native.Nat.{ℕ}
 use mathlib.Core.Path.{_≡_, sym, ap, _∙_}
 use mathlib.Core.Bool.{Bool, true, false, not, Bool·beq}
 use native.Mathlib.Omega.{arith}
-use Rattle.theory.specs.Grammar.{Word, sign}
+use Rattle.theory.specs.Grammar.{sign}
 use Rattle.theory.proofs.Tests.{beq-true, beq-not}
 use Rattle.syntax.specs.Codes.{codeOf, wordOf}
 use Rattle.syntax.proofs.Codes.{codeOf-wordOf}

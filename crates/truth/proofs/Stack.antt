@@ -1,18 +1,17 @@
 -- The stack of values as words are read from the last to the first: each word takes its values from the top and leaves its own there.
 use Prim.Native.Nat.{ℕ, zero, suc, _+_, _-_, _≤_, _<_}
 use mathlib.Core.Path.{_≡_, refl, sym, ap, _∙_, subst}
-use mathlib.Core.Bool.{Bool, true, false, _||_}
+use mathlib.Core.Bool.{Bool, _||_}
 use mathlib.Core.Option.{some, Option·some-injective}
-use mathlib.Core.List.{List, [], _∷_}
+use mathlib.Core.List.{List, _∷_}
 use native.Mathlib.Nat.{add-zero}
 use native.Mathlib.Omega.{arith}
-use lib.Dec.{eqb}
 use lib.ListN.{length, getD, set, take, drop, length-set, length-drop}
-use lib.Seq.{drop-cons, drop-set-lt, drop-drop, getD-drop, getD-set-same, take-nil, drop-nil, drop-length}
+use lib.Seq.{drop-cons, drop-set-lt, drop-drop, getD-drop, getD-set-same}
 use Rattle.theory.specs.Vectors.{AllBelow}
-use Rattle.theory.specs.Syntax.{Kind, function, predicate, Signature, symbolAt, Term, Terms, empty, cons, Atom, equal, holds, count}
+use Rattle.theory.specs.Syntax.{Kind, function, predicate, Signature, symbolAt, Term, Terms, empty, cons, equal, holds, count}
 use Rattle.theory.specs.Truth.{Interpretation, Assignment, value, values, atomTrue, literalTrue, clauseTrue}
-use Rattle.theory.specs.Grammar.{Word, sign, equals, symbol, letter, Due, terms, atom, dueAfter, dueAfterPredicate, Grammar, clause, grammarFrom, takeTerms, dropTerms, equalityOf, Reading, readSymbol, readWords}
+use Rattle.theory.specs.Grammar.{Word, sign, equals, symbol, letter, Due, terms, atom, dueAfter, dueAfterPredicate, clause, grammarFrom, takeTerms, dropTerms, equalityOf, Reading, readSymbol, readWords}
 use Rattle.theory.proofs.Vectors.{allBelow-drop}
 use Rattle.theory.proofs.DueWords.{word-passed}
 use Rattle.truth.specs.declared.values.Machine.{Machine}

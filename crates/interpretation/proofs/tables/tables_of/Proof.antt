@@ -1,7 +1,7 @@
 -- `tables_of` meets its contract: the tables of the symbols before i are written.
 use borrow.Author.Needs.{needs}
-use Prim.Native.Nat.{ℕ, _-_, _≤_, _<_}
-use mathlib.Core.Path.{_≡_, ap, _∙_}
+use Prim.Native.Nat.{ℕ, _-_, _≤_}
+use mathlib.Core.Path.{_≡_}
 use mathlib.Core.List.{List, []}
 use native.Mathlib.Numerals.{add-one}
 use native.Mathlib.Omega.{arith}
@@ -12,9 +12,6 @@ use Rattle.interpretation.proofs.Ranks.{table-within}
 use Rattle.interpretation.proofs.Tabling.{Tabled, none-tabled, one-tabled, all-tabled}
 use Rattle.interpretation.proofs.tables.tables_of.Statement.{statement}
 use Rattle.interpretation.proofs.tables.tables_of.Tie as tie
-use Rattle.interpretation.proofs.tables.tables_of.Reads as reads
-use Rattle.interpretation.proofs.tables.tables_of.Lts as lts
-use Rattle.interpretation.proofs.vector.power.Reads as power-reads
 
 abbrev Inv-loop : tie.InvT-loop
 Inv-loop size signature t₀ i₀ t i = (i ≤ signature .count) × ((sheet : List ℕ) → Tabled (signatureIn sheet signature) size t i)

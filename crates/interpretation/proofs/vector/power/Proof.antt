@@ -8,8 +8,6 @@ use native.Mathlib.Omega.{arith}
 use Rattle.interpretation.proofs.Ranks.{power-within}
 use Rattle.interpretation.proofs.vector.power.Statement.{statement}
 use Rattle.interpretation.proofs.vector.power.Tie as tie
-use Rattle.interpretation.proofs.vector.power.Reads as reads
-use Rattle.interpretation.proofs.vector.power.Lts as lts
 
 abbrev Inv-loop : tie.InvT-loop
 Inv-loop size count n₀ i₀ n i = (i ≤ count) × (n ≡ size ^ i)

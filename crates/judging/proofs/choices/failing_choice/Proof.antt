@@ -1,5 +1,4 @@
 -- `failing_choice` meets its contract.
-use Prim.Native.Nat.{_≤_, _<_}
 use mathlib.Core.Path.{_≡_, _∙_}
 use native.Mathlib.Omega.{arith}
 use lib.ListN.{length, length-map}
@@ -7,10 +6,6 @@ use Rattle.judging.proofs.ClausesLent.{codes-below, few-variables, judg
 use borrow.Author.Needs.{needs}
 use Rattle.judging.proofs.choices.failing_choice.Statement.{statement}
 use Rattle.judging.proofs.choices.failing_choice.Tie as tie
-use Rattle.judging.proofs.choices.failing_choice.Reads as reads
-use Rattle.judging.proofs.choices.failing_choice.Lts as lts
-use Rattle.judging.proofs.choices.first_choice.Reads as first-choice-reads
-use Rattle.syntax.proofs.variables.variables_of.Reads as variables-of-reads
 
 variables-of-requires : tie.Need-variables-of-requires
 variables-of-requires c κs =

@@ -1,21 +1,14 @@
 -- `first_choice` meets its contract: the choices before i make the clause true.
 use borrow.Author.Needs.{needs}
 use borrow.Author.Tests.{not-true, not-false}
-use Prim.Native.Nat.{ℕ, suc, _-_, _^_, _<_, _≤_}
-use mathlib.Core.Path.{_≡_, sym, _∙_}
+use Prim.Native.Nat.{_-_, _^_}
+use mathlib.Core.Path.{_≡_}
 use native.Mathlib.Numerals.{add-one}
 use native.Mathlib.Omega.{arith}
-use lib.ListN.{length}
 use Rattle.truth.specs.Values.{tablesIn}
 use Rattle.judging.proofs.Passing.{Passed, passed-chosen, passed-fails, passed-none, passed-next, none-passed}
 use Rattle.judging.proofs.choices.first_choice.Statement.{statement}
 use Rattle.judging.proofs.choices.first_choice.Tie as tie
-use Rattle.judging.proofs.choices.first_choice.Reads as reads
-use Rattle.judging.proofs.choices.first_choice.Lts as lts
-use Rattle.truth.proofs.values.clause_value.Reads as clause-value-reads
-use Rattle.interpretation.proofs.vector.ArgumentVector.first.Reads as first-reads
-use Rattle.interpretation.proofs.vector.ArgumentVector.step.Reads as step-reads
-use Rattle.interpretation.proofs.vector.power.Reads as power-reads
 
 abbrev Inv-loop : tie.InvT-loop
 Inv-loop words place arities functions bases cells size count values₀ choices i₀ values i = Passed words place (tablesIn arities functions bases cells) cells size count values i × (choices ≡ size ^ count)

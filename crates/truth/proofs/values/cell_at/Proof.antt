@@ -2,7 +2,7 @@
 use borrow.Author.Needs.{needs}
 use Prim.Native.Nat.{ℕ, _+_, _-_, _≤_}
 use native.Mathlib.Nat.{mul-le-mul}
-use mathlib.Core.Path.{_≡_, refl, ap, _∙_, sym}
+use mathlib.Core.Path.{_≡_, refl, ap, _∙_}
 use native.Mathlib.Numerals.{add-one}
 use native.Mathlib.Omega.{arith}
 use lib.ListN.{length, take}
@@ -11,8 +11,6 @@ use Rattle.theory.specs.Vectors as vectors
 use Rattle.interpretation.proofs.Ranks.{allBelow-at, allBelow-take, rank-within, rank-more}
 use Rattle.truth.proofs.values.cell_at.Statement.{statement}
 use Rattle.truth.proofs.values.cell_at.Tie as tie
-use Rattle.truth.proofs.values.cell_at.Reads as reads
-use Rattle.truth.proofs.values.cell_at.Lts as lts
 
 abbrev Inv-loop : tie.InvT-loop
 Inv-loop base arguments size rank₀ i₀ rank i = (i ≤ length arguments) × (rank ≡ vectors.rank size (take i arguments))

@@ -1,6 +1,6 @@
 -- `clause_value` meets its contract: the words from i on are read, and no literal of theirs is true.
 use borrow.Author.Needs.{needs}
-use Prim.Native.Nat.{ℕ, suc, _-_, _<_, _≤_}
+use Prim.Native.Nat.{_-_, _≤_}
 use mathlib.Core.Path.{_≡_, refl, sym, _∙_}
 use mathlib.Core.Bool.{true, false}
 use mathlib.Core.List.{map}
@@ -13,9 +13,6 @@ use Rattle.truth.specs.Values.{Chosen, Held, ClauseLent, tablesIn}
 use Rattle.truth.proofs.Clausewise.{clause-grows, none-held, word-lent, word-held}
 use Rattle.truth.proofs.values.clause_value.Statement.{statement}
 use Rattle.truth.proofs.values.clause_value.Tie as tie
-use Rattle.truth.proofs.values.clause_value.Reads as reads
-use Rattle.truth.proofs.values.clause_value.Lts as lts
-use Rattle.truth.proofs.values.read_word.Reads as read-word-reads
 
 abbrev Inv-loop : tie.InvT-loop
 Inv-loop words place arities functions bases cells size choice stack₀ m₀ i₀ stack m i =

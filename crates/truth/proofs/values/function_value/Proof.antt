@@ -5,8 +5,6 @@ use lib.ListN.{getD}
 use borrow.Author.Needs.{needs}
 use Rattle.truth.proofs.values.function_value.Statement.{statement}
 use Rattle.truth.proofs.values.function_value.Tie as tie
-use Rattle.truth.proofs.values.function_value.Reads as reads
-use Rattle.truth.proofs.values.function_value.Lts as lts
 
 shared-slice-read-t5 : tie.Need-shared-slice-read-t5
 shared-slice-read-t5 c = search needs

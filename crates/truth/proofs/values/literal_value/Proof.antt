@@ -1,13 +1,10 @@
 -- `literal_value` meets its contract.
 use mathlib.Core.Path.{ap, _∙_}
-use mathlib.Core.Bool.{Bool, not, Bool·beq}
+use mathlib.Core.Bool.{Bool, not}
 use Rattle.theory.specs.Truth.{atomTrue}
 use Rattle.truth.proofs.Signs.{positive, negative}
-use borrow.Author.Needs.{needs}
 use Rattle.truth.proofs.values.literal_value.Statement.{statement}
 use Rattle.truth.proofs.values.literal_value.Tie as tie
-use Rattle.truth.proofs.values.literal_value.Reads as reads
-use Rattle.truth.proofs.values.literal_value.Lts as lts
 
 returns : tie.Need-returns
 returns c I ρ l e p = p ∙ positive (c .before .args .code) (l .sign) e (c .if1 .taken) (atomTrue I ρ (l .atom))

@@ -6,8 +6,6 @@ use lib.ListN.{getD}
 use borrow.Author.Needs.{needs}
 use Rattle.truth.proofs.values.predicate_value.Statement.{statement}
 use Rattle.truth.proofs.values.predicate_value.Tie as tie
-use Rattle.truth.proofs.values.predicate_value.Reads as reads
-use Rattle.truth.proofs.values.predicate_value.Lts as lts
 
 shared-slice-read-result : tie.Need-shared-slice-read-result
 shared-slice-read-result c = search needs

@@ -1,18 +1,10 @@
 -- `read_symbol` meets its contract.
-use Prim.Native.Nat.{_<_}
-use mathlib.Core.Path.{_≡_}
 use native.Mathlib.Omega.{arith}
-use lib.ListN.{length}
 use Rattle.theory.specs.Truth.{assign}
 use Rattle.truth.proofs.Lending.{roomy, stack-count, symbol-declared, arity-small, arity-enough, base-small, arguments-length, arguments-below, cell-within, function-read, predicate-read}
 use borrow.Author.Needs.{needs}
 use Rattle.truth.proofs.values.read_symbol.Statement.{statement}
 use Rattle.truth.proofs.values.read_symbol.Tie as tie
-use Rattle.truth.proofs.values.read_symbol.Reads as reads
-use Rattle.truth.proofs.values.read_symbol.Lts as lts
-use Rattle.truth.proofs.values.cell_at.Reads as cell-at-reads
-use Rattle.truth.proofs.values.function_value.Reads as function-value-reads
-use Rattle.truth.proofs.values.predicate_value.Reads as predicate-value-reads
 
 shared-slice-read-rest : tie.Need-shared-slice-read-rest
 shared-slice-read-rest c =

@@ -1,21 +1,11 @@
 -- `read_word` meets its contract.
-use Prim.Native.Nat.{_<_, _≤_}
-use mathlib.Core.Path.{_≡_}
-use mathlib.Core.Bool.{true, false}
 use native.Mathlib.Omega.{arith}
-use lib.ListN.{length}
 use Rattle.theory.specs.Truth.{assign}
 use Rattle.theory.specs.Cells.{interpretation}
 use Rattle.truth.proofs.Lending.{roomy, stack-count, letter-below, letter-placed, letter-occurs, letter-read, equality-enough, equality-read, sign-read}
 use borrow.Author.Needs.{needs}
 use Rattle.truth.proofs.values.read_word.Statement.{statement}
 use Rattle.truth.proofs.values.read_word.Tie as tie
-use Rattle.truth.proofs.values.read_word.Reads as reads
-use Rattle.truth.proofs.values.read_word.Lts as lts
-use Rattle.truth.proofs.values.equality_value.Reads as equality-value-reads
-use Rattle.truth.proofs.values.literal_value.Reads as literal-value-reads
-use Rattle.truth.proofs.values.read_symbol.Reads as read-symbol-reads
-use Rattle.truth.proofs.values.variable_value.Reads as variable-value-reads
 
 read-symbol-requires : tie.Need-read-symbol-requires
 read-symbol-requires c κs = search needs

@@ -1,12 +1,10 @@
 -- `variable_value` meets its contract.
 use Prim.Native.Nat.{_-_}
-use mathlib.Core.Path.{_≡_, sym}
+use mathlib.Core.Path.{sym}
 use Rattle.syntax.proofs.Places.{assign-placed}
 use borrow.Author.Needs.{needs}
 use Rattle.truth.proofs.values.variable_value.Statement.{statement}
 use Rattle.truth.proofs.values.variable_value.Tie as tie
-use Rattle.truth.proofs.values.variable_value.Reads as reads
-use Rattle.truth.proofs.values.variable_value.Lts as lts
 
 sub-x : tie.Need-sub-x
 sub-x c = search needs

@@ -1,13 +1,11 @@
 -- `ArgumentVector::step` meets its contract.
 use borrow.Author.Needs.{needs}
-use Prim.Native.Nat.{ℕ, suc, _-_, _<_}
+use Prim.Native.Nat.{_-_}
 use mathlib.Core.Path.{_≡_}
 use native.Mathlib.Omega.{arith}
 use Rattle.interpretation.proofs.Steps.{Passed, before, none-passed, digit-below, one-passed, stepped, all-passed}
 use Rattle.interpretation.proofs.vector.ArgumentVector.step.Statement.{statement}
 use Rattle.interpretation.proofs.vector.ArgumentVector.step.Tie as tie
-use Rattle.interpretation.proofs.vector.ArgumentVector.step.Reads as reads
-use Rattle.interpretation.proofs.vector.ArgumentVector.step.Lts as lts
 
 abbrev Inv-loop : tie.InvT-loop
 Inv-loop self₀ size i₀ self i = Passed self₀ self i

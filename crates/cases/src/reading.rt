@@ -1,0 +1,168 @@
+// Reading a case: 12 at the first line that is not exactly as laid out.
+use crate::values::is_value;
+use crate::values::least_byte;
+use crate::values::separator;
+use crate::values::value_count;
+use interpretation::vector::power;
+use syntax::signature::Signature;
+use syntax::signature::Symbol;
+use text::lines::line_end;
+use text::lines::same;
+use text::lines::starts_with;
+ghost use mathlib.Core.Path.{_≡_};
+ghost use Prim.Native.Nat.{_+_, _*_, _^_, _≤_};
+ghost use lib.ListN.{drop, length};
+ghost use Rattle.theory.specs.Bytes.{bytes};
+ghost use Rattle.theory.specs.Lines.{afterKey};
+ghost use Rattle.theory.specs.CaseText.{readCase};
+ghost use Rattle.syntax.specs.Signatures.{kindOf, signatureIn, symbolIn};
+ghost use Rattle.clauses.specs.Names.{Readable};
+ghost use Rattle.cases.specs.Reading.{TableRead, ValuesRead, caseIn, caseOfTables, sizeAfter};
+
+// The size of a case whose cells were read, or the first line that is not as laid out.
+pub enum CaseReading {
+    Read(usize),
+    Refused(usize),
+}
+
+// The place of the next line, or a line not as laid out.
+pub enum TableLine {
+    Next(usize),
+    Fault,
+}
+
+// `count` values, each after its separator, into the cells from `base` on.
+fn read_values(
+    bytes: &[u8],
+    function: bool,
+    size: usize,
+    count: usize,
+    cells: &mut [u8],
+    base: usize,
+) -> bool
+    requires { ⌜ (size ≤ 8) × ((length (now bytes) ≡ 2 * count) × (base + count ≤ length (now cells))) ⌝ }
+    ensures { λ r. ⌜ ValuesRead size (kindOf function) count (now (bytes .entry)) base (now (cells .entry)) (now (cells .exit)) r ⌝ }
+{
+    let least = least_byte(function);
+    let most = value_count(function, size);
+    let mut i: usize = 0;
+    while i < count {
+        if bytes[2 * i] != separator(i) {
+            return false;
+        }
+        let b = bytes[2 * i + 1];
+        if !is_value(b, least, most) {
+            return false;
+        }
+        cells[base + i] = b - least;
+        i += 1;
+    }
+    true
+}
+
+// A symbol's line: its name, and its values into the cells from `base` on.
+fn read_table(
+    case: &[u8],
+    at: usize,
+    sheet: &[u8],
+    symbol: Symbol,
+    size: usize,
+    cells: &mut [u8],
+    base: usize,
+) -> TableLine
+    requires { ⌜ (at ≤ length (now case)) × ((symbol .name + symbol .length ≤ length (now sheet)) × ((symbol .arity ≤ 3) × ((1 ≤ size) × ((size ≤ 8) × (base + size ^ symbol .arity ≤ length (now cells)))))) ⌝ }
+    ensures { λ r. ⌜ TableRead size (symbolIn (now (sheet .entry)) symbol) (now (case .entry)) at base (now (cells .entry)) (now (cells .exit)) r ⌝ }
+{
+    let end = line_end(case, at);
+    if end == case.len() {
+        return TableLine::Fault;
+    }
+    let name = symbol.name;
+    let name_end = name + symbol.length;
+    if !starts_with(&case[at..end], &sheet[name..name_end]) {
+        return TableLine::Fault;
+    }
+    let from = at + symbol.length;
+    let count = power(size, symbol.arity as usize);
+    if end - from != 2 * count {
+        return TableLine::Fault;
+    }
+    if !read_values(&case[from..end], symbol.function, size, count, cells, base) {
+        return TableLine::Fault;
+    }
+    TableLine::Next(end + 1)
+}
+
+// The symbols' lines from `at` on, and nothing after them.
+fn read_tables(
+    case: &[u8],
+    at: usize,
+    sheet: &[u8],
+    signature: Signature,
+    size: usize,
+    cells: &mut [u8],
+) -> CaseReading
+    requires { ⌜ (at ≤ length (now case)) × (Readable (now sheet) signature × ((1 ≤ size) × ((size ≤ 8) × (12288 ≤ length (now cells))))) ⌝ }
+    ensures { λ r. ⌜ caseIn (signatureIn (now (sheet .entry)) signature) r (now (cells .exit)) ≡ caseOfTables size (signatureIn (now (sheet .entry)) signature) (drop at (now (case .entry))) ⌝ }
+{
+    let mut next = at;
+    let mut base: usize = 0;
+    let mut i: usize = 0;
+    while i < signature.count {
+        let symbol = signature.symbols[i];
+        let TableLine::Next(after) = read_table(case, next, sheet, symbol, size, cells, base) else {
+            return CaseReading::Refused(3 + i);
+        };
+        next = after;
+        base = base + power(size, symbol.arity as usize);
+        i += 1;
+    }
+    if next != case.len() {
+        return CaseReading::Refused(3 + i);
+    }
+    CaseReading::Read(size)
+}
+
+// The size of a line `size=d`, 1 to 8, or 0.
+fn size_of(line: &[u8]) -> usize
+    ensures { λ r. ⌜ r ≡ sizeAfter (afterKey (bytes "size=") (now (line .entry))) ⌝ }
+{
+    if !starts_with(line, b"size=") {
+        return 0;
+    }
+    if line.len() != 6 {
+        return 0;
+    }
+    let b = line[5];
+    if b < 49 {
+        return 0;
+    }
+    if 56 < b {
+        return 0;
+    }
+    (b - 48) as usize
+}
+
+// The cells of a case text of a signature whose names stand in the sheet.
+pub fn read_case(case: &[u8], sheet: &[u8], signature: Signature, cells: &mut [u8]) -> CaseReading
+    requires { ⌜ Readable (now sheet) signature × (12288 ≤ length (now cells)) ⌝ }
+    ensures { λ r. ⌜ caseIn (signatureIn (now (sheet .entry)) signature) r (now (cells .exit)) ≡ readCase (signatureIn (now (sheet .entry)) signature) (now (case .entry)) ⌝ }
+{
+    let first = line_end(case, 0);
+    if first == case.len() {
+        return CaseReading::Refused(1);
+    }
+    if !same(&case[0..first], b"case=1") {
+        return CaseReading::Refused(1);
+    }
+    let from = first + 1;
+    let second = line_end(case, from);
+    if second == case.len() {
+        return CaseReading::Refused(2);
+    }
+    let size = size_of(&case[from..second]);
+    if size == 0 {
+        return CaseReading::Refused(2);
+    }
+    read_tables(case, second + 1, sheet, signature, size, cells)
+}
