@@ -12,7 +12,7 @@ use text::lines::word_end;
 ghost use mathlib.Core.Path.{_≡_};
 ghost use mathlib.Core.Bool.{true, false};
 ghost use mathlib.Core.List.{List, [], _∷_, _++_};
-ghost use Prim.Native.Nat.{ℕ, _+_, _≤_, _<_, _^_, _*_};
+ghost use Prim.Native.Nat.{ℕ};
 ghost use lib.ListN.{set};
 ghost use Rattle.theory.specs.Grammar as theory;
 ghost use Rattle.syntax.specs.Signatures.{signatureIn};

@@ -22,7 +22,8 @@ use Rattle.problem.specs.declared.lines.KeyLine.the-variants as key
 use Rattle.problem.specs.declared.clause_lines.ClausePlace.{ClausePlace}
 use Rattle.problem.specs.declared.clause_lines.ClausePlace.the-variants.{At, Fault}
 use Rattle.problem.specs.Lines.{KeyRead}
-use Rattle.problem.specs.Problems.{lineOr, clauseOr, clauseAt, ClauseThere, clauseLineIn, clauseValue, ClauseValueRead, ClauseLineRead}
+use Rattle.problem.specs.Problems.{lineOr, clauseOr, clauseAt, ClauseThere}
+use Rattle.problem.specs.ClausePlaces.{clauseLineIn, clauseValue, ClauseValueRead, ClauseLineRead}
 
 module _ (sheet : List ℕ) (from end : ℕ) (g : Signature) (c : ClauseLine) (h : ClauseRead g (part sheet from end) c) where
   -- the value is no clause within the limits

@@ -24,7 +24,9 @@ use Rattle.syntax.specs.Signatures.{signatureIn}
 use Rattle.clauses.specs.Names.{Readable}
 use Rattle.problem.specs.declared.clause_lines.ClausePlace.the-variants.{At, Fault}
 use Rattle.problem.specs.declared.sheet.Reading.{Reading}
-use Rattle.problem.specs.Problems.{clauseAt, problemIn, ClauseThere, ProblemRead, clauseLinesFrom, ClauseLineRead}
+use Rattle.problem.specs.Problems.{clauseAt, problemIn, ClauseThere}
+use Rattle.problem.specs.Stages.{ProblemRead, clauseLinesFrom}
+use Rattle.problem.specs.ClausePlaces.{ClauseLineRead}
 
 -- a refusal that was read
 pub reading-refused : (sheet : List ℕ) (a : Answer theory.Problem) (r : Reading) (f l : ℕ) → (f ≡ 0 → ⊥) → r .fault ≡ f → r .line ≡ l → a ≡ refused (atLine f l) → ProblemRead sheet a r

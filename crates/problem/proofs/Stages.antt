@@ -20,7 +20,7 @@ use Rattle.problem.specs.declared.sections.Section.{Section}
 use Rattle.problem.specs.declared.sheet.Reading.{Reading}
 use Rattle.problem.specs.Lines.{CountRead}
 use Rattle.problem.specs.Sections.{Rest, linesFrom, sectionFrom, SectionRead}
-use Rattle.problem.specs.Problems.{ProblemRead, clauseLinesFrom, clausesFrom}
+use Rattle.problem.specs.Stages.{ProblemRead, clauseLinesFrom, clausesFrom}
 use Rattle.problem.proofs.ClauseTaking.{reading-refused}
 
 -- the clauses: their count line is faulty, or so many lines follow

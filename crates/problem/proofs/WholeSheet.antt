@@ -17,7 +17,8 @@ use Rattle.theory.specs.Problem.{Problem, maxBytes, maxSymbols, maxClauses, key
 use Rattle.theory.proofs.Answers.{bind-step, bind-refused, check-of-true, check-of-false}
 use Rattle.problem.specs.declared.sheet.Reading.{Reading}
 use Rattle.problem.specs.Sections.{Rest, linesFrom, sectionFrom}
-use Rattle.problem.specs.Problems.{readingOf, Accepted, ProblemRead, clauseLinesFrom, clausesFrom, predicatesFrom, functionsFrom}
+use Rattle.problem.specs.Problems.{readingOf, Accepted}
+use Rattle.problem.specs.Stages.{ProblemRead, clauseLinesFrom, clausesFrom, predicatesFrom, functionsFrom}
 
 -- steps that agree for every result agree
 bind-same : {A B : Type 0} (m : Answer A) (f h : A → Answer B) → ((a : A) → f a ≡ h a) → (m >>= f) ≡ (m >>= h)

@@ -2,3 +2,5 @@ pub mod Lines
 pub mod Symbols
 pub mod Sections
 pub mod Problems
+pub mod Stages
+pub mod ClausePlaces

@@ -11,7 +11,8 @@ ghost use lib.ListN.{length};
 ghost use Rattle.text.specs.Lines.{LineEnd};
 ghost use Rattle.syntax.specs.Signatures.{signatureIn};
 ghost use Rattle.clauses.specs.Names.{Readable};
-ghost use Rattle.problem.specs.Problems.{Accepted, WordsOf, ClauseValueRead, ClauseLineRead};
+ghost use Rattle.problem.specs.Problems.{Accepted, WordsOf};
+ghost use Rattle.problem.specs.ClausePlaces.{ClauseValueRead, ClauseLineRead};
 
 // Where a clause stands and where the next line starts, or the number of the refusal.
 pub enum ClausePlace {

@@ -9,13 +9,14 @@ use crate::sections::read_section;
 use syntax::limits::Problem;
 use syntax::signature::Signature;
 ghost use mathlib.Core.Path.{_≡_};
-ghost use Prim.Native.Nat.{_≤_, _<_};
+ghost use Prim.Native.Nat.{_≤_};
 ghost use lib.ListN.{length, drop};
 ghost use Rattle.theory.specs.Least as least;
 ghost use Rattle.theory.specs.Problem.{readProblem};
 ghost use Rattle.syntax.specs.Signatures.{signatureIn};
 ghost use Rattle.clauses.specs.Names.{Readable};
-ghost use Rattle.problem.specs.Problems.{readingOf, Accepted, ProblemRead, clauseLinesFrom, clausesFrom, predicatesFrom, functionsFrom};
+ghost use Rattle.problem.specs.Problems.{readingOf, Accepted};
+ghost use Rattle.problem.specs.Stages.{ProblemRead, clauseLinesFrom, clausesFrom, predicatesFrom, functionsFrom};
 
 // A problem, or the number and the line of the refusal; number 0 for none.
 pub struct Reading {

@@ -9,7 +9,7 @@ use Rattle.theory.specs.Least.{functions}
 use Rattle.syntax.specs.Signatures.{signatureIn}
 use Rattle.clauses.proofs.Held.{count-signatureIn}
 use Rattle.problem.specs.Sections.{sectionFrom, SectionRead}
-use Rattle.problem.specs.Problems.{functionsFrom}
+use Rattle.problem.specs.Stages.{functionsFrom}
 use Rattle.problem.proofs.SectionLines.{signatureIn-none, readable-none}
 use Rattle.problem.proofs.Stages.{section-refused, section-answer, section-read, functions-added}
 use borrow.Author.Needs.{needs}

@@ -1,9 +1,12 @@
 -- `predicates_from` reads the predicates, then the clauses.
 use mathlib.Core.Path.{sym, ap, _∙_}
 use native.Mathlib.Omega.{arith}
-use lib.ListN.{length}
+use lib.ListN.{length, drop}
+use Rattle.theory.specs.Bytes.{bytes}
+use Rattle.theory.specs.Syntax.{predicate}
 use Rattle.syntax.specs.Signatures.{signatureIn}
-use Rattle.problem.specs.Problems.{predicatesFrom}
+use Rattle.problem.specs.Sections.{sectionFrom}
+use Rattle.problem.specs.Stages.{predicatesFrom}
 use Rattle.problem.proofs.Stages.{section-refused, section-answer, section-read, predicates-added}
 use borrow.Author.Needs.{needs}
 use Rattle.problem.proofs.sheet.predicates_from.Statement.{statement}
@@ -27,7 +30,7 @@ returns c =
     let z = c .before .before .before .before .before .before .before in
     let a = z .args in
     let g = signatureIn (a .sheet .now) (a .before) in
-    section-refused (a .sheet .now) _ _ _ _ (c .before .before .before .read-section .result) (c .refused .result) (c .before .before .before .read-section .ensures) (c .before .if1 .taken) (c .refused .ensures .0) (c .refused .ensures .1)
+    section-refused (a .sheet .now) _ _ (sectionFrom (bytes "preds=") (bytes "pred=") predicate g (a .line) (drop (a .at) (a .sheet .now))) _ (c .before .before .before .read-section .result) (c .refused .result) (c .before .before .before .read-section .ensures) (c .before .if1 .taken) (c .refused .ensures .0) (c .refused .ensures .1)
 
 clauses-from-requires : tie.Need-clauses-from-requires
 clauses-from-requires c κs =
@@ -35,7 +38,7 @@ clauses-from-requires c κs =
     let a = z .args in
     let g = signatureIn (a .sheet .now) (a .before) in
     let s = c .before .before .before .read-section .ensures in
-    let e = section-answer (a .sheet .now) _ _ _ (c .before .before .before .read-section .result) s (c .before .if1 .left) in
+    let e = section-answer (a .sheet .now) _ _ (sectionFrom (bytes "preds=") (bytes "pred=") predicate g (a .line) (drop (a .at) (a .sheet .now))) (c .before .before .before .read-section .result) s (c .before .if1 .left) in
     (s .next, (s .readable, (omega (arith, s .line, z .pre .1 .1 .1 .0), z .pre .1 .1 .1 .1 ∙ ap length (sym (predicates-added _ _ g _ _ _ e)))))
 
 returns-2 : tie.Need-returns-2
@@ -44,7 +47,7 @@ returns-2 c =
     let z = c .before .before .before .before .before .before .before .before in
     let a = z .args in
     let g = signatureIn (a .sheet .now) (a .before) in
-    section-read (a .sheet .now) _ _ _ _ (c .before .before .before .before .read-section .result) (c .clauses-from .result) (c .before .before .before .before .read-section .ensures) (c .before .before .if1 .left) (c .clauses-from .ensures)
+    section-read (a .sheet .now) _ _ (sectionFrom (bytes "preds=") (bytes "pred=") predicate g (a .line) (drop (a .at) (a .sheet .now))) _ (c .before .before .before .before .read-section .result) (c .clauses-from .result) (c .before .before .before .before .read-section .ensures) (c .before .before .if1 .left) (c .clauses-from .ensures)
 
 pub predicates-from-spec : {M : Type 1} → statement M
 predicates-from-spec =
