@@ -8,3 +8,4 @@ pub mod ClauseTaking
 pub mod Stages
 pub mod WholeSheet
 pub mod WordsAgain
+pub mod SheetRead
