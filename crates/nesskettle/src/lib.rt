@@ -2,6 +2,7 @@
 // ends. A promise is an equation with the definition of `theory/specs/Operations`; `answers/specs/Answers` says what each answer means. What is
 // lent as `&` cannot change; what is lent as `&mut` is told to the last byte and number.
 mod reading;
+
 use answers::ReadAnswer;
 ghost use mathlib.Core.Path.{_≡_};
 ghost use Rattle.theory.specs.Operations as theory;
