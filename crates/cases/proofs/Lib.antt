@@ -1,6 +1,11 @@
 pub mod ValuesAfter
 pub mod TableLines
+pub mod NamesLent
 pub mod Cuts
 pub mod LinesRead
 pub mod TablesRead
 pub mod Headings
+pub mod TwoMore
+pub mod Pairs
+pub mod Lengths
+pub mod TablesWritten

@@ -6,8 +6,7 @@ use mathlib.Core.Option.{Option, some}
 use mathlib.Core.List.{List}
 use native.Mathlib.Nat.{one-le-pow}
 use native.Mathlib.Omega.{arith}
-use lib.ListN.{length, take, drop, length-drop}
-use lib.Seq.{length-take-le}
+use lib.ListN.{length, take, drop}
 use Rattle.theory.specs.Lines.{cutLine, afterKey}
 use Rattle.theory.specs.Cells.{tableSize}
 use Rattle.theory.specs.Refusals.{answer}
@@ -17,6 +16,7 @@ use Rattle.text.specs.Lines.{part, LineEnd, StartsWith}
 use Rattle.text.proofs.Part.{length-part, drop-part}
 use Rattle.cases.specs.declared.reading.TableLine.the-variants.{Next, Fault}
 use Rattle.cases.specs.Reading.{ValuesRead, TableRead}
+use Rattle.cases.proofs.NamesLent.{name-lent, lent-length}
 use Rattle.cases.proofs.Cuts.{unended, ended}
 use Rattle.cases.proofs.TableLines.{no-line, no-name, other-length, no-values, values-read}
 
@@ -29,31 +29,24 @@ module _ (case : List ℕ) (at end : ℕ) (e : LineEnd case at end) (sheet : Lis
     cut : cutLine (drop at case) ≡ some (part case at end, drop (suc end) case)
     cut = ended case at end e h
 
-    -- the name as it is lent
-    name-lent : take (y .name + y .length - y .name) (drop (y .name) sheet) ≡ symbolIn sheet y .name
-    name-lent = let z : y .name + y .length - y .name ≡ y .length = omega arith in ap (λ (n : ℕ). take n (drop (y .name) sheet)) z
-
     pub name-fault : StartsWith (part case at end) (take (y .name + y .length - y .name) (drop (y .name) sheet)) false → TableRead s (symbolIn sheet y) case at base cells cells Fault
     name-fault w =
         record {
-          read = λ l. sym (no-name s (symbolIn sheet y) l (drop at case) _ _ cut (ap (λ (ks : List ℕ). afterKey ks (part case at end)) (sym name-lent) ∙ w .found));
+          read = λ l. sym (no-name s (symbolIn sheet y) l (drop at case) _ _ cut (ap (λ (ks : List ℕ). afterKey ks (part case at end)) (sym (name-lent sheet y)) ∙ w .found));
           front = refl;
           within = tt;
         }
 
     module _ (w : StartsWith (part case at end) (take (y .name + y .length - y .name) (drop (y .name) sheet)) true) (held : y .name + y .length ≤ length sheet) where
-      lent-length : length (take (y .name + y .length - y .name) (drop (y .name) sheet)) ≡ y .length
-      lent-length = length-take-le (y .name + y .length - y .name) (drop (y .name) sheet) (omega (arith, length-drop (y .name) sheet)) ∙ omega arith
-
       -- the values start within the line
       pub from-within : at + y .length ≤ end
-      from-within = omega (arith, w .room refl, lent-length, length-part case at end (e .from) (e .within), e .from)
+      from-within = omega (arith, w .room refl, lent-length sheet y held, length-part case at end (e .from) (e .within), e .from)
 
       after-name : afterKey (symbolIn sheet y .name) (part case at end) ≡ some (part case (at + y .length) end)
       after-name =
-          ap (λ (ks : List ℕ). afterKey ks (part case at end)) (sym name-lent)
+          ap (λ (ks : List ℕ). afterKey ks (part case at end)) (sym (name-lent sheet y))
           ∙ w .found
-          ∙ ap (λ (n : ℕ). some (drop n (part case at end))) lent-length
+          ∙ ap (λ (n : ℕ). some (drop n (part case at end))) (lent-length sheet y held)
           ∙ ap {B = Option (List ℕ)} some (drop-part case at end (y .length))
 
       pub length-fault : (end - (at + y .length) ≡ 2 * s ^ y .arity → ⊥) → TableRead s (symbolIn sheet y) case at base cells cells Fault
