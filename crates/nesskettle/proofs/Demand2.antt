@@ -1,0 +1,146 @@
+-- Demand 2 of the calls, from demand 2 of the texts and truth.
+use Prim.Native.Nat.{ℕ, _≤_, _<_}
+use mathlib.Core.Path.{_≡_, refl, sym, ap, _∙_}
+use mathlib.Core.Logic.{_⊎_, inl, inr}
+use mathlib.Core.Bool.{Bool, true, false, true≢false}
+use mathlib.Core.List.{List}
+use native.Mathlib.Omega.{arith}
+use lib.Dec.{leb}
+use lib.ListN.{length, take, drop}
+use lib.Seq.{take-append-seam}
+use Rattle.theory.specs.Cells.{isModel}
+use Rattle.theory.specs.Refusals.{Refusal, Answer, answer, refused, needing}
+use Rattle.theory.specs.Problem.{Problem, readProblem}
+use Rattle.theory.specs.CaseText.{Case, readCase}
+use Rattle.theory.specs.Operations.{judgeAnswer, over, contentOf, writtenText, Search, found, nothing, foundCase, noCase, findResult, findAnswer, findOutput}
+use Rattle.theory.specs.Claims.Demand2 as theory
+use Rattle.theory.specs.Claims.Least.{NotAfter}
+use Rattle.theory.proofs.Answers.{unbind, bind-step, answer-inj, answer≢refused}
+use Rattle.theory.proofs.Demand2.{demand2}
+use Rattle.answers.specs.declared.Refusal as answers
+use Rattle.answers.specs.declared.JudgeAnswer.{JudgeAnswer}
+use Rattle.answers.specs.declared.JudgeAnswer.the-variants as judge
+use Rattle.answers.specs.declared.FindAnswer.{FindAnswer}
+use Rattle.answers.specs.declared.FindAnswer.the-variants.{Found, Nothing, Refused}
+use Rattle.answers.specs.Answers.{refusalIn, judgeIn, findIn}
+use Rattle.nesskettle.specs.Calls.{clausesText, JudgeCall, WriteCall, FindCall, Leaves}
+use Rattle.nesskettle.specs.Models.{IsTrue, Model}
+use Rattle.nesskettle.specs.Demand2.{CaseOf, Judges, Writes, NoModel, LeastModel, Finds, Demand2}
+use Rattle.nesskettle.proofs.Leaving.{left-text}
+use Rattle.nesskettle.proofs.Models.{true-if-model, model-if-true, judged-is-model, model-is-judged}
+
+-- Judge's answers
+said-yes : (r : JudgeAnswer) → judgeIn r ≡ answer true → r ≡ judge.Yes
+said-yes judge.Yes e = refl
+said-yes judge.No e = absurd (true≢false (sym (answer-inj false true e)))
+said-yes (judge.Refused q) e = absurd (answer≢refused true (refusalIn q) (sym e))
+
+said-no : (r : JudgeAnswer) → judgeIn r ≡ answer false → r ≡ judge.No
+said-no judge.Yes e = absurd (true≢false (answer-inj true false e))
+said-no judge.No e = refl
+said-no (judge.Refused q) e = absurd (answer≢refused false (refusalIn q) (sym e))
+
+module _ (sheet text : List ℕ) where
+  -- what is judged of a case
+  verdict : (c : CaseOf sheet text) → judgeAnswer sheet text ≡ answer (isModel (c .case .size) (c .problem .symbols) (c .problem .clauses) (c .case .values))
+  unfolding judgeAnswer
+  verdict c = bind-step _ _ (c .problem) _ (c .sheetRead) (bind-step _ _ (c .case) _ (c .caseRead) refl)
+
+  -- what is judged is a case
+  judged-case : (b : Bool) → judgeAnswer sheet text ≡ answer b → (c : CaseOf sheet text) × (isModel (c .case .size) (c .problem .symbols) (c .problem .clauses) (c .case .values) ≡ b)
+  unfolding judgeAnswer
+  judged-case b e =
+      unbind _ _ b e λ (p : Problem) h e₁.
+      unbind _ _ b e₁ λ (k : Case) h₁ e₂.
+      (record { problem = p; sheetRead = h; case = k; caseRead = h₁ }, answer-inj (isModel (k .size) (p .symbols) (p .clauses) (k .values)) b e₂)
+
+  judges : (j : JudgeCall sheet text) → Judges sheet text j
+  judges j =
+      record {
+        yes = (
+          λ e.
+              let r = judged-case true (sym (j .answer) ∙ ap judgeIn e) in
+              (r .0, true-if-model (r .0 .problem) text (r .0 .case) (r .0 .caseRead) (r .1)),
+          λ h. said-yes (j .result) (j .answer ∙ verdict (h .0) ∙ ap answer (model-if-true (h .0 .problem) text (h .0 .case) (h .0 .caseRead) (h .1))),
+        );
+        no = (
+          λ e.
+              let r = judged-case false (sym (j .answer) ∙ ap judgeIn e) in
+              (r .0, λ t. true≢false (sym (model-if-true (r .0 .problem) text (r .0 .case) (r .0 .caseRead) t) ∙ r .1)),
+          λ h. said-no (j .result) (j .answer ∙ verdict (h .0) ∙ ap answer (untrue (h .0) (h .1) _ refl)),
+        );
+      }
+    where
+      untrue : (c : CaseOf sheet text) → (IsTrue (c .problem) (c .case) → ⊥) → (b : Bool) → isModel (c .case .size) (c .problem .symbols) (c .problem .clauses) (c .case .values) ≡ b
+          → isModel (c .case .size) (c .problem .symbols) (c .problem .clauses) (c .case .values) ≡ false
+      untrue c h true e = absurd (h (true-if-model (c .problem) text (c .case) (c .caseRead) e))
+      untrue c h false e = e
+
+-- Write's text
+writes : (sheet : List ℕ) (size : ℕ) (w : WriteCall sheet size) (text : List ℕ) → Leaves (w .result) (w .output) text → Writes sheet size text
+unfolding writtenText
+writes sheet size w text l =
+    unbind _ _ text (left-text (w .result) (writtenText sheet size (length (w .lent))) (w .lent) (w .output) (w .answer) (w .left) text l) λ (p : Problem) h e₁.
+    unbind _ _ text e₁ λ (u : Unit {0}) _ e₂.
+    record { problem = p; content = h; clauses = sym (answer-inj (clausesText p size) text e₂) }
+
+-- Find's answers
+found-case : (a : Answer Search) (size n : ℕ) → findAnswer a ≡ answer (foundCase size n) → (c : List ℕ) × (a ≡ answer (found size c)) × (length c ≡ n)
+found-case (answer (found s c)) size n e =
+    let h : foundCase s (length c) ≡ foundCase size n = answer-inj (foundCase s (length c)) (foundCase size n) e in
+    let s≡ : s ≡ size = cc in
+    (c, ap (λ (s : ℕ). answer (found s c)) s≡, cc)
+found-case (answer (nothing b)) size n e = let z : _≡_ {A = ℕ} 0 1 = cc in absurd (omega arith)
+found-case (refused q) size n e = absurd (answer≢refused (foundCase size n) q (sym e))
+
+no-case : (a : Answer Search) (b : Bool) → findAnswer a ≡ answer (noCase b) → a ≡ answer (nothing b)
+no-case (answer (found s c)) b e = let z : _≡_ {A = ℕ} 0 1 = cc in absurd (omega arith)
+no-case (answer (nothing d)) b e = let h : d ≡ b = cc in ap (λ (b : Bool). answer (nothing b)) h
+no-case (refused q) b e = absurd (answer≢refused (noCase b) q (sym e))
+
+module _ (sheet : List ℕ) (p : Problem) (low high : ℕ) (read : readProblem sheet ≡ answer p) (f : FindCall sheet low high) where
+  abbrev result : Answer Search
+  result = findResult sheet low high (length (f .lentWork)) (length (f .lent))
+
+  d : theory.Demand2 sheet p low high result
+  d = demand2 sheet p low high (length (f .lentWork)) (length (f .lent)) read
+
+  least-text : (size : ℕ) (c : List ℕ) → theory.LeastText sheet p low high size c → LeastModel p low high size c
+  unfolding judged-is-model
+  least-text size c h =
+      record {
+        model = judged-is-model sheet p read size c (h .model);
+        searched = h .searched;
+        least =
+            λ t e le₁ le₂ m.
+            let b = h .least t e le₁ le₂ (model-is-judged sheet p read t e m) in
+            let same : b .case ≡ m .case = answer-inj (b .case) (m .case) (sym (b .read) ∙ m .read) in
+            rw same at (b .after);
+      }
+
+  find-found : (size n : ℕ) → f .result ≡ Found size n → LeastModel p low high size (take n (f .output))
+  find-found size n e =
+      let r = found-case result size n (sym (f .answer) ∙ ap findIn e) in
+      let stands : take n (f .output) ≡ r .0 =
+      ap (take n) (f .left ∙ ap (λ (a : Answer Search). findOutput a (f .lent)) (r .1))
+      ∙ ap (λ (n : ℕ). take n (over (r .0) (f .lent))) (sym (r .2))
+      ∙ take-append-seam (r .0) (drop (length (r .0)) (f .lent))
+      in
+      rw (sym stands) at (least-text size (r .0) (d .finds size (r .0) (r .1)))
+
+  finds : Finds sheet p low high f
+  finds =
+      record {
+        found = find-found;
+        none = λ b e t c le₁ le₂ m. d .findsNone b (no-case result b (sym (f .answer) ∙ ap findIn e)) t c le₁ le₂ (model-is-judged sheet p read t c m);
+        noneIf = go (f .result) refl;
+      }
+    where
+      go : (r : FindAnswer) → f .result ≡ r → NoModel p low high → ((q : answers.Refusal) → f .result ≡ Refused q → ⊥) → (b : Bool) × (f .result ≡ Nothing b)
+      go (Found size n) e none unrefused = let l = find-found size n e in absurd (none size (take n (f .output)) (l .searched .0) (l .searched .1) (l .model))
+      go (Nothing b) e none unrefused = (b, e)
+      go (Refused q) e none unrefused = absurd (unrefused q e)
+
+-- the theorem
+pub demand2-of-calls : Demand2
+demand2-of-calls = record { judge = judges; write = writes; find = λ sheet p low high read f. finds sheet p low high read f }

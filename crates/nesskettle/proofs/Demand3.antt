@@ -1,0 +1,87 @@
+-- Demand 3 of the calls, from demand 3 of the texts.
+use Prim.Native.Nat.{ℕ, _≤_}
+use mathlib.Core.Path.{_≡_, refl, sym, ap, _∙_}
+use mathlib.Core.List.{List}
+use native.Mathlib.Nat.{le-refl}
+use lib.Dec.{leb}
+use lib.ListN.{length}
+use Rattle.theory.specs.Refusals.{answer, unplaced, needing}
+use Rattle.theory.specs.Problem.{Problem, readProblem}
+use Rattle.theory.specs.CaseText.{caseLength}
+use Rattle.theory.specs.Operations.{contentOf, writtenText, readBackText}
+use Rattle.theory.specs.Claims.Demand3 as theory
+use Rattle.theory.proofs.Tests.{leb-true, leb-of-≤}
+use Rattle.theory.proofs.Answers.{unbind, bind-step, answer-inj, check-true, check-of-true}
+use Rattle.theory.proofs.Demand3.{demand3}
+use Rattle.nesskettle.specs.Calls.{clausesText, WriteCall, ReadBackCall, Leaves}
+use Rattle.nesskettle.specs.Demand3.{Demand3, Demand3Holds}
+use Rattle.nesskettle.proofs.Leaving.{leaves, left-text}
+use Rattle.nesskettle.proofs.Models.{judged-is-model, model-is-judged}
+
+-- an accepted sheet and size
+content-read : (sheet : List ℕ) (size : ℕ) (p : Problem) → contentOf sheet size ≡ answer p → readProblem sheet ≡ answer p
+unfolding contentOf
+content-read sheet size p e =
+    unbind _ _ p e λ (q : Problem) h e₁.
+    unbind _ _ p e₁ λ (u₁ : Unit {0}) _ e₂.
+    unbind _ _ p e₂ λ (u₂ : Unit {0}) _ e₃.
+    h ∙ e₃
+
+-- Write leaves the clauses in an output that is large enough
+written : (sheet : List ℕ) (size room : ℕ) (p : Problem) → contentOf sheet size ≡ answer p → length (clausesText p size) ≤ room → writtenText sheet size room ≡ answer (clausesText p size)
+unfolding writtenText
+written sheet size room p c fits =
+    bind-step _ _ p _ c (bind-step _ _ tt _ (check-of-true (leb (length (clausesText p size)) room) (needing 11 (length (clausesText p size))) (leb-of-≤ (length (clausesText p size)) room fits)) refl)
+
+-- what is read back stands in every output that is large enough
+read-back-in : (sheet : List ℕ) (size room : ℕ) (σ c : List ℕ) (p : Problem) → readProblem sheet ≡ answer p → readBackText sheet size σ room ≡ answer c
+    → (enough : ℕ) → caseLength size (p .symbols) ≤ enough → readBackText sheet size σ enough ≡ answer c
+unfolding readBackText
+read-back-in sheet size room σ c p read e enough fits =
+    unbind _ _ c e λ (q : Problem) h e₁.
+    unbind _ _ c e₁ λ (u₁ : Unit {0}) h₁ e₂.
+    unbind _ _ c e₂ λ (u₂ : Unit {0}) h₂ e₃.
+    unbind _ _ c e₃ λ (u₃ : Unit {0}) h₃ e₄.
+    unbind _ _ c e₄ λ (u₄ : Unit {0}) _ e₅.
+    let same : p ≡ q = answer-inj p q (sym read ∙ h) in
+    let fits′ : caseLength size (q .symbols) ≤ enough = rw same at fits in
+    bind-step _ _ q _ h
+    (bind-step _ _ u₁ _ h₁
+    (bind-step _ _ u₂ _ h₂
+    (bind-step _ _ u₃ _ h₃ (bind-step _ _ tt _ (check-of-true (leb (caseLength size (q .symbols)) enough) (needing 11 (caseLength size (q .symbols))) (leb-of-≤ (caseLength size (q .symbols)) enough fits′)) e₅))))
+
+module _ (sheet : List ℕ) (p : Problem) (size : ℕ) (content : contentOf sheet size ≡ answer p) (d : theory.Demand3 sheet p size (clausesText p size) (caseLength size (p .symbols))) where
+  abbrev needed : ℕ
+  needed = caseLength size (p .symbols)
+
+  read : readProblem sheet ≡ answer p
+  read = content-read sheet size p content
+
+  -- a call that leaves a case reads it back in an output of just that length too
+  left-case : (σ c : List ℕ) (b : ReadBackCall sheet size σ) → Leaves (b .result) (b .output) c → readBackText sheet size σ needed ≡ answer c
+  left-case σ c b h =
+      read-back-in sheet size (length (b .lent)) σ c p read (left-text (b .result) (readBackText sheet size σ (length (b .lent))) (b .lent) (b .output) (b .answer) (b .left) c h) needed (le-refl needed)
+
+  -- and the other way
+  leaves-case : (σ c : List ℕ) → readBackText sheet size σ needed ≡ answer c → (b : ReadBackCall sheet size σ) → needed ≤ length (b .lent) → Leaves (b .result) (b .output) c
+  leaves-case σ c e b fits =
+      leaves (b .result) (readBackText sheet size σ (length (b .lent))) (b .lent) (b .output) (b .answer) (b .left) c (read-back-in sheet size needed σ c p read e (length (b .lent)) fits)
+
+  of-calls : Demand3 sheet p size (clausesText p size)
+  of-calls =
+      record {
+        equal = λ σ τ sσ sτ a b c e la lb. d .equal σ τ c e sσ sτ (left-case σ c a la) (left-case τ e b lb);
+        readsBack = λ σ s b fits. let r = d .readsBack σ s in (r .0, leaves-case σ (r .0) (r .1) b fits, judged-is-model sheet p read size (r .0) (r .2));
+        onto =
+            λ c m.
+            let r = d .onto c (model-is-judged sheet p read size c m) in
+            (r .0, r .1, leaves-case (r .0) c (r .2), λ τ s b l. r .3 τ s (left-case τ c b l));
+      }
+
+-- the theorem
+pub demand3-of-calls : Demand3Holds
+demand3-of-calls sheet p size content w fits =
+    let t = written sheet size (length (w .lent)) p content fits in (
+      leaves (w .result) (writtenText sheet size (length (w .lent))) (w .lent) (w .output) (w .answer) (w .left) (clausesText p size) t,
+      of-calls sheet p size content (demand3 sheet p size (length (w .lent)) (caseLength size (p .symbols)) (clausesText p size) content t (le-refl (caseLength size (p .symbols)))),
+    )

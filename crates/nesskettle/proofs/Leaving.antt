@@ -1,0 +1,42 @@
+-- The text that a call leaves is the text of its promise.
+use Prim.Native.Nat.{ℕ}
+use mathlib.Core.Path.{_≡_, refl, sym, ap, _∙_}
+use mathlib.Core.List.{List, _++_}
+use lib.ListN.{length, take, drop}
+use lib.Seq.{take-append-seam}
+use Rattle.theory.specs.Refusals.{Refusal, Answer, answer, refused}
+use Rattle.theory.specs.Operations.{lengthAnswer, over, outputAfter}
+use Rattle.theory.proofs.Answers.{answer-inj, answer≢refused}
+use Rattle.answers.specs.declared.WriteAnswer.{WriteAnswer}
+use Rattle.answers.specs.declared.WriteAnswer.the-variants.{Written, Refused}
+use Rattle.answers.specs.Answers.{refusalIn, lengthIn}
+use Rattle.nesskettle.specs.Calls.{Leaves}
+
+-- the answer that says a length
+length-answered : (r : WriteAnswer) (n : ℕ) → lengthIn r ≡ answer n → r ≡ Written n
+length-answered (Written m) n e = ap Written (answer-inj m n e)
+length-answered (Refused q) n e = absurd (answer≢refused n (refusalIn q) (sym e))
+
+module _ (r : WriteAnswer) (a : Answer (List ℕ)) (lent output : List ℕ) (answered : lengthIn r ≡ lengthAnswer a) (left : output ≡ outputAfter a lent) where
+  -- the text that the promise answers is left
+  pub leaves : (text : List ℕ) → a ≡ answer text → Leaves r output text
+  leaves text e =
+      record {
+        answered = length-answered r (length text) (answered ∙ ap lengthAnswer e);
+        stands = ap (take (length text)) (left ∙ ap (λ (a : Answer (List ℕ)). outputAfter a lent) e) ∙ take-append-seam text (drop (length text) lent);
+      }
+
+  -- the text that is left is the one that the promise answers
+  pub left-text : (text : List ℕ) → Leaves r output text → a ≡ answer text
+  left-text text h = go a refl
+    where
+      go : (b : Answer (List ℕ)) → a ≡ b → a ≡ answer text
+      go (answer t) e =
+          let n : length text ≡ length t = answer-inj (length text) (length t) (sym (ap lengthIn (h .answered)) ∙ answered ∙ ap lengthAnswer e) in
+          e
+          ∙ ap answer
+          (sym (take-append-seam t (drop (length t) lent))
+          ∙ ap (λ (n : ℕ). take n (over t lent)) (sym n)
+          ∙ ap (take (length text)) (sym (left ∙ ap (λ (a : Answer (List ℕ)). outputAfter a lent) e))
+          ∙ h .stands)
+      go (refused q) e = absurd (answer≢refused (length text) q (sym (ap lengthIn (h .answered)) ∙ answered ∙ ap lengthAnswer e))

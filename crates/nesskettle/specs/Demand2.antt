@@ -1,0 +1,57 @@
+-- Demand 2 of the calls: truth in a finite interpretation decides what Judge, Write and Find answer.
+use Prim.Native.Nat.{ℕ, _≤_, _<_}
+use mathlib.Core.Path.{_≡_}
+use mathlib.Core.Logic.{_⊎_, _↔_}
+use mathlib.Core.Bool.{Bool}
+use mathlib.Core.List.{List}
+use lib.ListN.{take}
+use Rattle.theory.specs.Refusals.{answer}
+use Rattle.theory.specs.Problem.{Problem, readProblem}
+use Rattle.theory.specs.CaseText.{Case, readCase}
+use Rattle.theory.specs.Operations.{contentOf}
+use Rattle.theory.specs.Claims.Least.{NotAfter}
+use Rattle.answers.specs.declared.Refusal.{Refusal}
+use Rattle.answers.specs.declared.JudgeAnswer.the-variants.{Yes, No}
+use Rattle.answers.specs.declared.FindAnswer.the-variants.{Found, Nothing, Refused}
+use Rattle.nesskettle.specs.Calls.{clausesText, JudgeCall, WriteCall, FindCall, Leaves}
+use Rattle.nesskettle.specs.Models.{IsTrue, Model}
+
+-- sheet and case are laid out as document 01 says
+pub record CaseOf (sheet text : List ℕ) : Type 0 where
+  pub problem : Problem
+  pub sheetRead : readProblem sheet ≡ answer problem
+  pub case : Case
+  pub caseRead : readCase (problem .symbols) text ≡ answer case
+
+-- of a call of Judge: a case is judged a model exactly if it is one
+pub record Judges (sheet text : List ℕ) (j : JudgeCall sheet text) : Type 0 where
+  pub yes : (j .result ≡ Yes) ↔ ((c : CaseOf sheet text) × IsTrue (c .problem) (c .case))
+  pub no : (j .result ≡ No) ↔ ((c : CaseOf sheet text) × (IsTrue (c .problem) (c .case) → ⊥))
+
+-- of a call of Write: the clauses are those of document 01's steps, and no others
+pub record Writes (sheet : List ℕ) (size : ℕ) (text : List ℕ) : Type 0 where
+  pub problem : Problem
+  pub content : contentOf sheet size ≡ answer problem
+  pub clauses : text ≡ clausesText problem size
+
+-- no case of a searched size is a model
+abbrev pub NoModel : Problem → ℕ → ℕ → Type 0
+NoModel p low high = (t : ℕ) (d : List ℕ) → low ≤ t → t ≤ high → Model p t d → ⊥
+
+-- the text is that of a model of a searched size; each model of a searched size has a larger size, or the same and values that do not come before
+pub record LeastModel (p : Problem) (low high size : ℕ) (text : List ℕ) : Type 0 where
+  pub model : Model p size text
+  pub searched : (low ≤ size) × (size ≤ high)
+  pub least : (t : ℕ) (d : List ℕ) → low ≤ t → t ≤ high → (m : Model p t d) → (size < t) ⊎ ((size ≡ t) × NotAfter (model .case .values) (m .case .values))
+
+-- of a call of Find that is not refused: it finds the least model at the smallest size that has one, or it says none; none exactly if no case of a searched size is a model
+pub record Finds (sheet : List ℕ) (p : Problem) (low high : ℕ) (f : FindCall sheet low high) : Type 0 where
+  pub found : (size n : ℕ) → f .result ≡ Found size n → LeastModel p low high size (take n (f .output))
+  pub none : (settled : Bool) → f .result ≡ Nothing settled → NoModel p low high
+  pub noneIf : NoModel p low high → ((r : Refusal) → f .result ≡ Refused r → ⊥) → (settled : Bool) × (f .result ≡ Nothing settled)
+
+-- it holds of every call
+pub record Demand2 : Type 0 where
+  pub judge : (sheet text : List ℕ) (j : JudgeCall sheet text) → Judges sheet text j
+  pub write : (sheet : List ℕ) (size : ℕ) (w : WriteCall sheet size) (text : List ℕ) → Leaves (w .result) (w .output) text → Writes sheet size text
+  pub find : (sheet : List ℕ) (p : Problem) (low high : ℕ) → readProblem sheet ≡ answer p → (f : FindCall sheet low high) → Finds sheet p low high f
