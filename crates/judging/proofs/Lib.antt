@@ -1,2 +1,3 @@
 pub mod Passing
 pub mod ClausesLent
+pub mod Unfailed

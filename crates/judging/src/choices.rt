@@ -1,4 +1,4 @@
-// Judging cells: the first clause and the first choice of values under which it fails.
+// Judging a clause: the first choice of values under which it fails.
 use interpretation::tables::Tables;
 use interpretation::vector::ArgumentVector;
 use interpretation::vector::power;
