@@ -1,3 +1,4 @@
 pub mod Passing
 pub mod ClausesLent
 pub mod Unfailed
+pub mod Verdicts

@@ -1,0 +1,49 @@
+// Judge: whether a case is a model of a sheet.
+use crate::failures::first_failure;
+use answers::JudgeAnswer;
+use answers::at_line;
+use cases::reading::CaseReading;
+use cases::reading::read_case;
+use interpretation::tables::tables_of;
+use problem::sheet::read_problem;
+use syntax::limits::Problem;
+ghost use mathlib.Core.Path.{_≡_};
+ghost use Rattle.theory.specs.Refusals.{answer};
+ghost use Rattle.theory.specs.Cells.{isModel};
+ghost use Rattle.theory.specs.Operations as theory;
+ghost use Rattle.answers.specs.Answers.{judgeIn};
+ghost use Rattle.problem.specs.Problems.{problemIn};
+ghost use Rattle.judging.specs.Cases.{CellsLent, cellsOf};
+
+// The sheet's refusals, then the case's, then yes or no.
+pub fn judge_case(sheet: &[u8], case: &[u8]) -> JudgeAnswer
+    ensures { λ r. ⌜ judgeIn r ≡ theory.judgeAnswer (now (sheet .entry)) (now (case .entry)) ⌝ }
+{
+    let r = read_problem(sheet);
+    if r.fault != 0 {
+        return JudgeAnswer::Refused(at_line(r.fault, r.line));
+    }
+    let p = r.problem;
+    let signature = p.signature;
+    // 8^3 cells for each symbol at most
+    let mut cells = [0; 512 * Problem::MAX_SYMBOLS];
+    match read_case(case, sheet, signature, &mut cells) {
+        CaseReading::Refused(line) => JudgeAnswer::Refused(at_line(12, line)),
+        CaseReading::Read(size) => judge_cells(sheet, p, &cells, size),
+    }
+}
+
+// Yes if no clause fails in the interpretation that the first cells are.
+fn judge_cells(sheet: &[u8], p: Problem, cells: &[u8], size: usize) -> JudgeAnswer
+    requires { ⌜ CellsLent (now sheet) p (now cells) size ⌝ }
+    ensures { λ r. ⌜ judgeIn r ≡ answer (isModel size (problemIn (now (sheet .entry)) p .symbols) (problemIn (now (sheet .entry)) p .clauses) (cellsOf (now (sheet .entry)) p (now (cells .entry)) size)) ⌝ }
+{
+    let signature = p.signature;
+    let t = tables_of(signature, size);
+    let count = t.cells;
+    let f = first_failure(sheet, p, t, &cells[0..count], size);
+    if f.fails {
+        return JudgeAnswer::No;
+    }
+    JudgeAnswer::Yes
+}
