@@ -1,0 +1,45 @@
+-- The bits of a valuation that is to be written as a case, and what writing asks of them.
+use Prim.Native.Nat.{ℕ, _+_, _*_, _^_, _≤_}
+use mathlib.Core.Path.{_≡_}
+use mathlib.Core.Bool.{true, cond}
+use mathlib.Core.List.{List}
+use lib.Dec.{eqb, ltb}
+use lib.ListN.{length, replicate, drop}
+use Rattle.theory.specs.Lists.{all}
+use Rattle.theory.specs.Vectors.{AllBelow}
+use Rattle.theory.specs.Propositional.{width}
+use Rattle.theory.specs.Valuation.{isFunctional, valuesOf}
+use Rattle.syntax.specs.declared.signature.Symbol.{Symbol}
+use Rattle.syntax.specs.declared.signature.Signature.{Signature}
+use Rattle.syntax.specs.Signatures.{kindOf, signatureIn}
+use Rattle.clauses.specs.Names.{Readable}
+use Rattle.valuations.specs.declared.numbering.Numbering.{Numbering}
+use Rattle.valuations.specs.Numbers.{NumberingOf}
+use Rattle.valuations.specs.Cells.{settingOf}
+
+-- the bits: the setting's bytes, or, where there are values, those of a search's values
+unfoldable pub bitsHeld : List ℕ → List ℕ → List ℕ
+bitsHeld setting values = cond (eqb (length values) 0) setting (settingOf values)
+
+-- the table of a symbol whose propositional variables start with `from`
+abbrev pub tableIn : ℕ → Symbol → ℕ → List ℕ → List ℕ
+tableIn s y from bits = valuesOf s (replicate (s ^ y .arity) (kindOf (y .function))) (drop from bits)
+
+-- the symbol's name stands in the sheet, and its bits give each of its cells a value
+pub record TableLent (sheet : List ℕ) (y : Symbol) (from s : ℕ) (bits : List ℕ) : Type 0 where
+  pub arity : y .arity ≤ 3
+  pub positive : 1 ≤ s
+  pub size : s ≤ 8
+  pub name : y .name + y .length ≤ length sheet
+  pub block : from + s ^ y .arity * width s (kindOf (y .function)) ≤ length bits
+  pub below : AllBelow 8 (tableIn s y from bits)
+
+-- the bits are a valuation of the signature and give each function cell one result
+pub record Writable (sheet : List ℕ) (y : Signature) (n : Numbering) (s : ℕ) (bits : List ℕ) : Type 0 where
+  pub readable : Readable sheet y
+  pub positive : 1 ≤ s
+  pub size : s ≤ 8
+  pub numbered : NumberingOf (signatureIn sheet y) s n
+  pub counted : length bits ≡ n .count
+  pub binary : all (λ b. ltb b 2) bits ≡ true
+  pub functional : isFunctional s (signatureIn sheet y) bits ≡ true

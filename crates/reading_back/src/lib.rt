@@ -1,0 +1,3 @@
+// Read back: the interpretation that a valuation says, written as the text of a case.
+pub mod tables;
+pub mod writing;
