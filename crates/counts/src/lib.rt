@@ -1,0 +1,118 @@
+// The counts of a problem at a size: how many clauses and literals would be written if none were dropped.
+use flattening::flat::flatten;
+use interpretation::vector::power;
+use problem::clause_lines::clause_words;
+use syntax::limits::Problem;
+use syntax::signature::Signature;
+use syntax::signature::Symbol;
+ghost use mathlib.Core.Path.{_≡_};
+ghost use mathlib.Core.Bool.{cond};
+ghost use mathlib.Core.List.{List, [], _∷_, map};
+ghost use Prim.Native.Nat.{ℕ, _+_, _-_, _*_, _/_, _^_, _≤_, _<_};
+ghost use lib.ListN.{getD};
+ghost use Rattle.theory.specs.PropClauses.{clausePart, functionPart, functionPlaces, instanceCount, literalCount};
+ghost use Rattle.syntax.specs.Signatures.{signatureIn};
+ghost use Rattle.clauses.specs.Names.{Limited};
+ghost use Rattle.problem.specs.Problems.{Accepted, problemIn};
+ghost use Rattle.counts.specs.Totals.{TotalOf};
+
+// I and L.
+pub struct Counts {
+    pub instances: usize,
+    pub literals: usize,
+}
+
+pub fn counts_at(sheet: &[u8], p: Problem, size: usize) -> Counts
+    requires { ⌜ Accepted (now sheet) p × (size ≤ 8) ⌝ }
+    ensures instances { λ r. ⌜ r .instances ≡ instanceCount size (problemIn (now (sheet .entry)) p .symbols) (problemIn (now (sheet .entry)) p .clauses) ⌝ }
+    ensures literals { λ r. ⌜ r .literals ≡ literalCount size (problemIn (now (sheet .entry)) p .symbols) (problemIn (now (sheet .entry)) p .clauses) ⌝ }
+    ensures small { λ r. ⌜ (r .instances < 2 ^ 42) × (r .literals < 2 ^ 42) ⌝ }
+{
+    let f = function_counts(p.signature, size);
+    let c = all_clause_counts(sheet, p, size);
+    plus(f, c)
+}
+
+// What the function cells add.
+fn function_counts(signature: Signature, size: usize) -> Counts
+    requires { ⌜ Limited signature × (size ≤ 8) ⌝ }
+    ensures { λ r. ⌜ ((sheet : List ℕ) → TotalOf (map (functionPart size (signatureIn sheet signature)) (functionPlaces (signatureIn sheet signature))) (2 ^ 41) r) ⌝ }
+{
+    let mut total = Counts {
+        instances: 0,
+        literals: 0,
+    };
+    let mut i: usize = 0;
+    while i < signature.count {
+        let one = symbol_counts(signature.symbols[i], size);
+        total = plus(total, one);
+        i += 1;
+    }
+    total
+}
+
+// What the cells of a symbol add, if it is a function.
+fn symbol_counts(symbol: Symbol, size: usize) -> Counts
+    requires { ⌜ (symbol .arity ≤ 3) × (size ≤ 8) ⌝ }
+    ensures instances { λ r. ⌜ r .instances ≡ cond (symbol .function) (size ^ symbol .arity * (1 + size * (size - 1) / 2)) 0 ⌝ }
+    ensures literals { λ r. ⌜ r .literals ≡ cond (symbol .function) (size ^ (symbol .arity + 2)) 0 ⌝ }
+    ensures small { λ r. ⌜ (r .instances ≤ 2 ^ 15) × (r .literals ≤ 2 ^ 15) ⌝ }
+{
+    if !symbol.function {
+        return Counts {
+            instances: 0,
+            literals: 0,
+        };
+    }
+    let arity = symbol.arity as usize;
+    let pairs = (size * size - size) / 2;
+    Counts {
+        instances: power(size, arity) * (1 + pairs),
+        literals: power(size, arity + 2),
+    }
+}
+
+// What the instances of all clauses add.
+fn all_clause_counts(sheet: &[u8], p: Problem, size: usize) -> Counts
+    requires { ⌜ Accepted (now sheet) p × (size ≤ 8) ⌝ }
+    ensures { λ r. ⌜ TotalOf (map (clausePart size (signatureIn (now (sheet .entry)) (p .signature))) (problemIn (now (sheet .entry)) p .clauses)) (2 ^ 41 - 1) r ⌝ }
+{
+    let mut total = Counts {
+        instances: 0,
+        literals: 0,
+    };
+    let mut k: usize = 0;
+    while k < p.count {
+        let one = clause_counts(sheet, p, k, size);
+        total = plus(total, one);
+        k += 1;
+    }
+    total
+}
+
+// What the instances of clause k add.
+fn clause_counts(sheet: &[u8], p: Problem, k: usize, size: usize) -> Counts
+    requires { ⌜ Accepted (now sheet) p × (k < p .count) × (size ≤ 8) ⌝ }
+    ensures { λ r. ⌜ TotalOf (clausePart size (signatureIn (now (sheet .entry)) (p .signature)) (getD (problemIn (now (sheet .entry)) p .clauses) k []) ∷ []) (26 * 2 ^ 30) r ⌝ }
+{
+    let words = clause_words(sheet, p, k);
+    let signature = p.signature;
+    let arities = signature.arities();
+    let flat = flatten(words, &arities);
+    let instances = power(size, flat.variables);
+    Counts {
+        instances,
+        literals: instances * flat.count,
+    }
+}
+
+fn plus(a: Counts, b: Counts) -> Counts
+    requires { ⌜ (a .instances + b .instances < 2 ^ 64) × (a .literals + b .literals < 2 ^ 64) ⌝ }
+    ensures instances { λ r. ⌜ r .instances ≡ a .instances + b .instances ⌝ }
+    ensures literals { λ r. ⌜ r .literals ≡ a .literals + b .literals ⌝ }
+{
+    Counts {
+        instances: a.instances + b.instances,
+        literals: a.literals + b.literals,
+    }
+}
