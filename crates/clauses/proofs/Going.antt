@@ -1,6 +1,6 @@
 -- A clause line's words, read one after the other from a place in the line.
 use Prim.Native.Nat.{ℕ, _+_, _*_, _≤_, _<_}
-use mathlib.Core.Path.{_≡_, refl, sym, ap, _∙_}
+use mathlib.Core.Path.{_≡_, refl, sym, ap, subst, _∙_}
 use mathlib.Core.Bool.{Bool, true, false, cond, true≢false, false≢true}
 use mathlib.Core.Option.{Option, none, some}
 use mathlib.Core.List.{List, [], _∷_, _++_, append-assoc, append-nil}
@@ -16,6 +16,7 @@ use Rattle.theory.specs.Lines.{cutWords, wordsOf}
 use Rattle.theory.specs.Problem.{wordOf, readAll}
 use Rattle.text.specs.Lines.{part, WordEnd}
 use Rattle.text.proofs.Part.{length-part}
+use Rattle.word_reader.proofs.Handed.{Handed}
 use Rattle.clauses.specs.declared.grammar.Due.the-variants.{Terms}
 use Rattle.clauses.specs.declared.clause.Words.{Words}
 use Rattle.clauses.specs.Grammar.{dueAfterAll}
@@ -83,11 +84,18 @@ module _ (g : Signature) (value : List ℕ) where
       go [] h = absurd (h refl)
       go (b ∷ v) h = refl
 
-  module _ (w r : Words) (at end : ℕ) (z : Going g value w at) (le : at ≤ length value) (e : WordEnd value at end) (t : WordTaken g (part value at end) w r) where
+  module _ (w r : Words) (at from end : ℕ) (z : Going g value w at) (h : Handed value at from end) (handed : WordTaken g (part value from end) w r) where
+    -- where the word at the place ends, and that it is the one taken
+    e : WordEnd value at end
+    e = h .ends
+
+    t : WordTaken g (part value at end) w r
+    t = subst (λ (x : ℕ). WordTaken g (part value x end) w r) (h .begins) handed
+
     -- the word at the place, and those after it
     next : wordsFrom value at ≡ part value at end ∷ wordsFrom value (end + 1)
     next =
-        ap (λ (b : Bool). cond b (cutWords (drop at value)) []) (le-leb at (length value) le)
+        ap (λ (b : Bool). cond b (cutWords (drop at value)) []) (le-leb at (length value) (h .within))
         ∙ e .cut
         ∙ ap (λ (n : ℕ). part value at end ∷ cond (leb n (length value)) (cutWords (drop n value)) []) (sym (add-one end))
 

@@ -8,7 +8,8 @@ use flattening::flat::variable_count;
 use syntax::limits::Problem;
 use syntax::signature::Signature;
 use syntax::words::ClauseWords;
-use text::lines::word_end;
+use word_reader::NextWord;
+use word_reader::word_from;
 ghost use mathlib.Core.Path.{_≡_};
 ghost use mathlib.Core.Bool.{true, false};
 ghost use mathlib.Core.List.{List, [], _∷_, _++_};
@@ -95,15 +96,20 @@ fn read_words(sheet: &[u8], signature: Signature, value: &[u8]) -> Words
         return w;
     }
     let mut at: usize = 0;
-    while at <= value.len() {
-        let end = word_end(value, at);
-        w = with_word(sheet, signature, w, &value[at..end]);
-        if w.unknown {
-            return w;
+    loop {
+        match word_from(value, at) {
+            NextWord::Is(from, end) => {
+                w = with_word(sheet, signature, w, &value[from..end]);
+                if w.unknown {
+                    return w;
+                }
+                at = end + 1;
+            }
+            NextWord::End => {
+                return w;
+            }
         }
-        at = end + 1;
     }
-    w
 }
 
 // One word more.
