@@ -1,0 +1,1 @@
+// Encoding: all clauses of a problem at a size, in written order.
