@@ -22,6 +22,11 @@ pub struct Counts {
     pub literals: usize,
 }
 
+impl Counts {
+    // the most instances that are written or searched
+    pub const MAX_INSTANCES: usize = 1000000;
+}
+
 pub fn counts_at(sheet: &[u8], p: Problem, size: usize) -> Counts
     requires { ⌜ Accepted (now sheet) p × (size ≤ 8) ⌝ }
     ensures instances { λ r. ⌜ r .instances ≡ instanceCount size (problemIn (now (sheet .entry)) p .symbols) (problemIn (now (sheet .entry)) p .clauses) ⌝ }
