@@ -1,0 +1,5 @@
+pub mod Weights
+pub mod Meaning
+pub mod Gathering
+pub mod Evaluating
+pub mod Groundables
