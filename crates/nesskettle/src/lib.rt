@@ -5,10 +5,13 @@ mod reading;
 
 use answers::JudgeAnswer;
 use answers::ReadAnswer;
+use answers::WriteAnswer;
 use judging::verdict::judge_case;
+use reading_back::setting::read_setting_back;
 ghost use mathlib.Core.Path.{_≡_};
+ghost use lib.ListN.{length};
 ghost use Rattle.theory.specs.Operations as theory;
-ghost use Rattle.answers.specs.Answers.{judgeIn, readIn};
+ghost use Rattle.answers.specs.Answers.{judgeIn, lengthIn, readIn};
 
 // Read: the sheet's counts.
 pub fn read(sheet: &[u8]) -> ReadAnswer
@@ -22,4 +25,12 @@ pub fn judge(sheet: &[u8], case: &[u8]) -> JudgeAnswer
     ensures answer { λ r. ⌜ judgeIn r ≡ theory.judgeAnswer (now (sheet .entry)) (now (case .entry)) ⌝ }
 {
     judge_case(sheet, case)
+}
+
+// Read back: the case that the setting says, at the front of the output.
+pub fn read_back(sheet: &[u8], size: u64, setting: &[u8], output: &mut [u8]) -> WriteAnswer
+    ensures answer { λ r. ⌜ lengthIn r ≡ theory.lengthAnswer (theory.readBackText (now (sheet .entry)) size (now (setting .entry)) (length (now (output .entry)))) ⌝ }
+    ensures left { λ r. ⌜ now (output .exit) ≡ theory.outputAfter (theory.readBackText (now (sheet .entry)) size (now (setting .entry)) (length (now (output .entry)))) (now (output .entry)) ⌝ }
+{
+    read_setting_back(sheet, size, setting, output)
 }

@@ -2,7 +2,7 @@
 use Prim.Native.Nat.{ℕ, zero, suc, _+_, _*_, _-_, _≤_}
 use mathlib.Core.Path.{_≡_, refl, sym, ap, _∙_}
 use mathlib.Core.Bool.{Bool, true, false, cond}
-use mathlib.Core.List.{List, _∷_, _++_, map-append}
+use mathlib.Core.List.{List, [], _∷_, _++_, map-append}
 use native.Mathlib.Nat.{suc-mul}
 use native.Mathlib.Omega.{arith}
 use borrow.Author.Tests.{eq-eqb, ne-eqb}
@@ -25,6 +25,10 @@ module _ (setting values : List ℕ) where
   pub some-values : (length values ≡ 0 → ⊥) → bitsHeld setting values ≡ settingOf values
   unfolding bitsHeld
   some-values e = ap (λ (b : Bool). cond b setting (settingOf values)) (ne-eqb (length values) 0 e)
+
+-- no values: the setting itself
+pub setting-held : (setting : List ℕ) → bitsHeld setting [] ≡ setting
+setting-held setting = no-values setting [] refl
 
 pub length-settingOf : (values : List ℕ) → length (settingOf values) ≡ length values
 length-settingOf values = length-map values (λ z. cond (eqb z 1) 1 0)

@@ -1,3 +1,4 @@
 pub mod Bits
 pub mod CaseLines
 pub mod Written
+pub mod Answered

@@ -17,6 +17,7 @@ use Rattle.theory.specs.CaseText.{tableText, tablesText, caseText, caseLength}
 use Rattle.theory.specs.Operations.{over}
 use Rattle.theory.specs.Valuation.{isValuation, valuesOf, readBack}
 use Rattle.theory.proofs.Tests.{eqb-of-≡, and-join}
+use Rattle.theory.proofs.CaseLengths.{case-lengths}
 use Rattle.theory.proofs.Valuations.{readBack-isInterpretation}
 use Rattle.syntax.specs.declared.signature.Symbol.{Symbol}
 use Rattle.syntax.specs.declared.signature.Signature.{Signature}
@@ -122,6 +123,10 @@ module _ (sheet : List ℕ) (y : Signature) (n : Numbering) (s : ℕ) (bits : Li
 
     pub last-place : e ≡ at + length (tablesText s g vs)
     last-place = v .cursor ∙ ap (λ (l : List ℕ). at + length l) all-lines
+
+  -- the case has its length
+  pub text-length : length (caseText s g vs) ≡ caseLength s g
+  text-length = case-lengths s g vs (w .positive) in-range
 
   -- heading and lines: the whole case, at the front of the output
   module _ (out : List ℕ) (room : caseLength s g ≤ length out) where

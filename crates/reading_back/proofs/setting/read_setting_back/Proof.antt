@@ -1,0 +1,86 @@
+-- `read_setting_back` meets its contract: the sheet's refusals, 8, then what the setting says.
+use borrow.Author.Needs.{needs}
+use Prim.Native.Nat.{ℕ}
+use mathlib.Core.Path.{sym, ap, _∙_}
+use mathlib.Core.List.{List}
+use lib.ListN.{length}
+use Rattle.theory.specs.Refusals.{Answer, atLine, unplaced}
+use Rattle.theory.specs.Operations.{lengthAnswer, outputAfter}
+use Rattle.reading_back.proofs.Answered.{refused-so, sheet-refusal, sheet-within, size-refusal, size-within, setting-left}
+use Rattle.reading_back.proofs.setting.read_setting_back.Statement.{statement}
+use Rattle.reading_back.proofs.setting.read_setting_back.Tie as tie
+
+read-problem-requires : tie.Need-read-problem-requires
+read-problem-requires c κs = search needs
+
+at-line-requires : tie.Need-at-line-requires
+at-line-requires c κs = search needs
+
+returns : tie.Need-returns
+returns c =
+    let a = c .before .before .before .before .before .before .before .args in
+    let r = c .before .before .before .read-problem in
+    refused-so (c .at-line .result) (atLine (r .result .fault) (r .result .line)) _ (a .output .now) (c .at-line .ensures)
+    (sheet-refusal (a .sheet .now) (r .result) (r .ensures .0) (a .size) (a .setting .now) (length (a .output .now)) (c .before .if1 .taken))
+
+checked-requires : tie.Need-checked-requires
+checked-requires c κs = search needs
+
+enum-told : tie.Need-enum-told
+enum-told c = search needs
+
+at-line-requires-2 : tie.Need-at-line-requires-2
+at-line-requires-2 c κs = search needs
+
+enum-known-s : tie.Need-enum-known-s
+enum-known-s c = search needs
+
+write-setting-requires : tie.Need-write-setting-requires
+write-setting-requires c κs =
+    let a = c .before .before .before .before .before .before .before .before .before .before .before .before .args in
+    let r = c .before .before .before .before .before .before .before .before .read-problem in
+    let ok = c .before .before .before .before .before .before .if1 .left in
+    let k = c .before .before .before .before .checked in (
+      r .ensures .1 ok .readable,
+      (
+        sheet-within (a .sheet .now) (r .result) (r .ensures .0) ok,
+        size-within (a .sheet .now) (r .result) (r .ensures .0) ok (a .size) (k .result) (k .ensures) (c .before .before .s .given .0 .0) (c .before .before .s .given .1),
+      ),
+    )
+
+returns-2 : tie.Need-returns-2
+returns-2 c =
+    let a = c .before .before .before .before .before .before .before .before .before .before .before .args in
+    let r = c .before .before .before .before .before .before .before .read-problem in
+    let k = c .before .before .before .checked in
+    refused-so (c .at-line2 .result) (unplaced 8) _ (a .output .now) (c .at-line2 .ensures)
+    (size-refusal (a .sheet .now) (r .result) (r .ensures .0) (c .before .before .before .before .before .if1 .left) (a .size) (k .result) (k .ensures) (a .setting .now) (length (a .output .now)) (c .before .enum-told .given .1))
+
+same-length : tie.Need-same-length
+same-length c = search needs
+
+returns-3 : tie.Need-returns-3
+returns-3 c =
+    let a = c .before .before .before .before .before .before .before .before .before .before .before .before .before .before .before .args in
+    let r = c .before .before .before .before .before .before .before .before .before .before .before .read-problem in
+    let k = c .before .before .before .before .before .before .before .checked in
+    let d = c .before .before .before .before .before .s .given in
+    let p = c .before .before .write-setting in
+    let e = setting-left (a .sheet .now) (r .result) (r .ensures .0) (c .before .before .before .before .before .before .before .before .before .if1 .left) (a .size) (k .result) (k .ensures) (d .0 .0) (d .1) (a .setting .now) (length (a .output .now)) in
+    (p .ensures .0 ∙ ap lengthAnswer (sym e), p .ensures .1 ∙ ap (λ (t : Answer (List ℕ)). outputAfter t (a .output .now)) (sym e))
+
+pub read-setting-back-spec : {M : Type 1} → statement M
+read-setting-back-spec =
+    tie.close
+    (tie.spec
+    read-problem-requires
+    at-line-requires
+    returns
+    checked-requires
+    enum-told
+    at-line-requires-2
+    enum-known-s
+    write-setting-requires
+    returns-2
+    same-length
+    returns-3)
