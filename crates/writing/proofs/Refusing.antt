@@ -1,0 +1,98 @@
+-- Write's answers, check by check.
+use Prim.Native.Nat.{ℕ, _≤_, _<_}
+use mathlib.Core.Path.{_≡_, refl, sym, ap, _∙_}
+use mathlib.Core.Bool.{Bool, true, false, cond}
+use mathlib.Core.List.{List}
+use native.Mathlib.Omega.{arith}
+use lib.Dec.{leb}
+use lib.ListN.{length}
+use Rattle.theory.specs.Refusals.{Answer, answer, refused, atLine, unplaced, needing, check, _>>=_}
+use Rattle.theory.specs.Refusals as theory
+use Rattle.theory.specs.Problem.{Problem, readProblem}
+use Rattle.theory.specs.Operations.{maxSize, maxInstances, isSize, lengthAnswer, outputAfter, over, contentOf, writtenText}
+use Rattle.theory.proofs.Tests.{leb-true, leb-of-≤, leb-of-<, and-left, and-right}
+use Rattle.theory.proofs.Answers.{bind-step, bind-refused, check-of-true, check-of-false}
+use Rattle.answers.specs.declared.Refusal.{Refusal}
+use Rattle.answers.specs.declared.WriteAnswer.{WriteAnswer}
+use Rattle.answers.specs.declared.WriteAnswer.the-variants.{Written, Refused}
+use Rattle.answers.specs.Answers.{refusalIn, lengthIn}
+use Rattle.syntax.specs.declared.size.DomainSize.{DomainSize}
+use Rattle.syntax.specs.declared.size.SizeCheck.{SizeCheck}
+use Rattle.syntax.specs.declared.size.SizeCheck.the-variants as size
+use Rattle.syntax.specs.Sizes.{checkedSize}
+use Rattle.writing.specs.Texts.{instancesAt, clausesText, textWithin, textAt}
+
+-- an answer and the output after it, as a call promises them
+abbrev pub Answers : Answer (List ℕ) → WriteAnswer → List ℕ → List ℕ → Type 0
+Answers a r out out′ = (lengthIn r ≡ lengthAnswer a) × (out′ ≡ outputAfter a out)
+
+pub refuses : (a : Answer (List ℕ)) (q : theory.Refusal) (r : Refusal) (out : List ℕ) → a ≡ refused q → refusalIn r ≡ q → Answers a (Refused r) out out
+refuses a q r out e h = (ap refused h ∙ sym (ap lengthAnswer e), sym (ap (λ (b : Answer (List ℕ)). outputAfter b out) e))
+
+pub writes : (a : Answer (List ℕ)) (t : List ℕ) (n : ℕ) (out out′ : List ℕ) → a ≡ answer t → n ≡ length t → out′ ≡ over t out → Answers a (Written n) out out′
+writes a t n out out′ e h o = (ap answer h ∙ sym (ap lengthAnswer e), o ∙ sym (ap (λ (b : Answer (List ℕ)). outputAfter b out) e))
+
+pub answers-as : (a b : Answer (List ℕ)) (r : WriteAnswer) (out out′ : List ℕ) → a ≡ b → Answers b r out out′ → Answers a r out out′
+answers-as a b r out out′ e h = (h .0 ∙ sym (ap lengthAnswer e), h .1 ∙ sym (ap (λ (b : Answer (List ℕ)). outputAfter b out) e))
+
+-- a size of 1 to 8 is one that the checks take
+pub checked-size : (n : ℕ) (s : DomainSize) → checkedSize n ≡ size.Is s → (isSize n ≡ true) × (s .0 ≡ n)
+checked-size n s = go (isSize n)
+  where
+    go : (b : Bool) → cond b (size.Is (record { 0 = n })) size.Refused ≡ size.Is s → (b ≡ true) × (s .0 ≡ n)
+    go true e = let h : _≡_ {A = DomainSize} (record { 0 = n }) s = cc in (refl, sym (ap (λ (x : DomainSize). x .0) h))
+    go false e = let z : _≡_ {A = ℕ} 0 1 = cc in absurd (omega arith)
+
+pub refused-size : (n : ℕ) → checkedSize n ≡ size.Refused → isSize n ≡ false
+refused-size n = go (isSize n)
+  where
+    go : (b : Bool) → cond b (size.Is (record { 0 = n })) size.Refused ≡ size.Refused → b ≡ false
+    go true e = let z : _≡_ {A = ℕ} 0 1 = cc in absurd (omega arith)
+    go false e = refl
+
+pub size-within : (n : ℕ) → isSize n ≡ true → (1 ≤ n) × (n ≤ maxSize)
+size-within n e = (leb-true 1 n (and-left (leb 1 n) (leb n maxSize) e), leb-true n maxSize (and-right (leb 1 n) (leb n maxSize) e))
+
+module _ (p : Problem) (s room : ℕ) where
+  -- 11
+  pub too-long : room < length (clausesText p s) → textWithin p s room ≡ refused (needing 11 (length (clausesText p s)))
+  too-long h = bind-refused _ _ _ (check-of-false (leb (length (clausesText p s)) room) (needing 11 (length (clausesText p s))) (leb-of-< (length (clausesText p s)) room h))
+
+  pub within : length (clausesText p s) ≤ room → textWithin p s room ≡ answer (clausesText p s)
+  within h = bind-step _ _ tt _ (check-of-true (leb (length (clausesText p s)) room) (needing 11 (length (clausesText p s))) (leb-of-≤ (length (clausesText p s)) room h)) refl
+
+  -- 9
+  pub too-many : maxInstances < instancesAt p s → textAt p s room ≡ refused (unplaced 9)
+  too-many h = bind-refused _ _ _ (check-of-false (leb (instancesAt p s) maxInstances) (unplaced 9) (leb-of-< (instancesAt p s) maxInstances h))
+
+  pub not-too-many : instancesAt p s ≤ maxInstances → textAt p s room ≡ textWithin p s room
+  not-too-many h = bind-step _ _ tt _ (check-of-true (leb (instancesAt p s) maxInstances) (unplaced 9) (leb-of-≤ (instancesAt p s) maxInstances h)) refl
+
+module _ (sheet : List ℕ) (s room : ℕ) where
+  -- 1 to 7
+  pub sheet-refusal : (q : theory.Refusal) → readProblem sheet ≡ refused q → writtenText sheet s room ≡ refused q
+  unfolding writtenText contentOf
+  sheet-refusal q e = bind-refused _ _ q (bind-refused _ _ q e)
+
+  -- 8
+  pub size-refusal : (p : Problem) → readProblem sheet ≡ answer p → isSize s ≡ false → writtenText sheet s room ≡ refused (unplaced 8)
+  unfolding writtenText contentOf
+  size-refusal p e h = bind-refused _ _ (unplaced 8) (bind-step _ _ p _ e (bind-refused _ _ (unplaced 8) (check-of-false (isSize s) (unplaced 8) h)))
+
+  -- what is left to check at a checked size
+  module _ (p : Problem) (read : readProblem sheet ≡ answer p) (h : isSize s ≡ true) where
+    content : contentOf sheet s ≡ (check (leb (instancesAt p s) maxInstances) (unplaced 9) >>= λ _. answer p)
+    unfolding contentOf
+    content = bind-step _ _ p _ read (bind-step _ _ tt _ (check-of-true (isSize s) (unplaced 8) h) refl)
+
+    pub sized-text : writtenText sheet s room ≡ textAt p s room
+    unfolding writtenText
+    sized-text = go (leb (instancesAt p s) maxInstances) refl
+      where
+        go : (b : Bool) → leb (instancesAt p s) maxInstances ≡ b → writtenText sheet s room ≡ textAt p s room
+        go true t =
+            let taken = check-of-true (leb (instancesAt p s) maxInstances) (unplaced 9) t in
+            bind-step _ _ p _ (content ∙ bind-step _ _ tt (answer p) taken refl) (sym (bind-step _ _ tt _ taken refl))
+        go false t =
+            let many = check-of-false (leb (instancesAt p s) maxInstances) (unplaced 9) t in
+            bind-refused _ _ (unplaced 9) (content ∙ bind-refused _ _ (unplaced 9) many) ∙ sym (bind-refused _ _ (unplaced 9) many)

@@ -1,0 +1,94 @@
+-- `write_clauses` meets its contract.
+use borrow.Author.Needs.{needs}
+use mathlib.Core.Path.{_≡_, sym, ap, _∙_, subst}
+use Prim.Native.Nat.{ℕ}
+use lib.ListN.{length}
+use Rattle.theory.specs.Refusals.{atLine, unplaced}
+use Rattle.theory.specs.Operations.{writtenText}
+use Rattle.problem.specs.Problems.{problemIn}
+use Rattle.problem.proofs.SheetRead.{sheet-accepted, sheet-refused}
+use Rattle.writing.specs.Texts.{Sized, textAt}
+use Rattle.writing.proofs.Refusing.{refuses, answers-as, checked-size, refused-size, size-within, sheet-refusal, size-refusal, sized-text}
+use Rattle.writing.proofs.write_clauses.Statement.{statement}
+use Rattle.writing.proofs.write_clauses.Tie as tie
+
+read-problem-requires : tie.Need-read-problem-requires
+read-problem-requires c κs = search needs
+
+at-line-requires : tie.Need-at-line-requires
+at-line-requires c κs = search needs
+
+returns : tie.Need-returns
+returns c =
+    let z = c .before .before .before .before .before .before in
+    let sheet = z .args .sheet .now in
+    let room = length (z .args .output .now) in
+    let r = c .before .before .before .read-problem in
+    let q = atLine (r .result .fault) (r .result .line) in
+    refuses (writtenText sheet (z .args .size) room) q (c .at-line .result) (z .args .output .now)
+    (sheet-refusal sheet (z .args .size) room q (sheet-refused sheet (r .result) (r .ensures .0) (c .before .if1 .taken)))
+    (c .at-line .ensures)
+
+checked-requires : tie.Need-checked-requires
+checked-requires c κs = search needs
+
+enum-told : tie.Need-enum-told
+enum-told c = search needs
+
+at-line-requires-2 : tie.Need-at-line-requires-2
+at-line-requires-2 c κs = search needs
+
+enum-known-s : tie.Need-enum-known-s
+enum-known-s c = search needs
+
+write-at-requires : tie.Need-write-at-requires
+write-at-requires c κs =
+    let z = c .before .before .before .before .before .before .before .before .before .before .before in
+    let s = c .before .before .s .given in
+    let k = checked-size (z .args .size) (s .0 .0) (sym (c .before .before .before .before .checked .ensures) ∙ s .1) in
+    let w = size-within (z .args .size) (k .0) in
+    record { accepted = c .before .before .before .before .before .before .before .before .read-problem .ensures .1 (c .before .before .before .before .before .before .if1 .left); positive = rw (k .1) (w .0); within = rw (k .1) (w .1) }
+
+returns-2 : tie.Need-returns-2
+returns-2 c =
+    let z = c .before .before .before .before .before .before .before .before .before .before in
+    let sheet = z .args .sheet .now in
+    let room = length (z .args .output .now) in
+    let r = c .before .before .before .before .before .before .before .read-problem in
+    let no = refused-size (z .args .size) (sym (c .before .before .before .checked .ensures) ∙ c .before .enum-told .given .1) in
+    refuses (writtenText sheet (z .args .size) room) (unplaced 8) (c .at-line2 .result) (z .args .output .now)
+    (size-refusal sheet (z .args .size) room (problemIn sheet (r .result .problem)) (sheet-accepted sheet (r .result) (r .ensures .0) (c .before .before .before .before .before .if1 .left)) no)
+    (c .at-line2 .ensures)
+
+same-length : tie.Need-same-length
+same-length c = search needs
+
+returns-3 : tie.Need-returns-3
+returns-3 c =
+    let z = c .before .before .before .before .before .before .before .before .before .before .before .before .before .before in
+    let sheet = z .args .sheet .now in
+    let room = length (z .args .output .now) in
+    let r = c .before .before .before .before .before .before .before .before .before .before .before .read-problem in
+    let p = problemIn sheet (r .result .problem) in
+    let s = c .before .before .before .before .before .s .given in
+    let w = c .before .before .write-at in
+    let k = checked-size (z .args .size) (s .0 .0) (sym (c .before .before .before .before .before .before .before .checked .ensures) ∙ s .1) in
+    let t = sized-text sheet (z .args .size) room p (sheet-accepted sheet (r .result) (r .ensures .0) (c .before .before .before .before .before .before .before .before .before .if1 .left)) (k .0) in
+    let u : writtenText sheet (z .args .size) room ≡ textAt p (s .0 .0 .0) room = t ∙ ap (λ (n : ℕ). textAt p n room) (sym (k .1)) in
+    answers-as (writtenText sheet (z .args .size) room) (textAt p (s .0 .0 .0) room) (w .result) (z .args .output .now) _ u (w .ensures)
+
+pub write-clauses-spec : {M : Type 1} → statement M
+write-clauses-spec =
+    tie.close
+    (tie.spec
+    read-problem-requires
+    at-line-requires
+    returns
+    checked-requires
+    enum-told
+    at-line-requires-2
+    enum-known-s
+    write-at-requires
+    returns-2
+    same-length
+    returns-3)

@@ -1,0 +1,72 @@
+// The text of the clauses: measured, and written where it fits.
+use answers::WriteAnswer;
+use answers::needing;
+use encoding::all_clauses;
+use stream::consumer::Mode;
+use stream::consumer::Progress;
+use stream::dimacs::header_length;
+use stream::dimacs::put_header;
+use syntax::limits::Problem;
+use syntax::size::DomainSize;
+use valuations::numbering::Numbering;
+use valuations::numbering::numbering_of;
+ghost use mathlib.Core.Path.{_≡_};
+ghost use Prim.Native.Nat.{_+_, _≤_};
+ghost use lib.ListN.{length};
+ghost use Rattle.theory.specs.Operations.{lengthAnswer, outputAfter};
+ghost use Rattle.answers.specs.Answers.{lengthIn};
+ghost use Rattle.text.specs.Put.{put};
+ghost use Rattle.stream.specs.Consuming.{texts};
+ghost use Rattle.valuations.specs.Numbers.{NumberingOf};
+ghost use Rattle.syntax.specs.Signatures.{signatureIn};
+ghost use Rattle.problem.specs.Problems.{problemIn};
+ghost use Rattle.writing.specs.Texts.{Writable, clausesAt, textWithin};
+
+pub fn write_text(sheet: &[u8], p: Problem, s: DomainSize, output: &mut [u8]) -> WriteAnswer
+    requires { ⌜ Writable (now sheet) p (s .0) ⌝ }
+    ensures answer { λ r. ⌜ lengthIn r ≡ lengthAnswer (textWithin (problemIn (now (sheet .entry)) p) (s .0) (length (now (output .entry)))) ⌝ }
+    ensures left { λ r. ⌜ now (output .exit) ≡ outputAfter (textWithin (problemIn (now (sheet .entry)) p) (s .0) (length (now (output .entry)))) (now (output .entry)) ⌝ }
+{
+    let size = s.0 as u32;
+    let n = numbering_of(p.signature, s.0);
+    let m = measured(sheet, p, n, size);
+    let clauses = m.count as u32;
+    let needed = header_length(n.count, clauses) + m.at;
+    if output.len() < needed {
+        return WriteAnswer::Refused(needing(11, needed));
+    }
+    let at = put_header(output, 0, n.count, clauses);
+    WriteAnswer::Written(put_clauses(sheet, p, n, size, output, at))
+}
+
+// The number of the clauses, and the length of their lines.
+fn measured(sheet: &[u8], p: Problem, n: Numbering, size: u32) -> Progress
+    requires { ⌜ Writable (now sheet) p size × NumberingOf (signatureIn (now sheet) (p .signature)) size n ⌝ }
+    ensures count { λ r. ⌜ r .count ≡ length (clausesAt (problemIn (now (sheet .entry)) p) size) ⌝ }
+    ensures length { λ r. ⌜ r .at ≡ length (texts (clausesAt (problemIn (now (sheet .entry)) p) size)) ⌝ }
+{
+    let mut out = [0u8; 1];
+    let mut work = [0u32; 1];
+    let start = Progress { at: 0, count: 0 };
+    all_clauses(Mode::Measure, sheet, p, n, size, &mut out, &mut work, start)
+}
+
+// The clauses' lines from `at` on, and the place after them.
+fn put_clauses(
+    sheet: &[u8],
+    p: Problem,
+    n: Numbering,
+    size: u32,
+    output: &mut [u8],
+    at: usize,
+) -> usize
+    requires { ⌜ Writable (now sheet) p size × NumberingOf (signatureIn (now sheet) (p .signature)) size n ⌝ }
+    requires { ⌜ at + length (texts (clausesAt (problemIn (now sheet) p) size)) ≤ length (now output) ⌝ }
+    ensures written { λ r. ⌜ now (output .exit) ≡ put (now (output .entry)) at (texts (clausesAt (problemIn (now (sheet .entry)) p) size)) ⌝ }
+    ensures place { λ r. ⌜ r ≡ at + length (texts (clausesAt (problemIn (now (sheet .entry)) p) size)) ⌝ }
+{
+    let mut work = [0u32; 1];
+    let start = Progress { at, count: 0 };
+    let end = all_clauses(Mode::Write, sheet, p, n, size, output, &mut work, start);
+    end.at
+}
