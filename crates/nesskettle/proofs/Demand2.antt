@@ -23,7 +23,8 @@ use Rattle.answers.specs.declared.JudgeAnswer.the-variants as judge
 use Rattle.answers.specs.declared.FindAnswer.{FindAnswer}
 use Rattle.answers.specs.declared.FindAnswer.the-variants.{Found, Nothing, Refused}
 use Rattle.answers.specs.Answers.{refusalIn, judgeIn, findIn}
-use Rattle.nesskettle.specs.Calls.{clausesText, JudgeCall, WriteCall, FindCall, Leaves}
+use Rattle.writing.specs.Texts.{clausesText}
+use Rattle.nesskettle.specs.Calls.{JudgeCall, WriteCall, FindCall, Leaves}
 use Rattle.nesskettle.specs.Models.{IsTrue, Model}
 use Rattle.nesskettle.specs.Demand2.{CaseOf, Judges, Writes, NoModel, LeastModel, Finds, Demand2}
 use Rattle.nesskettle.proofs.Leaving.{left-text}

@@ -13,7 +13,8 @@ use Rattle.theory.specs.Claims.Demand3 as theory
 use Rattle.theory.proofs.Tests.{leb-true, leb-of-≤}
 use Rattle.theory.proofs.Answers.{unbind, bind-step, answer-inj, check-true, check-of-true}
 use Rattle.theory.proofs.Demand3.{demand3}
-use Rattle.nesskettle.specs.Calls.{clausesText, WriteCall, ReadBackCall, Leaves}
+use Rattle.writing.specs.Texts.{clausesText}
+use Rattle.nesskettle.specs.Calls.{WriteCall, ReadBackCall, Leaves}
 use Rattle.nesskettle.specs.Demand3.{Demand3, Demand3Holds}
 use Rattle.nesskettle.proofs.Leaving.{leaves, left-text}
 use Rattle.nesskettle.proofs.Models.{judged-is-model, model-is-judged}

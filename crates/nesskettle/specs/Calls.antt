@@ -3,10 +3,6 @@ use Prim.Native.Nat.{ℕ}
 use mathlib.Core.Path.{_≡_}
 use mathlib.Core.List.{List}
 use lib.ListN.{length, take}
-use Rattle.theory.specs.Propositional.{propCount}
-use Rattle.theory.specs.PropClauses.{propClauses}
-use Rattle.theory.specs.Dimacs.{dimacs}
-use Rattle.theory.specs.Problem.{Problem}
 use Rattle.theory.specs.Operations.{judgeAnswer, lengthAnswer, outputAfter, writtenText, readBackText, findResult, findAnswer, findOutput, findWork}
 use Rattle.answers.specs.declared.JudgeAnswer.{JudgeAnswer}
 use Rattle.answers.specs.declared.WriteAnswer.{WriteAnswer}
@@ -50,7 +46,3 @@ pub record FindCall (sheet : List ℕ) (low high : ℕ) : Type 0 where
 pub record Leaves (result : WriteAnswer) (output text : List ℕ) : Type 0 where
   pub answered : result ≡ Written (length text)
   pub stands : take (length text) output ≡ text
-
--- the clauses of document 01's steps for a problem and a size, as a text
-abbrev pub clausesText : Problem → ℕ → List ℕ
-clausesText p size = dimacs (propCount size (p .symbols)) (propClauses size (p .symbols) (p .clauses))

@@ -13,7 +13,8 @@ use Rattle.theory.specs.Claims.Least.{NotAfter}
 use Rattle.answers.specs.declared.Refusal.{Refusal}
 use Rattle.answers.specs.declared.JudgeAnswer.the-variants.{Yes, No}
 use Rattle.answers.specs.declared.FindAnswer.the-variants.{Found, Nothing, Refused}
-use Rattle.nesskettle.specs.Calls.{clausesText, JudgeCall, WriteCall, FindCall, Leaves}
+use Rattle.writing.specs.Texts.{clausesText}
+use Rattle.nesskettle.specs.Calls.{JudgeCall, WriteCall, FindCall, Leaves}
 use Rattle.nesskettle.specs.Models.{IsTrue, Model}
 
 -- sheet and case are laid out as document 01 says

@@ -9,7 +9,8 @@ use Rattle.theory.specs.Problem.{Problem}
 use Rattle.theory.specs.CaseText.{caseLength}
 use Rattle.theory.specs.Operations.{contentOf}
 use Rattle.theory.specs.Claims.Demand3.{Satisfying}
-use Rattle.nesskettle.specs.Calls.{clausesText, WriteCall, ReadBackCall, Leaves}
+use Rattle.writing.specs.Texts.{clausesText}
+use Rattle.nesskettle.specs.Calls.{WriteCall, ReadBackCall, Leaves}
 use Rattle.nesskettle.specs.Models.{Model}
 
 -- of the text that a call of Write leaves; `Satisfying p size text σ` says that σ is a setting that satisfies every clause of it

@@ -8,6 +8,7 @@ use answers::ReadAnswer;
 use answers::WriteAnswer;
 use judging::verdict::judge_case;
 use reading_back::setting::read_setting_back;
+use writing::write_clauses;
 ghost use mathlib.Core.Path.{_≡_};
 ghost use lib.ListN.{length};
 ghost use Rattle.theory.specs.Operations as theory;
@@ -25,6 +26,14 @@ pub fn judge(sheet: &[u8], case: &[u8]) -> JudgeAnswer
     ensures answer { λ r. ⌜ judgeIn r ≡ theory.judgeAnswer (now (sheet .entry)) (now (case .entry)) ⌝ }
 {
     judge_case(sheet, case)
+}
+
+// Write: the clauses of the sheet at a size, as a text at the front of the output.
+pub fn write(sheet: &[u8], size: u64, output: &mut [u8]) -> WriteAnswer
+    ensures answer { λ r. ⌜ lengthIn r ≡ theory.lengthAnswer (theory.writtenText (now (sheet .entry)) size (length (now (output .entry)))) ⌝ }
+    ensures left { λ r. ⌜ now (output .exit) ≡ theory.outputAfter (theory.writtenText (now (sheet .entry)) size (length (now (output .entry)))) (now (output .entry)) ⌝ }
+{
+    write_clauses(sheet, size, output)
 }
 
 // Read back: the case that the setting says, at the front of the output.
