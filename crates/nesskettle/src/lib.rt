@@ -3,16 +3,18 @@
 // lent as `&` cannot change; what is lent as `&mut` is told to the last byte and number.
 mod reading;
 
+use answers::FindAnswer;
 use answers::JudgeAnswer;
 use answers::ReadAnswer;
 use answers::WriteAnswer;
+use finding::find_model;
 use judging::verdict::judge_case;
 use reading_back::setting::read_setting_back;
 use writing::write_clauses;
 ghost use mathlib.Core.Path.{_≡_};
 ghost use lib.ListN.{length};
 ghost use Rattle.theory.specs.Operations as theory;
-ghost use Rattle.answers.specs.Answers.{judgeIn, lengthIn, readIn};
+ghost use Rattle.answers.specs.Answers.{findIn, judgeIn, lengthIn, readIn};
 
 // Read: the sheet's counts.
 pub fn read(sheet: &[u8]) -> ReadAnswer
@@ -42,4 +44,13 @@ pub fn read_back(sheet: &[u8], size: u64, setting: &[u8], output: &mut [u8]) -> 
     ensures left { λ r. ⌜ now (output .exit) ≡ theory.outputAfter (theory.readBackText (now (sheet .entry)) size (now (setting .entry)) (length (now (output .entry)))) (now (output .entry)) ⌝ }
 {
     read_setting_back(sheet, size, setting, output)
+}
+
+// Find: the least model at the smallest size from low to high that has one, as a case at the front of the output; or none.
+pub fn find(sheet: &[u8], low: u64, high: u64, work: &mut [u32], output: &mut [u8]) -> FindAnswer
+    ensures answer { λ r. ⌜ findIn r ≡ theory.findAnswer (theory.findResult (now (sheet .entry)) low high (length (now (work .entry))) (length (now (output .entry)))) ⌝ }
+    ensures worked { λ r. ⌜ now (work .exit) ≡ theory.findWork (theory.findResult (now (sheet .entry)) low high (length (now (work .entry))) (length (now (output .entry)))) (now (work .entry)) ⌝ }
+    ensures left { λ r. ⌜ now (output .exit) ≡ theory.findOutput (theory.findResult (now (sheet .entry)) low high (length (now (work .entry))) (length (now (output .entry)))) (now (output .entry)) ⌝ }
+{
+    find_model(sheet, low, high, work, output)
 }
