@@ -1,9 +1,10 @@
 -- Going through the clauses of a problem: those before the one reached do not fail.
-use Prim.Native.Nat.{ℕ, suc, _≤_, _<_}
+use Prim.Native.Nat.{ℕ, suc, _+_, _≤_, _<_}
 use mathlib.Core.Path.{_≡_, refl, sym, ap, _∙_}
 use mathlib.Core.Bool.{Bool, true, false, cond}
 use mathlib.Core.Option.{Option, none, some}
 use mathlib.Core.List.{List, [], _∷_}
+use native.Mathlib.Numerals.{add-one}
 use native.Mathlib.Omega.{arith}
 use lib.ListN.{length, getD, take, drop, drop-of-length-le, length-map}
 use lib.Seq.{drop-cons, length-take-le}
@@ -83,10 +84,11 @@ module _ (sheet : List ℕ) (p : Problem) (cells : List ℕ) (s : ℕ) where
             sym chosen ∙ ap (λ (b : Bool). cond b (some (digitsIn (c .values))) none) f in
             sym (u .rest ∙ ap (firstFailure (interpretation s g cells) s k) at ∙ fails-here (interpretation s g cells) s k (getD cs k []) (drop (suc k) cs) (digitsIn (c .values)) o)
 
-        pub passes-at : c .fails ≡ false → Unfailed (suc k)
+        pub passes-at : c .fails ≡ false → Unfailed (k + 1)
         passes-at f =
             let o : failingChoice (interpretation s g cells) s (getD cs k []) ≡ none =
             sym chosen ∙ ap (λ (b : Bool). cond b (some (digitsIn (c .values))) none) f in
+            rw add-one
             record {
               within = l;
               rest = u .rest ∙ ap (firstFailure (interpretation s g cells) s k) at ∙ fails-later (interpretation s g cells) s k (getD cs k []) (drop (suc k) cs) o;

@@ -1,7 +1,6 @@
 -- `first_failure` meets its contract: no clause before clause k fails.
 use borrow.Author.Needs.{needs}
 use Prim.Native.Nat.{_-_}
-use native.Mathlib.Numerals.{add-one}
 use native.Mathlib.Omega.{arith}
 use Rattle.judging.proofs.Unfailed.{Unfailed, none-failed, words-judged, all-passed, fails-at, passes-at}
 use Rattle.judging.proofs.failures.first_failure.Statement.{statement}
@@ -41,9 +40,8 @@ loop-again : tie.Need-loop-again Inv-loop μ-loop
 loop-again c =
     let z = c .before .before .before .before .before .before .before .before in
     let w = c .before .before .clause-words in
-    rw add-one
-    (passes-at _ _ _ _ _ (z .pre) _ (c .before .before .before .before .before .loop .inv) (c .before .before .before .if1 .taken) (w .result) (w .ensures) (c .before .failing-choice .result)
-    (c .before .failing-choice .ensures _ (words-judged _ _ _ _ _ (z .pre) _ _ (w .ensures))) (c .if2 .left))
+    passes-at _ _ _ _ _ (z .pre) _ (c .before .before .before .before .before .loop .inv) (c .before .before .before .if1 .taken) (w .result) (w .ensures) (c .before .failing-choice .result)
+    (c .before .failing-choice .ensures _ (words-judged _ _ _ _ _ (z .pre) _ _ (w .ensures))) (c .if2 .left)
 
 first-requires : tie.Need-first-requires Inv-loop μ-loop
 first-requires c κs = search needs
