@@ -1,0 +1,41 @@
+use mathlib.Core.Path.{refl, sym, ap, _∙_}
+use Rattle.answers.specs.Answers.{readIn, judgeIn, lengthIn, findIn}
+use Rattle.exports.specs.Layouts.{readOut, judgeOut, writeOut, findOut}
+use borrow.Author.Needs.{needs}
+use Rattle.exports.proofs.judge_out.Statement.{statement}
+use Rattle.exports.proofs.judge_out.Tie as tie
+use Rattle.exports.proofs.judge_out.Reads as reads
+use Rattle.exports.proofs.judge_out.Lts as lts
+
+-- src/lib.rt:92:29
+enum-told : tie.Need-enum-told
+enum-told c = search needs
+
+-- src/lib.rt:97:28
+enum-told-2 : tie.Need-enum-told-2
+enum-told-2 c = search needs
+
+-- src/lib.rt:102:30
+enum-known-answer : tie.Need-enum-known-answer
+enum-known-answer c = search needs
+
+-- src/lib.rt:104:21
+cast-t4 : tie.Need-cast-t4
+cast-t4 c = search needs
+
+-- src/lib.rt:88:1
+returns : tie.Need-returns
+returns c = sym (ap (λ a. judgeOut (judgeIn a)) (c .enum-told .given .1))
+
+-- src/lib.rt:88:1
+returns-2 : tie.Need-returns-2
+returns-2 c = sym (ap (λ a. judgeOut (judgeIn a)) (c .enum-told2 .given .1))
+
+-- src/lib.rt:88:1
+returns-3 : tie.Need-returns-3
+returns-3 c = sym (ap (λ a. judgeOut (judgeIn a)) (c .before .before .answer .given .1))
+
+pub judge-out-spec : {M : Type 1} → statement M
+judge-out-spec =
+    tie.close
+    (tie.spec enum-told enum-told-2 enum-known-answer cast-t4 returns returns-2 returns-3)

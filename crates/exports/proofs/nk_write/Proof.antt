@@ -1,0 +1,29 @@
+use mathlib.Core.Path.{refl, sym, ap, _∙_}
+use Rattle.answers.specs.Answers.{readIn, judgeIn, lengthIn, findIn}
+use Rattle.exports.specs.Layouts.{readOut, judgeOut, writeOut, findOut}
+use borrow.Author.Needs.{needs}
+use Rattle.exports.proofs.nk_write.Statement.{statement}
+use Rattle.exports.proofs.nk_write.Tie as tie
+use Rattle.exports.proofs.nk_write.Reads as reads
+use Rattle.exports.proofs.nk_write.Lts as lts
+use Rattle.nesskettle.proofs.write.Reads as write-reads
+use Rattle.exports.proofs.write_out.Reads as write-out-reads
+
+-- src/lib.rt:115:15
+write-requires : tie.Need-write-requires
+write-requires c κs = search needs
+
+-- src/lib.rt:115:5
+write-out-requires : tie.Need-write-out-requires
+write-out-requires c κs = search needs
+
+-- src/lib.rt:110:1
+same-length : tie.Need-same-length
+same-length c = search needs
+
+-- src/lib.rt:110:1
+returns : tie.Need-returns
+returns c = (c .write-out .ensures ∙ ap writeOut (c .before .before .before .write .ensures .0), c .before .before .before .write .ensures .1)
+
+pub nk-write-spec : {M : Type 1} → statement M
+nk-write-spec = tie.close (tie.spec write-requires write-out-requires same-length returns)

@@ -1,0 +1,202 @@
+// The five operations for C: `include/nesskettle.h` has the declarations. Each answer is a struct of numbers; outcome 0 is always "refused", and a
+// field that an outcome does not speak of is 0.
+use answers::FindAnswer;
+use answers::JudgeAnswer;
+use answers::ReadAnswer;
+use answers::WriteAnswer;
+ghost use mathlib.Core.Path.{_≡_};
+ghost use mathlib.Core.Bool.{cond};
+ghost use lib.ListN.{length};
+ghost use Rattle.answers.specs.Answers.{readIn, judgeIn, lengthIn, findIn};
+ghost use Rattle.theory.specs.Operations as theory;
+ghost use Rattle.exports.specs.Layouts.{readOut, judgeOut, writeOut, findOut};
+
+#[repr(C)]
+pub struct ReadOut {
+    pub outcome: u32,
+    pub reason: u32,
+    pub line: u64,
+    pub funs: u64,
+    pub preds: u64,
+    pub clauses: u64,
+}
+
+#[repr(C)]
+pub struct JudgeOut {
+    pub outcome: u32,
+    pub reason: u32,
+    pub line: u64,
+}
+
+#[repr(C)]
+pub struct WriteOut {
+    pub outcome: u32,
+    pub reason: u32,
+    pub line: u64,
+    pub length: u64,
+}
+
+#[repr(C)]
+pub struct FindOut {
+    pub outcome: u32,
+    pub reason: u32,
+    pub line: u64,
+    pub size: u64,
+    pub length: u64,
+    pub settled: u32,
+}
+
+#[no_mangle]
+pub extern "C" fn nk_read(sheet: &[u8]) -> ReadOut
+    ensures { λ r. ⌜ r ≡ readOut (theory.readAnswer (now (sheet .entry))) ⌝ }
+{
+    read_out(nesskettle::read(sheet))
+}
+
+fn read_out(answer: ReadAnswer) -> ReadOut
+    ensures { λ r. ⌜ r ≡ readOut (readIn answer) ⌝ }
+{
+    match answer {
+        ReadAnswer::Counts(functions, predicates, clauses) => ReadOut {
+            outcome: 1,
+            reason: 0,
+            line: 0,
+            funs: functions as u64,
+            preds: predicates as u64,
+            clauses: clauses as u64,
+        },
+        ReadAnswer::Refused(r) => ReadOut {
+            outcome: 0,
+            reason: r.number as u32,
+            line: r.line as u64,
+            funs: 0,
+            preds: 0,
+            clauses: 0,
+        },
+    }
+}
+
+#[no_mangle]
+pub extern "C" fn nk_judge(sheet: &[u8], case: &[u8]) -> JudgeOut
+    ensures { λ r. ⌜ r ≡ judgeOut (theory.judgeAnswer (now (sheet .entry)) (now (case .entry))) ⌝ }
+{
+    judge_out(nesskettle::judge(sheet, case))
+}
+
+fn judge_out(answer: JudgeAnswer) -> JudgeOut
+    ensures { λ r. ⌜ r ≡ judgeOut (judgeIn answer) ⌝ }
+{
+    match answer {
+        JudgeAnswer::Yes => JudgeOut {
+            outcome: 1,
+            reason: 0,
+            line: 0,
+        },
+        JudgeAnswer::No => JudgeOut {
+            outcome: 2,
+            reason: 0,
+            line: 0,
+        },
+        JudgeAnswer::Refused(r) => JudgeOut {
+            outcome: 0,
+            reason: r.number as u32,
+            line: r.line as u64,
+        },
+    }
+}
+
+#[no_mangle]
+pub extern "C" fn nk_write(sheet: &[u8], size: u64, output: &mut [u8]) -> WriteOut
+    ensures answer { λ r. ⌜ r ≡ writeOut (theory.lengthAnswer (theory.writtenText (now (sheet .entry)) size (length (now (output .entry))))) ⌝ }
+    ensures left { λ r. ⌜ now (output .exit) ≡ theory.outputAfter (theory.writtenText (now (sheet .entry)) size (length (now (output .entry)))) (now (output .entry)) ⌝ }
+{
+    write_out(nesskettle::write(sheet, size, output))
+}
+
+fn write_out(answer: WriteAnswer) -> WriteOut
+    ensures { λ r. ⌜ r ≡ writeOut (lengthIn answer) ⌝ }
+{
+    match answer {
+        WriteAnswer::Written(n) => WriteOut {
+            outcome: 1,
+            reason: 0,
+            line: 0,
+            length: n as u64,
+        },
+        WriteAnswer::Refused(r) => WriteOut {
+            outcome: 0,
+            reason: r.number as u32,
+            line: r.line as u64,
+            length: r.needed as u64,
+        },
+    }
+}
+
+#[no_mangle]
+pub extern "C" fn nk_read_back(
+    sheet: &[u8],
+    size: u64,
+    setting: &[u8],
+    output: &mut [u8],
+) -> WriteOut
+    ensures answer { λ r. ⌜ r ≡ writeOut (theory.lengthAnswer (theory.readBackText (now (sheet .entry)) size (now (setting .entry)) (length (now (output .entry))))) ⌝ }
+    ensures left { λ r. ⌜ now (output .exit) ≡ theory.outputAfter (theory.readBackText (now (sheet .entry)) size (now (setting .entry)) (length (now (output .entry)))) (now (output .entry)) ⌝ }
+{
+    write_out(nesskettle::read_back(sheet, size, setting, output))
+}
+
+#[no_mangle]
+pub extern "C" fn nk_find(
+    sheet: &[u8],
+    low: u64,
+    high: u64,
+    work: &mut [u32],
+    output: &mut [u8],
+) -> FindOut
+    ensures answer { λ r. ⌜ r ≡ findOut (theory.findAnswer (theory.findResult (now (sheet .entry)) low high (length (now (work .entry))) (length (now (output .entry))))) ⌝ }
+    ensures worked { λ r. ⌜ now (work .exit) ≡ theory.findWork (theory.findResult (now (sheet .entry)) low high (length (now (work .entry))) (length (now (output .entry)))) (now (work .entry)) ⌝ }
+    ensures left { λ r. ⌜ now (output .exit) ≡ theory.findOutput (theory.findResult (now (sheet .entry)) low high (length (now (work .entry))) (length (now (output .entry)))) (now (output .entry)) ⌝ }
+{
+    find_out(nesskettle::find(sheet, low, high, work, output))
+}
+
+fn find_out(answer: FindAnswer) -> FindOut
+    ensures { λ r. ⌜ r ≡ findOut (findIn answer) ⌝ }
+{
+    match answer {
+        FindAnswer::Found(size, n) => FindOut {
+            outcome: 1,
+            reason: 0,
+            line: 0,
+            size,
+            length: n as u64,
+            settled: 0,
+        },
+        FindAnswer::Nothing(settled) => FindOut {
+            outcome: 2,
+            reason: 0,
+            line: 0,
+            size: 0,
+            length: 0,
+            settled: number_of(settled),
+        },
+        FindAnswer::Refused(r) => FindOut {
+            outcome: 0,
+            reason: r.number as u32,
+            line: r.line as u64,
+            size: 0,
+            length: r.needed as u64,
+            settled: 0,
+        },
+    }
+}
+
+// Yes as 1, no as 0.
+fn number_of(mark: bool) -> u32
+    ensures { λ r. ⌜ r ≡ cond mark 1 0 ⌝ }
+{
+    if mark {
+        return 1;
+    }
+    0
+}

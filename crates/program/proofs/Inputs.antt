@@ -1,0 +1,51 @@
+-- The input line by line: two digit lines, then the sheet.
+use Prim.Native.Nat.{ℕ, _+_, _-_, _≤_, _<_}
+use mathlib.Core.Path.{_≡_, refl, sym, ap, _∙_}
+use mathlib.Core.Option.{Option, none, some}
+use mathlib.Core.List.{List}
+use native.Mathlib.Omega.{arith}
+use lib.ListN.{length, take, drop, length-drop}
+use lib.Seq.{take-all}
+use Rattle.theory.specs.Bytes.{bytes}
+use Rattle.theory.specs.Refusals.{Answer, refused, unplaced}
+use Rattle.theory.specs.Operations.{Search, findResult}
+use Rattle.theory.specs.Program.{_>>?_, digitLine, sized, answered, printed, program}
+use Rattle.program.specs.declared.digits.DigitLine.{DigitLine}
+use Rattle.program.specs.declared.digits.DigitLine.the-variants.{Digit, Fault}
+use Rattle.program.specs.Digits.{digitIn, NextWithin, DigitRead}
+use Rattle.program.specs.Reports.{fromHigh}
+use Rattle.program.proofs.DigitLines.{none-bind, some-bind}
+
+module _ (input : List ℕ) (at : ℕ) (key : List ℕ) (r : DigitLine) (h : DigitRead input at key r) where
+  pub next-within : (d next : ℕ) → r ≡ Digit d next → next ≤ length input
+  next-within d next e = rw e at (h .within)
+
+  no-digit : r ≡ Fault → digitLine key (drop at input) ≡ none
+  no-digit e = sym (h .read) ∙ ap (digitIn input) e
+
+  one-digit : (d next : ℕ) → r ≡ Digit d next → digitLine key (drop at input) ≡ some (d, drop next input)
+  one-digit d next e = sym (h .read) ∙ ap (digitIn input) e
+
+-- the part that is lent from a place to the end
+pub rest : (input : List ℕ) (next : ℕ) → next ≤ length input → take (length input - next) (drop next input) ≡ drop next input
+rest input next h = take-all (length input - next) (drop next input) (omega (arith, length-drop next input))
+
+-- the second line
+module _ (input : List ℕ) (at low : ℕ) (r : DigitLine) (h : DigitRead input at (bytes "high=") r) where
+  pub high-fault : r ≡ Fault → refused (unplaced 8) ≡ fromHigh low (drop at input)
+  high-fault e = sym (ap answered (none-bind (digitLine (bytes "high=") (drop at input)) _ (no-digit input at (bytes "high=") r h e)))
+
+  pub high-digit : (d next : ℕ) → r ≡ Digit d next → findResult (take (length input - next) (drop next input)) low d 16000 24902 ≡ fromHigh low (drop at input)
+  high-digit d next e =
+      ap (λ (sheet : List ℕ). findResult sheet low d 16000 24902) (rest input next (next-within input at (bytes "high=") r h d next e))
+      ∙ sym (ap answered (some-bind (digitLine (bytes "high=") (drop at input)) _ (d, drop next input) (one-digit input at (bytes "high=") r h d next e)))
+
+-- the first line
+module _ (input : List ℕ) (r : DigitLine) (h : DigitRead input 0 (bytes "low=") r) where
+  pub low-fault : r ≡ Fault → printed (refused (unplaced 8)) ≡ program input
+  unfolding program
+  low-fault e = ap printed (sym (ap answered (none-bind (digitLine (bytes "low=") input) _ (no-digit input 0 (bytes "low=") r h e))))
+
+  pub low-digit : (d next : ℕ) → r ≡ Digit d next → printed (fromHigh d (drop next input)) ≡ program input
+  unfolding program
+  low-digit d next e = ap printed (sym (ap answered (some-bind (digitLine (bytes "low=") input) _ (d, drop next input) (one-digit input 0 (bytes "low=") r h d next e))))

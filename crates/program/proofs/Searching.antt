@@ -1,0 +1,42 @@
+-- What a search in the output from place 13 on leaves.
+use Prim.Native.Nat.{ℕ, _+_, _-_, _≤_, _<_}
+use mathlib.Core.Path.{_≡_, refl, sym, ap, _∙_}
+use mathlib.Core.List.{List, [], _++_, append-nil}
+use native.Mathlib.Omega.{arith}
+use lib.ListN.{length, take, drop, length-drop, length-append, drop-of-length-le}
+use lib.Seq.{drop-at, length-take-le}
+use Rattle.theory.specs.Refusals.{Answer}
+use Rattle.theory.specs.Operations.{Search, findResult, findAnswer, findOutput}
+use Rattle.answers.specs.declared.FindAnswer.{FindAnswer}
+use Rattle.answers.specs.Answers.{findIn}
+use Rattle.program.specs.Reports.{Reportable}
+use Rattle.program.proofs.RefusalLines.{refusal-near}
+
+module _ (out : List ℕ) (h : length out ≡ 24915) where
+  -- what is lent to the search
+  abbrev lent : List ℕ
+  lent = take (length out - 13) (drop 13 out)
+
+  pub lent-long : length lent ≡ 24902
+  lent-long = length-take-le (length out - 13) (drop 13 out) (omega (arith, length-drop 13 out)) ∙ omega arith
+
+  unfoldable pub reportable : (sheet : List ℕ) (low high : ℕ) (work : ℕ) → work ≡ 16000 → (a : FindAnswer) (left : List ℕ) → length left ≡ length lent
+      → findIn a ≡ findAnswer (findResult sheet low high work (length lent)) → left ≡ findOutput (findResult sheet low high work (length lent)) lent
+      → Reportable a (take 13 out ++ (left ++ drop (length out - 13) (drop 13 out)))
+  reportable sheet low high work w a left n e l =
+      let output : List ℕ = take 13 out ++ (left ++ drop (length out - 13) (drop 13 out)) in
+      let same : findResult sheet low high work (length lent) ≡ findResult sheet low high 16000 24902 =
+      ap (λ (k : ℕ). findResult sheet low high k (length lent)) w ∙ ap (findResult sheet low high 16000) lent-long in
+      let nothing-left : drop (length out - 13) (drop 13 out) ≡ [] = drop-of-length-le (drop 13 out) {i = length out - 13} (omega (arith, length-drop 13 out)) in
+      let front : length (take 13 out) ≡ 13 = length-take-le 13 out (omega arith) in
+      let behind : drop 13 output ≡ left =
+      ap (λ (t : List ℕ). drop 13 (take 13 out ++ (left ++ t))) nothing-left ∙ ap (λ (t : List ℕ). drop 13 (take 13 out ++ t)) (append-nil left) ∙ drop-at (take 13 out) left 13 front in
+      record {
+        result = findResult sheet low high 16000 24902;
+        answered = e ∙ ap findAnswer same;
+        lent = lent;
+        left = behind ∙ l ∙ ap (λ (r : Answer Search). findOutput r lent) same;
+        long = length-append (take 13 out) (left ++ drop (length out - 13) (drop 13 out)) ∙ omega (arith, front, length-append left (drop (length out - 13) (drop 13 out)), ap length nothing-left, n, lent-long);
+        fits = lent-long;
+        placed = refusal-near sheet low high 16000 24902;
+      }

@@ -1,0 +1,67 @@
+// What the program prints for an answer.
+use answers::FindAnswer;
+use text::writing::put_bytes;
+use text::writing::put_number;
+ghost use mathlib.Core.Path.{_≡_};
+ghost use mathlib.Core.List.{_++_};
+ghost use Prim.Native.Nat.{_+_, _≤_, _<_, _^_};
+ghost use lib.ListN.{length, take, drop};
+ghost use Rattle.theory.specs.Bytes.{decimal};
+ghost use Rattle.theory.specs.Program as theory;
+ghost use Rattle.theory.specs.Refusals as refusals;
+ghost use Rattle.theory.specs.Operations as operations;
+ghost use Rattle.text.specs.Put.{put};
+ghost use Rattle.program.specs.Reports.{Reports, Reportable};
+
+// A found case stands from place 13 on already: the outcome's line is put before it.
+pub fn put_result(out: &mut [u8], answer: FindAnswer) -> usize
+    requires { ⌜ Reportable answer (now out) ⌝ }
+    ensures { λ r. ⌜ ((s : Reportable answer (now (out .entry))) → Reports (theory.printed (s .result)) r (now (out .exit))) ⌝ }
+{
+    match answer {
+        FindAnswer::Found(_, count) => put_found(out, count),
+        FindAnswer::Nothing(settled) => put_none(out, settled),
+        FindAnswer::Refused(r) => put_refusal(out, r.number, r.line),
+    }
+}
+
+// The outcome's line before the case.
+fn put_found(out: &mut [u8], count: usize) -> usize
+    requires { ⌜ 13 + count ≤ length (now out) ⌝ }
+    ensures { λ r. ⌜ Reports (theory.printed (refusals.answer (operations.found 0 (take count (drop 13 (now (out .entry))))))) r (now (out .exit)) ⌝ }
+{
+    put_bytes(out, 0, b"answer=found\n") + count
+}
+
+// None, and the mark settled.
+fn put_none(out: &mut [u8], settled: bool) -> usize
+    requires { ⌜ 24915 ≤ length (now out) ⌝ }
+    ensures { λ r. ⌜ Reports (theory.printed (refusals.answer (operations.nothing settled))) r (now (out .exit)) ⌝ }
+{
+    let at = put_bytes(out, 0, b"answer=none\nsettled=");
+    if settled {
+        return put_bytes(out, at, b"yes\n");
+    }
+    put_bytes(out, at, b"no\n")
+}
+
+// A refusal's number and line.
+pub fn put_refusal(out: &mut [u8], number: u8, line: usize) -> usize
+    requires { ⌜ (24915 ≤ length (now out)) × (line < 2 ^ 32) ⌝ }
+    ensures { λ r. ⌜ Reports (theory.printed (refusals.refused (refusals.atLine number line))) r (now (out .exit)) ⌝ }
+{
+    let a = put_field(out, 0, b"answer=refused\nreason=", number as u32);
+    let b = put_field(out, a, b"\nline=", line as u32);
+    out[b] = 10;
+    b + 1
+}
+
+// A key and a number.
+fn put_field(out: &mut [u8], at: usize, key: &[u8], n: u32) -> usize
+    requires { ⌜ at + length (now key) + 10 ≤ length (now out) ⌝ }
+    ensures written { λ r. ⌜ now (out .exit) ≡ put (now (out .entry)) at (now (key .entry) ++ decimal n) ⌝ }
+    ensures place { λ r. ⌜ r ≡ at + length (now (key .entry) ++ decimal n) ⌝ }
+{
+    let from = put_bytes(out, at, key);
+    put_number(out, from, n)
+}
