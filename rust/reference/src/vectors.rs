@@ -29,7 +29,7 @@ impl Fields {
         text.parse().expect("a number")
     }
 
-    fn has(&self, key: &str) -> bool {
+    pub fn has(&self, key: &str) -> bool {
         self.0.contains_key(key)
     }
 }

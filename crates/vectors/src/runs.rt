@@ -1,0 +1,188 @@
+// Each operation on its stored inputs.
+use crate::inputs::Input;
+use crate::inputs::input_at;
+use crate::lending::pattern_bytes;
+use crate::lending::pattern_numbers;
+use crate::lines::cleared;
+use crate::lines::counts;
+use crate::lines::kept;
+use crate::lines::length;
+use crate::lines::nothing;
+use crate::lines::refusal;
+use crate::lines::rest;
+use crate::lines::say;
+use crate::lines::short;
+use crate::lines::tell;
+use answers::FindAnswer;
+use answers::JudgeAnswer;
+use answers::ReadAnswer;
+use answers::WriteAnswer;
+
+pub enum Operation {
+    Read,
+    Judge,
+    Write,
+    ReadBack,
+    Find,
+}
+
+fn read(sheet: &[u8]) {
+    match nesskettle::read(sheet) {
+        ReadAnswer::Counts(f, p, c) => counts(f, p, c),
+        ReadAnswer::Refused(r) => refusal(r),
+    }
+    say(b"\n");
+}
+
+fn judge(sheet: &[u8], case: &[u8]) {
+    match nesskettle::judge(sheet, case) {
+        JudgeAnswer::Yes => say(b" yes"),
+        JudgeAnswer::No => say(b" no"),
+        JudgeAnswer::Refused(r) => refusal(r),
+    }
+    say(b"\n");
+}
+
+// What Write and Read back answer and leave.
+fn text(answer: WriteAnswer, output: &[u8]) {
+    match answer {
+        WriteAnswer::Written(n) => {
+            length(output, n);
+            say(b"\n");
+            short(output, n);
+        }
+        WriteAnswer::Refused(r) => {
+            refusal(r);
+            rest(output, 0);
+            say(b"\n");
+        }
+    }
+}
+
+fn write(sheet: &[u8], size: u64, output: &mut [u8]) {
+    let answer = nesskettle::write(sheet, size, output);
+    text(answer, output);
+}
+
+fn read_back(sheet: &[u8], size: u64, setting: &[u8], output: &mut [u8]) {
+    let answer = nesskettle::read_back(sheet, size, setting, output);
+    text(answer, output);
+}
+
+// What Find answers and leaves.
+fn search(answer: FindAnswer, work: &[u32], output: &[u8]) {
+    match answer {
+        FindAnswer::Found(size, n) => {
+            say(b" found");
+            tell(size);
+            length(output, n);
+            cleared(work);
+            say(b"\n");
+            short(output, n);
+        }
+        FindAnswer::Nothing(settled) => {
+            nothing(settled);
+            rest(output, 0);
+            cleared(work);
+            say(b"\n");
+        }
+        FindAnswer::Refused(r) => {
+            refusal(r);
+            rest(output, 0);
+            kept(work);
+            say(b"\n");
+        }
+    }
+}
+
+fn find(sheet: &[u8], low: u64, high: u64, work: &mut [u32], output: &mut [u8]) {
+    let answer = nesskettle::find(sheet, low, high, work, output);
+    search(answer, work, output);
+}
+
+fn name(operation: Operation) {
+    match operation {
+        Operation::Read => say(b"read"),
+        Operation::Judge => say(b"judge"),
+        Operation::Write => say(b"write"),
+        Operation::ReadBack => say(b"read_back"),
+        Operation::Find => say(b"find"),
+    }
+}
+
+fn answer(
+    operation: Operation,
+    sheet: &[u8],
+    beside: &[u8],
+    x: Input,
+    work: &mut [u32],
+    output: &mut [u8],
+) {
+    pattern_numbers(work);
+    pattern_bytes(output);
+    match operation {
+        Operation::Read => read(sheet),
+        Operation::Judge => judge(sheet, beside),
+        Operation::Write => write(sheet, x.low, output),
+        Operation::ReadBack => read_back(sheet, x.low, beside, output),
+        Operation::Find => find(sheet, x.low, x.high, work, output),
+    }
+}
+
+// The answer with as much work and output lent as the input says.
+fn lend(
+    operation: Operation,
+    sheet: &[u8],
+    beside: &[u8],
+    x: Input,
+    work: &mut [u32],
+    output: &mut [u8],
+) {
+    let numbers = x.work;
+    let bytes = x.output;
+    if work.len() < numbers {
+        say(b" broken\n");
+        return;
+    }
+    if output.len() < bytes {
+        say(b" broken\n");
+        return;
+    }
+    answer(
+        operation,
+        sheet,
+        beside,
+        x,
+        &mut work[..numbers],
+        &mut output[..bytes],
+    );
+}
+
+// The answers to all inputs of a file, counted from 1.
+pub fn answer_all(operation: Operation, stored: &[u8], work: &mut [u32], output: &mut [u8]) {
+    let mut at: usize = 0;
+    let mut count: u64 = 0;
+    while at < stored.len() {
+        let x = input_at(stored, at);
+        let sheet = x.sheet;
+        let beside = x.beside;
+        let end = x.end;
+        if end <= at {
+            say(b"broken\n");
+            return;
+        }
+        count = std::num::wrapping_add_u64(count, 1);
+        name(operation);
+        tell(count);
+        say(b":");
+        lend(
+            operation,
+            &stored[sheet..beside],
+            &stored[beside..end],
+            x,
+            work,
+            output,
+        );
+        at = end;
+    }
+}

@@ -1,0 +1,93 @@
+//! The inputs of a call, and how they are stored.
+
+use nesskettle_reference::needed;
+
+#[derive(Clone, Default)]
+pub struct Call {
+    pub sheet: Vec<u8>,
+    /// A case or a setting.
+    pub beside: Vec<u8>,
+    /// Low, or the size.
+    pub low: u64,
+    pub high: u64,
+    pub work: u64,
+    pub output: u64,
+}
+
+impl Call {
+    /// Puts the input in its stored form.
+    pub fn put(&self, data: &mut Vec<u8>) {
+        let (sheet, beside) = (self.sheet.len(), self.beside.len());
+        let numbers = format!(
+            "{sheet} {beside} {} {} {} {}\n",
+            self.low, self.high, self.work, self.output
+        );
+        data.extend(numbers.bytes());
+        data.extend(&self.sheet);
+        data.extend(&self.beside);
+    }
+}
+
+pub fn reading(sheet: impl AsRef<[u8]>) -> Call {
+    Call {
+        sheet: sheet.as_ref().to_vec(),
+        ..Call::default()
+    }
+}
+
+pub fn judging(sheet: impl AsRef<[u8]>, case: impl AsRef<[u8]>) -> Call {
+    Call {
+        beside: case.as_ref().to_vec(),
+        ..reading(sheet)
+    }
+}
+
+pub fn writing(sheet: impl AsRef<[u8]>, size: u64, output: u64) -> Call {
+    Call {
+        low: size,
+        output,
+        ..reading(sheet)
+    }
+}
+
+pub fn reading_back(sheet: impl AsRef<[u8]>, size: u64, setting: &[u8], output: u64) -> Call {
+    Call {
+        beside: setting.to_vec(),
+        ..writing(sheet, size, output)
+    }
+}
+
+pub fn finding(sheet: impl AsRef<[u8]>, low: u64, high: u64, work: u64, output: u64) -> Call {
+    Call {
+        low,
+        high,
+        work,
+        output,
+        ..reading(sheet)
+    }
+}
+
+/// A search with just the work and output that it needs.
+pub fn searching(sheet: impl AsRef<[u8]>, low: u64, high: u64) -> Call {
+    let (work, output) = needed(sheet.as_ref(), high).expect("the sheet is taken");
+    finding(sheet, low, high, work, output)
+}
+
+/// A sheet from its declarations and clauses.
+pub fn sheet(functions: &[&str], predicates: &[&str], clauses: &[&str]) -> Vec<u8> {
+    let mut text = format!("sheet=1\nfuns={}\n", functions.len());
+    functions.iter().for_each(|f| text += &format!("fun={f}\n"));
+    text += &format!("preds={}\n", predicates.len());
+    predicates.iter().for_each(|p| text += &format!("pred={p}\n"));
+    text += &format!("clauses={}\n", clauses.len());
+    clauses.iter().for_each(|c| text += &format!("clause={c}\n"));
+    text.into_bytes()
+}
+
+/// One of the sheets of `rust/data/sheets`, or a case there.
+pub fn file(name: &str) -> Vec<u8> {
+    let path = std::path::Path::new(env!("CARGO_MANIFEST_DIR"))
+        .join("../data/sheets")
+        .join(name);
+    std::fs::read(path).expect("the file is there")
+}

@@ -1,0 +1,252 @@
+//! Damaged inputs: each refusal several times, several faults at once, bytes at the edges of what is allowed.
+
+use crate::calls::{file, finding, judging, reading, reading_back, sheet, writing, Call};
+use crate::examples::{full, two_constants};
+
+/// The edges of the bytes that layouts, names and words allow.
+const EDGES: [u8; 29] = [
+    0, 1, 9, 10, 11, 13, 31, 32, 33, 43, 45, 46, 47, 48, 51, 52, 57, 58, 61, 64, 65, 72, 73, 95, 96, 97, 122, 128, 255,
+];
+
+pub fn of(operation: &str) -> Vec<Call> {
+    let good = b"case=1\nsize=2\na=1\nb=2\n";
+    match operation {
+        "read" => sheets().iter().chain(&longer()).map(reading).collect(),
+        "judge" => {
+            let refused = one_of_each().into_iter().map(|s| judging(s, "case=2\n"));
+            refused.chain(cases()).collect()
+        }
+        "write" => one_of_each().into_iter().map(|s| writing(s, 0, 10)).collect(),
+        "read_back" => one_of_each()
+            .into_iter()
+            .map(|s| reading_back(s, 9, good, 10))
+            .collect(),
+        "find" => one_of_each().into_iter().map(|s| finding(s, 0, 9, 3, 10)).collect(),
+        other => panic!("no operation {other}"),
+    }
+}
+
+/// The good sheet that is damaged: each line has a use.
+fn whole() -> String {
+    let text = sheet(&["a/0", "f/1"], &["p/1", "q/2"], &["+ p f a - q A B", "+ = f A a"]);
+    String::from_utf8(text).expect("a sheet is text")
+}
+
+fn damage(old: &str, new: &str) -> Vec<u8> {
+    assert_eq!(whole().matches(old).count(), 1, "{old}");
+    whole().replace(old, new).into_bytes()
+}
+
+/// Refusals 1 to 7.
+fn one_of_each() -> Vec<Vec<u8>> {
+    vec![
+        full(16_385),
+        damage("preds=2", "preds=02"),
+        damage("fun=f/1", "fun=f/4"),
+        damage("fun=f/1", "fun=a/1"),
+        damage("= f A a", "= f A b"),
+        damage("= f A a", "= f A"),
+        damage("+ = f A a", &["+ p A"; 17].join(" ")),
+    ]
+}
+
+/// Sheets that are short.
+fn sheets() -> Vec<Vec<u8>> {
+    let changes = [
+        // 2: keys, counts, line ends
+        ("sheet=1", "sheet=2"),
+        ("sheet=1", "sheet=1 "),
+        ("sheet=1", "Sheet=1"),
+        ("sheet=1\n", ""),
+        ("funs=2", "funs=00"),
+        ("funs=2", "funs=02"),
+        ("funs=2", "funs=+2"),
+        ("funs=2", "funs=100"),
+        ("funs=2", "funs="),
+        ("funs=2", "funs=2\r"),
+        ("funs=2", "funs=1"),
+        ("funs=2", "funs=3"),
+        ("funs=2", "funs=12"),
+        ("fun=a/0\n", "fun=a/0"),
+        ("fun=a/0", "fun=a"),
+        ("fun=a/0", "fun=a/"),
+        ("fun=a/0", "fun=a/12"),
+        ("fun=a/0", "fun=a/0 "),
+        ("fun=a/0", "fun="),
+        ("fun=a/0", "fun=0"),
+        ("fun=a/0", "fun =a/0"),
+        ("preds=2\n", "preds=2\n\n"),
+        ("preds=2", "preds=1"),
+        ("clauses=2", "clauses=1"),
+        ("clauses=2", "clauses=3"),
+        ("clauses=2", "clauses=64"),
+        ("clause=+ =", "clause =+ ="),
+        // 3
+        ("funs=2", "funs=13"),
+        ("funs=2", "funs=99"),
+        ("preds=2", "preds=13"),
+        ("clauses=2", "clauses=65"),
+        ("pred=q/2", "pred=q/4"),
+        ("fun=a/0", "fun=a/9"),
+        // 4
+        ("fun=a/0", "fun=/0"),
+        ("fun=a/0", "fun=abcdefghijklm/0"),
+        ("fun=a/0", "fun=A/0"),
+        ("fun=a/0", "fun=_a/0"),
+        ("fun=a/0", "fun=1a/0"),
+        ("fun=a/0", "fun=a b/0"),
+        ("fun=a/0", "fun=a/1/2"),
+        ("fun=f/1", "fun=a/0"),
+        ("pred=p/1", "pred=a/1"),
+        ("pred=q/2", "pred=p/2"),
+        ("fun=a/0\nfun=f/1", "fun=a/0fun=f/1\nfun=f/1"),
+        // 5
+        ("+ = f A a", " "),
+        ("+ = f A a", " + = f A a"),
+        ("+ = f A a", "+ = f A a "),
+        ("+ = f A a", "+  = f A a"),
+        ("+ = f A a", "+ = f I a"),
+        ("+ = f A a", "+ = f AB a"),
+        ("+ = f A a", "+ = f\tA a"),
+        ("+ = f A a", "+ = f A a\r"),
+        ("+ = f A a", "+ = f A aa"),
+        ("+ p f a - q A B\n", "+ p f a - q A B"),
+        // 6
+        ("+ = f A a", "= f A a"),
+        ("+ = f A a", "+"),
+        ("+ = f A a", "+ ="),
+        ("+ = f A a", "+ = f A a a"),
+        ("+ = f A a", "+ = p A a"),
+        ("+ = f A a", "+ f A"),
+        ("+ = f A a", "+ A"),
+        ("+ = f A a", "+ + = f A a"),
+        ("+ = f A a", "+ = f A a -"),
+        ("+ = f A a", "A"),
+        // several faults on one line: the lowest number
+        ("fun=a/0", "fun=A/4"),
+        ("fun=a/0", "fun=ABCDEFGHIJKLM/x"),
+        ("fun=f/1", "fun=a/4"),
+        ("+ = f A a", "+ + x"),
+        ("+ = f A a", "+  + ="),
+        // and on several lines: the first line
+        ("fun=f/1\npreds=2", "fun=F/1\npreds=x"),
+        ("- q A B\nclause=+ = f A a\n", "- q A x\nclause=+ = f A a"),
+        ("- q A B\nclause=+ = f A a\n", "- q A\nclause=+ = f A x\n"),
+        ("clauses=2\nclause=+ p f a", "clauses=70\nclause=x"),
+    ];
+    let mut sheets: Vec<Vec<u8>> = changes.iter().map(|(old, new)| damage(old, new)).collect();
+    let text = whole();
+    // the sheet's beginnings up to each line's end, with and without it
+    let ends = text.match_indices('\n').map(|(i, _)| i);
+    sheets.extend(ends.flat_map(|i| [text[..i].into(), text[..i + 1].into()]));
+    sheets.push(Vec::new());
+    sheets.push(b"\n".to_vec());
+    sheets.push((text.clone() + "\n").into_bytes());
+    sheets.push((text.clone() + "clause=\n").into_bytes());
+    for byte in EDGES {
+        for (old, before) in [("fun=f/1", "fun=f"), ("fun=a/0", "fun=a/"), ("+ = f A a", "+ = f A ")] {
+            let at = text.find(old).expect("it is there");
+            let after = if old == "fun=f/1" { &b"/1"[..] } else { &b""[..] };
+            let parts = [
+                text[..at].as_bytes(),
+                before.as_bytes(),
+                &[byte],
+                after,
+                text[at + old.len()..].as_bytes(),
+            ];
+            sheets.push(parts.concat());
+        }
+    }
+    sheets
+}
+
+/// Sheets that are long, or hold every byte.
+fn longer() -> Vec<Vec<u8>> {
+    let every: Vec<u8> = (0..=255).collect();
+    let words = |word: &str, count: usize| damage("+ = f A a", &vec![word; count].join(" "));
+    let with_every = |before: &str| {
+        let at = whole().find(before).expect("it is there") + before.len();
+        [whole()[..at].as_bytes(), &every, whole()[at..].as_bytes()].concat()
+    };
+    vec![
+        full(16_383),
+        full(16_385),
+        vec![b'a'; 16_384],
+        vec![b'a'; 16_385],
+        words("+ p A", 21),
+        words("+ p A", 22),
+        words("+ p", 2_500),
+        words("+ p A", 2_500),
+        words("+ p I", 2_500),
+        words("x", 5_000),
+        damage("fun=f/1", &format!("fun={}/1", "f".repeat(9_000))),
+        damage("fun=f/1", &format!("fun={}", "f".repeat(9_000))),
+        damage("+ = f A a", &format!("+ = f A {}", "a".repeat(9_000))),
+        damage("clauses=2", &format!("clauses={}", "2".repeat(9_000))),
+        every.clone(),
+        with_every("fun=f"),
+        with_every("clause=+ = f A "),
+        with_every("preds="),
+    ]
+}
+
+/// Damaged cases of a good sheet.
+fn cases() -> Vec<Call> {
+    let problem = sheet(&["a/0", "f/1"], &["p/0", "q/2"], &["+ p", "+ q f a A"]);
+    let whole = "case=1\nsize=2\na=1\nf=2 1\np=1\nq=0 1 1 0\n";
+    let changes = [
+        ("case=1", "case=1"),
+        ("case=1", "case=2"),
+        ("case=1\n", "case=1"),
+        ("case=1\n", ""),
+        ("case=1\n", "case=1\n\n"),
+        ("size=2", "size=0"),
+        ("size=2", "size=9"),
+        ("size=2", "size=02"),
+        ("size=2", "size="),
+        ("size=2", "size=1"),
+        ("size=2", "size=3"),
+        ("size=2", "size=2\r"),
+        ("a=1", "a=0"),
+        ("a=1", "a=2"),
+        ("a=1", "a=3"),
+        ("a=1", "a=1 1"),
+        ("a=1", "b=1"),
+        ("a=1", "a="),
+        ("a=1\n", ""),
+        ("f=2 1", "f=2 1 "),
+        ("f=2 1", "f=2  1"),
+        ("f=2 1", "f= 2 1"),
+        ("f=2 1", "f=21"),
+        ("f=2 1", "f=2\t1"),
+        ("f=2 1", "f=2"),
+        ("f=2 1", "f=2 1 1"),
+        ("f=2 1", "f=2 x"),
+        ("p=1", "p=2"),
+        ("p=1", "p=0"),
+        ("p=1\n", "p=1\nq=1\n"),
+        ("q=0 1 1 0", "q=0 1 1"),
+        ("q=0 1 1 0", "q=0 1 1 2"),
+        ("q=0 1 1 0", "q=0 1 1 0\n"),
+        ("q=0 1 1 0", "q=0 1 1 0\nx"),
+        ("q=0 1 1 0\n", "q=0 1 1 0"),
+        ("q=0 1 1 0\n", ""),
+        ("q=0 1 1 0", "q=1 1 1 1"),
+        ("a=1\nf=2 1", "a=x\nf=x"),
+    ];
+    let damaged = changes
+        .iter()
+        .map(|(old, new)| whole.replacen(old, new, 1).into_bytes());
+    let edges = EDGES
+        .iter()
+        .map(|byte| [b"case=1\nsize=2\na=1\nf=2 ", &[*byte][..], b"\np=1\nq=0 1 1 0\n"].concat());
+    let mut calls: Vec<Call> = damaged.chain(edges).map(|case| judging(&problem, case)).collect();
+    calls.push(judging(two_constants(), (0..=255).collect::<Vec<u8>>()));
+    calls.push(judging(two_constants(), ""));
+    calls.push(judging(two_constants(), vec![b'c'; 20_000]));
+    calls.push(judging(
+        file("group.sheet"),
+        [file("group-6.case"), b"m=1\n".to_vec()].concat(),
+    ));
+    calls
+}

@@ -1,0 +1,417 @@
+//! Good inputs: the specification's examples, the limits from both sides, and sheets whose answer a usual mistake changes.
+
+use crate::calls::{file, finding, judging, reading, reading_back, searching, sheet, writing, Call};
+use nesskettle_reference::{instances_and_variables, needed, write};
+
+pub fn of(operation: &str) -> Vec<Call> {
+    match operation {
+        "read" => reads(),
+        "judge" => judges(),
+        "write" => writes(),
+        "read_back" => read_backs(),
+        "find" => finds(),
+        other => panic!("no operation {other}"),
+    }
+}
+
+pub fn two_constants() -> Vec<u8> {
+    sheet(&["a/0", "b/0"], &[], &["- = a b"])
+}
+
+/// Pairs of free triples: 8^6 instances each at size 8.
+fn triples(count: usize) -> Vec<u8> {
+    sheet(&[], &["q/3"], &vec!["+ q A B C + q D E F"; count])
+}
+
+fn repeated(literal: &str, count: usize) -> Vec<u8> {
+    sheet(&["a/0"], &["p/0", "q/3"], &[&vec![literal; count].join(" ")])
+}
+
+/// A clause of eight letters and more over three constants.
+fn lettered(more: &str) -> Vec<u8> {
+    sheet(
+        &["a/0", "b/0", "c/0"],
+        &["q/3"],
+        &[&format!("+ q A B C + q D E F + q G H H{more}")],
+    )
+}
+
+/// An accepted sheet of so many bytes.
+pub fn full(length: usize) -> Vec<u8> {
+    let mut clauses = vec![String::new(); 64];
+    let made = |name: usize, clauses: &[String]| {
+        let clauses: Vec<&str> = clauses.iter().map(String::as_str).collect();
+        let name = format!("{}/0", "z".repeat(name));
+        sheet(&["mnopqrstuvwx/0", &name], &["abcdefghijkl/3", "q/0"], &clauses)
+    };
+    for clause in 0..63 {
+        while clauses[clause].len() < 600 && made(1, &clauses).len() + 54 <= length {
+            let space = if clauses[clause].is_empty() { "" } else { " " };
+            clauses[clause] += &format!("{space}+ abcdefghijkl mnopqrstuvwx mnopqrstuvwx mnopqrstuvwx");
+        }
+    }
+    let left = length - made(1, &clauses).len();
+    clauses[63] = vec!["+ q"; (left + 1) / 4].join(" ");
+    let name = 1 + left - clauses[63].len();
+    made(name, &clauses)
+}
+
+fn reads() -> Vec<Call> {
+    let named = |letter: char| (0..12).map(|i| format!("{letter}{i}/{}", i % 4)).collect::<Vec<_>>();
+    let (functions, predicates) = (named('f'), named('p'));
+    let functions: Vec<&str> = functions.iter().map(String::as_str).collect();
+    let predicates: Vec<&str> = predicates.iter().map(String::as_str).collect();
+    let sheets = [
+        two_constants(),
+        sheet(&[], &[], &[]),
+        sheet(&[], &[], &[""]),
+        // literals, words and variables at their limits and over them
+        repeated("+ p", 16),
+        repeated("+ p", 17),
+        repeated("- = A B", 16),
+        repeated("- = A B", 17),
+        repeated("+ q A B C", 12),
+        repeated("+ q A B C", 13),
+        lettered(""),
+        lettered(" + q a b a"),
+        lettered(" + q a b c"),
+        lettered(" + q a b c - = A B"),
+        lettered(" + = a b + = c a"),
+        // counts at their limits
+        sheet(&functions, &predicates, &["+ p0"; 64]),
+        sheet(&functions, &[], &[]),
+        sheet(&[], &predicates, &[""; 64]),
+        sheet(
+            &["abcdefghijkl/3", "sheet/0", "a_1/1"],
+            &["funs/2", "b__9/0"],
+            &["+ funs sheet a_1 sheet"],
+        ),
+        sheet(&["a/0", "b/0", "f/2"], &["p/2"], &["+ p f a b f b a"]),
+        full(16_384),
+        file("group.sheet"),
+        file("million.sheet"),
+    ];
+    sheets.iter().map(reading).collect()
+}
+
+fn judges() -> Vec<Call> {
+    let (group, tables) = (file("group.sheet"), file("group-6.case"));
+    let changed = |old: &str, new: &str| String::from_utf8_lossy(&tables).replace(old, new);
+    let single = sheet(&["a/0"], &["p/1"], &["+ p a", "- p A + = A a"]);
+    let eight = sheet(
+        &["f/3"],
+        &["r/3"],
+        &["+ r A A A", "- r A B C + = f A B C A", "+ = f A f B C D A f A B C"],
+    );
+    let values = |value: &str| vec![value; 512].join(" ");
+    vec![
+        // the lecture's group, and the same with b = a, with another product, with another inverse
+        judging(&group, &tables),
+        judging(&group, changed("b=3", "b=2")),
+        judging(&group, changed("2 1 4 3 6 5", "2 1 4 3 5 6")),
+        judging(&group, changed("inv=1 2 3 5 4 6", "inv=1 2 3 4 5 6")),
+        judging(two_constants(), "case=1\nsize=2\na=1\nb=2\n"),
+        judging(two_constants(), "case=1\nsize=2\na=2\nb=2\n"),
+        judging(sheet(&[], &[], &[]), "case=1\nsize=8\n"),
+        judging(sheet(&[], &[], &[""]), "case=1\nsize=1\n"),
+        judging(sheet(&[], &[], &["+ = A B"]), "case=1\nsize=1\n"),
+        judging(sheet(&[], &[], &["+ = A B"]), "case=1\nsize=2\n"),
+        judging(sheet(&[], &[], &["- = A B"]), "case=1\nsize=1\n"),
+        judging(sheet(&["f/1"], &[], &["- = f A A"]), "case=1\nsize=3\nf=2 1 1\n"),
+        judging(sheet(&["f/1"], &[], &["- = f A A"]), "case=1\nsize=3\nf=2 1 3\n"),
+        judging(&single, "case=1\nsize=2\na=1\np=1 0\n"),
+        judging(&single, "case=1\nsize=2\na=2\np=1 0\n"),
+        judging(&single, "case=1\nsize=2\na=2\np=1 1\n"),
+        // the last argument runs fastest
+        judging(sheet(&[], &["q/2"], &["+ q A A"]), "case=1\nsize=2\nq=1 0 0 1\n"),
+        judging(
+            sheet(&["a/0", "b/0"], &["q/2"], &["+ q a b"]),
+            "case=1\nsize=2\na=1\nb=2\nq=0 1 0 0\n",
+        ),
+        judging(
+            sheet(&["a/0", "b/0"], &["q/2"], &["+ q a b"]),
+            "case=1\nsize=2\na=1\nb=2\nq=0 0 1 0\n",
+        ),
+        judging(
+            &eight,
+            format!("case=1\nsize=8\nf={}\nr={}\n", values("1"), values("0")),
+        ),
+        judging(
+            &eight,
+            format!("case=1\nsize=8\nf={}\nr={}\n", values("8"), values("1")),
+        ),
+    ]
+}
+
+/// Sheets and sizes with texts that show steps 1 to 4.
+fn written() -> Vec<(Vec<u8>, u64)> {
+    let one = |clause: &str| sheet(&["a/0", "b/0", "f/1", "g/2"], &["p/1", "r/2"], &[clause]);
+    let bare = |clause: &str| sheet(&[], &["p/1", "r/2"], &[clause]);
+    vec![
+        (two_constants(), 2),
+        (two_constants(), 1),
+        (sheet(&["a/0", "b/0", "f/2"], &["p/2"], &["+ p f a b f b a"]), 1),
+        (sheet(&["a/0", "b/0", "f/2"], &["p/2"], &["+ p f a b f b a"]), 2),
+        (sheet(&[], &[], &["+ = A B"]), 1),
+        (sheet(&[], &[], &["+ = A B"]), 2),
+        (sheet(&[], &[], &["- = A B"]), 3),
+        (sheet(&[], &[], &["- = A A"]), 8),
+        (sheet(&[], &[], &[]), 8),
+        (sheet(&[], &[], &["", ""]), 4),
+        (sheet(&["f/1"], &[], &["- = f A A"]), 3),
+        // repeated literals, both signs of one atom, repeated clauses
+        (bare("+ p A + p A"), 2),
+        (bare("+ p A - p A"), 2),
+        (sheet(&[], &["p/0"], &["+ p", "+ p", "- p", ""]), 2),
+        // merged to the left of the deleted inequality too, chains, the leftmost first
+        (bare("+ r A B - = A B + p B"), 2),
+        (bare("+ p C - = A B - = B C + p A"), 2),
+        (bare("+ p D - = A B + = A B - = C D + r C A"), 2),
+        // turned, lifted on both sides, shared, the left side's own outer term kept
+        (one("+ = A f B"), 2),
+        (one("- = A f A"), 2),
+        (one("+ = f A f B"), 2),
+        (one("+ = a a"), 2),
+        (one("+ = g a f a f a"), 2),
+        (one("+ = f f A f f B"), 2),
+        (one("+ p f f a - p f a + = f a b"), 2),
+        (one("+ = g A B g B A"), 2),
+        (one("- = A a + = B a + r A B"), 2),
+        (one("+ r A B + r B A + = A B"), 3),
+        (one("+ = A B + = a A - = B f A"), 3),
+        // no variable, and ten
+        (sheet(&["a/0"], &["p/1", "o/0"], &["+ o", "- o + p a"]), 3),
+        (lettered(" + q a b a"), 1),
+        (lettered(" + q a b a"), 2),
+        (lettered(" + q a b a"), 3),
+        (lettered(" + q a b a"), 4),
+        (triples(3), 8),
+        (triples(4), 8),
+        (file("million.sheet"), 8),
+        (sheet(&["h/3"], &[], &[]), 8),
+        (file("group.sheet"), 3),
+        (file("tournament.sheet"), 2),
+    ]
+}
+
+fn writes() -> Vec<Call> {
+    let mut calls = Vec::new();
+    for (sheet, size) in written() {
+        // a refusal 11 also tells the length, so that no text has to be written to see that it is taken
+        let length = match write(&sheet, size, &mut []) {
+            Err(refusal) => refusal.needed,
+            Ok(length) => length as u64,
+        };
+        if length == 0 || length > crate::MOST_OUTPUT {
+            calls.push(writing(&sheet, size, 1_000));
+            continue;
+        }
+        calls.push(writing(&sheet, size, length));
+        if length < 100 {
+            calls.push(writing(&sheet, size, length - 1));
+            calls.push(writing(&sheet, size, length + 10));
+        }
+    }
+    for size in [0, 9, 10, 256, u64::MAX] {
+        calls.push(writing(two_constants(), size, 1_000));
+    }
+    for size in [3, 7, 8] {
+        calls.push(writing(two_constants(), size, 10_000));
+    }
+    calls
+}
+
+fn read_backs() -> Vec<Call> {
+    let two = two_constants();
+    let back = |setting: &[u8], output: u64| reading_back(&two, 2, setting, output);
+    let mixed = sheet(&["a/0", "f/1"], &["p/0", "r/2"], &["+ p"]);
+    let variables = instances_and_variables(&mixed, 3).expect("the sheet is taken").1 as usize;
+    let third = |cells: [usize; 4], tail: u8| {
+        let mut setting = vec![0; variables];
+        cells
+            .iter()
+            .enumerate()
+            .for_each(|(cell, value)| setting[3 * cell + value] = 1);
+        setting[12..]
+            .iter_mut()
+            .enumerate()
+            .for_each(|(i, b)| *b = (tail >> (i % 8)) & 1);
+        setting
+    };
+    let length = needed(&mixed, 3).expect("the sheet is taken").1;
+    let mut calls = vec![
+        back(&[0, 1, 1, 0], 22),
+        back(&[0, 1, 1, 0], 23),
+        back(&[0, 1, 1, 0], 21),
+        back(&[1, 0, 1, 0], 100),
+        back(&[1, 1, 0, 0], 22),
+        back(&[1, 0, 1, 1], 22),
+        back(&[0, 0, 1, 0], 22),
+        back(&[0, 1, 0, 0], 0),
+        back(&[0, 1, 1], 22),
+        back(&[0, 1, 1, 0, 0], 22),
+        back(&[], 22),
+        back(&[0, 1, 2, 0], 22),
+        back(&[0, 1, 255, 0], 22),
+        back(b"0110", 22),
+        back(&[2, 2, 2, 2], 0),
+        reading_back(&mixed, 3, &third([0, 2, 1, 2], 0b1011_0101), length),
+        reading_back(&mixed, 3, &third([2, 2, 2, 2], 0b0100_1110), length + 5),
+        reading_back(&mixed, 3, &third([1, 0, 0, 0], 0), length - 1),
+        reading_back(sheet(&[], &[], &[]), 8, &[], 14),
+        reading_back(sheet(&[], &[], &[""]), 1, &[], 14),
+        reading_back(sheet(&[], &[], &[""]), 1, &[], 13),
+        reading_back(sheet(&[], &["p/1"], &[]), 8, &[0, 1, 0, 1, 1, 1, 0, 0], 40),
+        reading_back(sheet(&[], &["p/1"], &[]), 8, &[0, 1, 0, 1, 1, 1, 0], 40),
+        // Read back takes a sheet that Write refuses by 9
+        reading_back(triples(4), 8, &[1; 512], 2_000),
+    ];
+    for size in [0, 9, u64::MAX] {
+        calls.push(reading_back(&two, size, &[0, 1, 1, 0], 22));
+    }
+    calls
+}
+
+fn finds() -> Vec<Call> {
+    let two = two_constants();
+    let moved = sheet(&["f/1"], &[], &["- = f A A"]);
+    let single = sheet(&["a/0"], &["p/1"], &["+ p a", "- p A + = A a"]);
+    let three = sheet(&["a/0", "b/0", "c/0"], &[], &["- = a b", "- = a c", "- = b c"]);
+    let nothing = sheet(&[], &[], &[]);
+    let mut calls = vec![
+        searching(&two, 1, 1),
+        searching(&two, 1, 2),
+        searching(&two, 1, 3),
+        searching(&two, 3, 3),
+        searching(sheet(&[], &[], &["+ = A B"]), 1, 1),
+        searching(sheet(&[], &[], &["+ = A B"]), 2, 8),
+        searching(sheet(&[], &[], &["- = A B"]), 1, 8),
+        searching(sheet(&[], &[], &[""]), 1, 8),
+        searching(&nothing, 1, 1),
+        searching(&nothing, 3, 8),
+        searching(&moved, 1, 1),
+        searching(&moved, 1, 2),
+        searching(&moved, 1, 3),
+        searching(&moved, 2, 2),
+        searching(&moved, 3, 3),
+        searching(&moved, 8, 8),
+        searching(&single, 2, 2),
+        searching(&single, 1, 4),
+        // the first model in the middle of the sizes
+        searching(&three, 1, 5),
+        searching(&three, 1, 2),
+        searching(&three, 4, 8),
+        searching(
+            sheet(
+                &["s/1"],
+                &["less/2"],
+                &["- less A A", "- less A B - less B A", "+ less A s A"],
+            ),
+            1,
+            5,
+        ),
+    ];
+    calls.extend(least_models());
+    calls.extend(settled_marks());
+    calls.extend(limits_of_find());
+    calls.extend(harder_problems());
+    calls
+}
+
+/// The least model is not the one that values for literals of one sign only would give.
+fn least_models() -> Vec<Call> {
+    let sheets = [
+        (sheet(&[], &["p/1", "q/1"], &["+ p A + q A"]), 2),
+        (sheet(&[], &["p/1", "q/1"], &["- p A - q A"]), 2),
+        (sheet(&[], &["p/0", "q/0", "r/0"], &["+ p + q", "+ p + r"]), 1),
+        (sheet(&[], &["p/0", "q/0", "r/0"], &["+ q + r", "- q + p"]), 1),
+        (sheet(&["a/0", "b/0"], &["p/1"], &["+ p a", "+ p b", "- p a - p b"]), 3),
+        (sheet(&["a/0", "b/0"], &["p/1"], &["+ p a", "- p b"]), 2),
+        (sheet(&["a/0", "b/0", "c/0"], &[], &["- = a c + = b c", "- = a b"]), 3),
+        (sheet(&["f/1"], &[], &["+ = f f A A", "- = f A A"]), 4),
+        (sheet(&["f/1", "c/0"], &[], &["- = f A f B + = A B", "- = f c c"]), 3),
+        (sheet(&["m/2"], &[], &["+ = m A A A", "- = m A B m B A + = A B"]), 3),
+        (sheet(&["m/2"], &[], &["+ = m A m B A B"]), 3),
+        (
+            sheet(
+                &[],
+                &["r/2"],
+                &["- r A A", "+ r A B + r B A + = A B", "- r A B - r B A"],
+            ),
+            3,
+        ),
+    ];
+    sheets.iter().map(|(sheet, size)| searching(sheet, 1, *size)).collect()
+}
+
+/// Settled: no function has arguments, and high is at least the number of constants.
+fn settled_marks() -> Vec<Call> {
+    let constants = |count: usize, more: &[&str]| {
+        let mut names = vec!["a/0", "b/0", "c/0"];
+        names.truncate(count);
+        sheet(&[&names, more].concat(), &["p/0"], &["+ p", "- p"])
+    };
+    let sheets = [
+        (constants(0, &[]), 1, 1),
+        (constants(2, &[]), 1, 1),
+        (constants(2, &[]), 1, 2),
+        (constants(2, &[]), 2, 3),
+        (constants(3, &[]), 3, 3),
+        (constants(3, &[]), 1, 2),
+        (constants(1, &["f/1"]), 1, 3),
+        (constants(0, &["f/2"]), 1, 2),
+    ];
+    sheets
+        .iter()
+        .map(|(sheet, low, high)| searching(sheet, *low, *high))
+        .collect()
+}
+
+/// Low and high, and what is lent one short, exact and more than needed.
+fn limits_of_find() -> Vec<Call> {
+    let two = two_constants();
+    let (work, output) = needed(&two, 3).expect("the sheet is taken");
+    vec![
+        finding(&two, 1, 3, work - 1, output),
+        finding(&two, 1, 3, work, output),
+        finding(&two, 1, 3, work + 3, output + 3),
+        finding(&two, 1, 3, work, output - 1),
+        finding(&two, 1, 3, work - 1, output - 1),
+        finding(&two, 1, 3, 0, 0),
+        finding(&two, 1, 1, work, output),
+        finding(&two, 0, 3, work, output),
+        finding(&two, 1, 9, work, output),
+        finding(&two, 3, 2, work, output),
+        finding(&two, 0, 0, work, output),
+        finding(&two, 9, 9, work, output),
+        finding(&two, u64::MAX, u64::MAX, work, output),
+        finding(&two, 1, u64::MAX, work, output),
+        finding(&two, 0, 9, 0, 0),
+        // 9 and 10 look at high, also where a smaller size has a model
+        finding(triples(4), 1, 8, 1_000, 2_000),
+        finding(triples(3), 1, 8, 1_000, 2_000),
+        finding(triples(4), 1, 7, 1_000, 2_000),
+        finding(lettered(" + q a b a"), 1, 4, 1_000, 2_000),
+        finding(lettered(" + q a b a"), 1, 3, 1_000, 2_000),
+        searching(lettered(" + q a b a"), 1, 1),
+    ]
+}
+
+/// The named problems at sizes that they need little work for.
+fn harder_problems() -> Vec<Call> {
+    let named = [
+        ("group", 1, 2),
+        ("exponent-2", 1, 3),
+        ("quasigroup-3", 1, 4),
+        ("quasigroup-5", 2, 5),
+        ("pigeonhole", 1, 6),
+        ("serial-order", 1, 4),
+        ("tournament", 1, 4),
+        ("steiner", 1, 3),
+        ("lattice", 1, 3),
+    ];
+    let calls = named
+        .iter()
+        .map(|(name, low, high)| searching(file(&format!("{name}.sheet")), *low, *high));
+    calls.collect()
+}

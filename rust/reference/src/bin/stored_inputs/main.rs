@@ -1,0 +1,157 @@
+//! Writes the stored inputs of the program `vectors` (`crates/vectors/data`) and what it must print for them
+//! (`crates/vectors/stdout`). The answers are the reference's; those to stored vectors are first held against the
+//! vectors' own.
+//!
+//! An input is a line of six numbers, then the bytes of a sheet and those of a case or a setting. The numbers are the
+//! lengths of the two, size or low, high, and the lengths of the work and the output that are lent.
+
+mod calls;
+mod damaged;
+mod examples;
+
+use calls::Call;
+use nesskettle_reference::vectors::{self, patterned_bytes, patterned_numbers};
+use nesskettle_reference::{find, judge, read, read_back, write, Refusal, Search, OPERATIONS};
+use std::path::Path;
+use std::{fs, io};
+
+/// What the program has room for: longer texts are told by their length and sum alone.
+const SHORT: usize = 400;
+const MOST_WORK: u64 = 65_536;
+const MOST_OUTPUT: u64 = 65_536;
+/// How many of the stored vectors each operation takes, and how long their sheets are.
+const MOST_STORED: usize = 100;
+const MOST_SHEET: usize = 700;
+
+fn main() -> io::Result<()> {
+    let folder = Path::new(env!("CARGO_MANIFEST_DIR")).join("../../crates/vectors");
+    let mut printed = Vec::new();
+    for operation in ["read", "judge", "write", "read_back", "find"] {
+        let mut inputs = examples::of(operation);
+        inputs.extend(damaged::of(operation));
+        inputs.extend(stored(operation));
+        let mut data = Vec::new();
+        for (number, call) in (1..).zip(&inputs) {
+            assert!(call.work <= MOST_WORK && call.output <= MOST_OUTPUT);
+            call.put(&mut data);
+            printed.extend(format!("{operation} {number}:").bytes());
+            printed.extend(answer(operation, call));
+        }
+        fs::write(folder.join("data").join(operation), data)?;
+    }
+    fs::write(folder.join("stdout"), printed)
+}
+
+/// The first of the stored vectors that the program has room for.
+fn stored(operation: &str) -> Vec<Call> {
+    let vectors = vectors::stored().into_iter();
+    let calls = vectors
+        .filter(|v| v.operation.replace('-', "_") == operation)
+        .filter_map(|v| {
+            let number = |key: &str| if v.inputs.has(key) { v.inputs.number(key) } else { 0 };
+            let bytes = |key: &str| {
+                if v.inputs.has(key) {
+                    v.inputs.bytes(key).to_vec()
+                } else {
+                    Vec::new()
+                }
+            };
+            let call = Call {
+                sheet: bytes("sheet"),
+                beside: [bytes("case"), bytes("setting")].concat(),
+                low: number("low") + number("size"),
+                high: number("high"),
+                work: number("work"),
+                output: number("output"),
+            };
+            let fits = call.sheet.len() <= MOST_SHEET && call.work <= MOST_WORK && call.output <= MOST_OUTPUT;
+            fits.then(|| vectors::run(&OPERATIONS, &v).expect("the answer is as stored"))?;
+            Some(call)
+        });
+    calls.take(MOST_STORED).collect()
+}
+
+/// What is printed of a call after its number.
+fn answer(operation: &str, call: &Call) -> Vec<u8> {
+    let mut work = patterned_numbers(call.work);
+    let mut output = patterned_bytes(call.output);
+    let (sheet, beside) = (&call.sheet[..], &call.beside[..]);
+    let told = match operation {
+        "read" => {
+            let told =
+                |c: nesskettle_reference::Counts| format!(" counts {} {} {}", c.functions, c.predicates, c.clauses);
+            return line(read(sheet).map_or_else(refusal, told));
+        }
+        "judge" => return line(judge(sheet, beside).map_or_else(refusal, |yes| format!(" {}", yes_no(yes)))),
+        "write" => write(sheet, call.low, &mut output).map(|length| (String::new(), length)),
+        "read_back" => read_back(sheet, call.low, beside, &mut output).map(|length| (String::new(), length)),
+        "find" => find(sheet, call.low, call.high, &mut work, &mut output).map(found),
+        other => panic!("no operation {other}"),
+    };
+    let length = told.as_ref().map_or(0, |(_, length)| *length);
+    assert_eq!(
+        output[length..],
+        patterned_bytes(call.output)[length..],
+        "the rest is unchanged"
+    );
+    let mut says = match told {
+        Err(r) => refusal(r),
+        Ok((first, 0)) => first,
+        Ok((first, _)) => format!("{first} length {length} sum {}", sum(&output[..length])),
+    };
+    says += " rest same";
+    if operation == "find" {
+        let zero = work.iter().all(|&n| n == 0);
+        assert!(
+            zero != told_refused(&says) || work.is_empty(),
+            "work is zero on results"
+        );
+        assert!(
+            zero || work == patterned_numbers(call.work),
+            "work is unchanged on refusals"
+        );
+        says += if told_refused(&says) {
+            " work same"
+        } else {
+            " work zero"
+        };
+    }
+    let mut text = line(says);
+    if length <= SHORT {
+        text.extend(&output[..length]);
+    }
+    text
+}
+
+fn told_refused(says: &str) -> bool {
+    says.starts_with(" refused")
+}
+
+fn line(mut says: String) -> Vec<u8> {
+    says.push('\n');
+    says.into_bytes()
+}
+
+fn found(search: Search) -> (String, usize) {
+    match search {
+        Search::Found { size, length } => (format!(" found {size}"), length),
+        Search::None { settled } => (format!(" none settled {}", yes_no(settled)), 0),
+    }
+}
+
+fn refusal(r: Refusal) -> String {
+    format!(" refused {} line {} needed {}", r.reason.number(), r.line, r.needed)
+}
+
+fn yes_no(yes: bool) -> &'static str {
+    if yes {
+        "yes"
+    } else {
+        "no"
+    }
+}
+
+/// A sum that also tells the places of the bytes.
+fn sum(text: &[u8]) -> u64 {
+    text.iter().fold(0, |sum, &b| (sum * 31 + u64::from(b)) % 1_000_003)
+}
