@@ -1,0 +1,12 @@
+// The finder program: standard input to standard output. What it prints is `program::respond`'s, whose promise is the theory's `program`.
+use libc::STDIN_FILENO;
+use libc::STDOUT_FILENO;
+
+fn main() {
+    let mut input = [0u8; program::MAX_INPUT];
+    let n = io::read_full(STDIN_FILENO, &mut input);
+    let mut work = [0u32; program::WORK];
+    let mut out = [0u8; program::OUTPUT];
+    let k = program::respond(&input[..n], &mut work, &mut out);
+    io::write_all(STDOUT_FILENO, &out[..k]);
+}
