@@ -143,18 +143,16 @@ fn sheets() -> Vec<Vec<u8>> {
     sheets.push(b"\n".to_vec());
     sheets.push((text.clone() + "\n").into_bytes());
     sheets.push((text.clone() + "clause=\n").into_bytes());
+    let places = [
+        ("fun=f/1", "fun=f", "/1"),
+        ("fun=a/0", "fun=a/", ""),
+        ("+ = f A a", "+ = f A ", ""),
+    ];
     for byte in EDGES {
-        for (old, before) in [("fun=f/1", "fun=f"), ("fun=a/0", "fun=a/"), ("+ = f A a", "+ = f A ")] {
-            let at = text.find(old).expect("it is there");
-            let after = if old == "fun=f/1" { &b"/1"[..] } else { &b""[..] };
-            let parts = [
-                text[..at].as_bytes(),
-                before.as_bytes(),
-                &[byte],
-                after,
-                text[at + old.len()..].as_bytes(),
-            ];
-            sheets.push(parts.concat());
+        for (old, before, after) in places {
+            let (first, rest) = text.split_once(old).expect("it is there");
+            let (first, rest) = (first.to_string() + before, after.to_string() + rest);
+            sheets.push([first.as_bytes(), &[byte], rest.as_bytes()].concat());
         }
     }
     sheets
@@ -165,8 +163,9 @@ fn longer() -> Vec<Vec<u8>> {
     let every: Vec<u8> = (0..=255).collect();
     let words = |word: &str, count: usize| damage("+ = f A a", &vec![word; count].join(" "));
     let with_every = |before: &str| {
-        let at = whole().find(before).expect("it is there") + before.len();
-        [whole()[..at].as_bytes(), &every, whole()[at..].as_bytes()].concat()
+        let text = whole();
+        let (first, rest) = text.split_at(text.find(before).expect("it is there") + before.len());
+        [first.as_bytes(), &every, rest.as_bytes()].concat()
     };
     vec![
         full(16_383),
