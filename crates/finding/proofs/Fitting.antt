@@ -63,10 +63,10 @@ module _ (sheet : List ℕ) (p : Problem) (size n v : ℕ) (h : Searchable sheet
       pub tally-begins : Consumes Tally v cs (state start out work)
       tally-begins = passes.tally-begins sheet p (h .accepted) size (h .within) (h .instances) (h .positive) v same-count out work 0 room none-tallied
 
-      pub tally-ends : (r : Progress) (out′ work′ : List ℕ) → Consumed Tally v cs (state start out work) (state r out′ work′) → (r .count ≡ length cs) × Tallied v (allCodes cs) work′
+      pub tally-ends : (r : Progress) (out′ work′ : List ℕ) → Consumed Tally v cs (state start out work) (state r out′ work′) → (length cs ≡ r .count) × Tallied v (allCodes cs) work′
       tally-ends r out′ work′ d =
           let a = passes.tally-ends sheet p (h .accepted) size (h .within) (h .instances) (h .positive) v same-count out work 0 room none-tallied (state r out′ work′) d in
-          (a .count, a .work)
+          (sym (a .count), a .work)
 
     -- and entered in one where their blocks are laid out
     module _ (none : Entered v (allCodes cs) [] work) where
@@ -77,12 +77,12 @@ module _ (sheet : List ℕ) (p : Problem) (size n v : ℕ) (h : Searchable sheet
       enter-ends r out′ work′ d = passes.enter-ends sheet p (h .accepted) size (h .within) (h .instances) (h .positive) v same-count out work 0 none (state r out′ work′) d .work
 
   -- the blocks of the counted clauses can be laid out
-  pub boundable : (m : ℕ) (work : List ℕ) → m ≡ length cs → length work ≡ n → Tallied v (allCodes cs) work → Boundable v m work
+  pub boundable : (m : ℕ) (work : List ℕ) → length cs ≡ m → length work ≡ n → Tallied v (allCodes cs) work → Boundable v m work
   boundable m work k long t =
       record {
         clauses = allCodes cs;
         tallied = t;
-        number = length-map cs codes ∙ sym k;
+        number = length-map cs codes ∙ k;
         small = variables-small;
         room = omega (arith, area-within);
         fits = omega (arith, area-is, bounds.area-few sheet p (h .accepted) size (h .within) (h .instances));

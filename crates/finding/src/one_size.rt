@@ -26,7 +26,7 @@ ghost use Rattle.finding.specs.Searching.{Searchable, clausesAt};
 fn count_clauses(sheet: &[u8], p: Problem, n: Numbering, size: usize, work: &mut [u32]) -> usize
     requires { ⌜ Searchable (now sheet) p size (length (now work)) ⌝ }
     requires { ⌜ NumberingOf (signatureIn (now sheet) (p .signature)) size n ⌝ }
-    ensures number { λ r. ⌜ r ≡ length (clausesAt size (now (sheet .entry)) p) ⌝ }
+    ensures number { λ r. ⌜ length (clausesAt size (now (sheet .entry)) p) ≡ r ⌝ }
     ensures tallied { λ r. ⌜ Tallied (n .count) (allCodes (clausesAt size (now (sheet .entry)) p)) (now (work .exit)) ⌝ }
 {
     let mut no_text = [0u8; 1];
@@ -48,7 +48,7 @@ fn count_clauses(sheet: &[u8], p: Problem, n: Numbering, size: usize, work: &mut
 fn enter_clauses(sheet: &[u8], p: Problem, n: Numbering, size: usize, m: usize, work: &mut [u32])
     requires { ⌜ Searchable (now sheet) p size (length (now work)) ⌝ }
     requires { ⌜ NumberingOf (signatureIn (now sheet) (p .signature)) size n ⌝ }
-    requires { ⌜ m ≡ length (clausesAt size (now sheet) p) ⌝ }
+    requires { ⌜ length (clausesAt size (now sheet) p) ≡ m ⌝ }
     requires { ⌜ Tallied (n .count) (allCodes (clausesAt size (now sheet) p)) (now work) ⌝ }
     ensures { λ _. ⌜ Entered (n .count) (allCodes (clausesAt size (now (sheet .entry)) p)) (allCodes (clausesAt size (now (sheet .entry)) p)) (now (work .exit)) ⌝ }
 {

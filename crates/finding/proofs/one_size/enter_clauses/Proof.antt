@@ -1,5 +1,5 @@
 -- `enter_clauses` meets its contract.
-use mathlib.Core.Path.{refl, sym, _∙_}
+use mathlib.Core.Path.{refl, _∙_}
 use mathlib.Core.List.{[], _∷_}
 use lib.ListN.{length, length-map}
 use Rattle.propagation.specs.Clauses.{codes}
@@ -41,7 +41,7 @@ all-clauses-requires c κs =
     let b = c .before .before .before .before .bounds in
     let cs = clausesAt (a .size) (a .sheet .now) (a .p) in (
       (s .pre .0 .accepted, s .pre .0 .within),
-      (s .pre .1 .0, enter-begins (a .sheet .now) (a .p) (a .size) (length (a .work .now)) (a .n .count) (s .pre .0) (s .pre .1 .0 .count) (0 ∷ []) (b .last .0) (b .ensures (allCodes cs) (s .pre .1 .1 .1) (length-map cs codes ∙ sym (s .pre .1 .1 .0)))),
+      (s .pre .1 .0, enter-begins (a .sheet .now) (a .p) (a .size) (length (a .work .now)) (a .n .count) (s .pre .0) (s .pre .1 .0 .count) (0 ∷ []) (b .last .0) (b .ensures (allCodes cs) (s .pre .1 .1 .1) (length-map cs codes ∙ s .pre .1 .1 .0))),
     )
 
 -- src/one_size.rt:48:1
@@ -56,7 +56,7 @@ returns c =
     let b = c .before .before .before .before .before .before .before .before .bounds in
     let t = c .before .before .before .all-clauses in
     let cs = clausesAt (a .size) (a .sheet .now) (a .p) in
-    enter-ends (a .sheet .now) (a .p) (a .size) (length (a .work .now)) (a .n .count) (s .pre .0) (s .pre .1 .0 .count) (0 ∷ []) (b .last .0) (b .ensures (allCodes cs) (s .pre .1 .1 .1) (length-map cs codes ∙ sym (s .pre .1 .1 .0))) (t .result) (t .last .1 .1 .1 .1 .1 .0) (t .last .1 .1 .1 .1 .1 .1 .0) (t .ensures)
+    enter-ends (a .sheet .now) (a .p) (a .size) (length (a .work .now)) (a .n .count) (s .pre .0) (s .pre .1 .0 .count) (0 ∷ []) (b .last .0) (b .ensures (allCodes cs) (s .pre .1 .1 .1) (length-map cs codes ∙ s .pre .1 .1 .0)) (t .result) (t .last .1 .1 .1 .1 .1 .0) (t .last .1 .1 .1 .1 .1 .1 .0) (t .ensures)
 
 pub enter-clauses-spec : {M : Type 1} → statement M
 enter-clauses-spec =

@@ -1,5 +1,5 @@
 -- `load` meets its contract.
-use mathlib.Core.Path.{_≡_, sym, subst}
+use mathlib.Core.Path.{sym, subst}
 use native.Mathlib.Omega.{arith}
 use lib.ListN.{length}
 use Rattle.theory.specs.Walk.{yesFirst}
@@ -56,9 +56,8 @@ returns c =
     let k = c .before .before .before .before .before .before .before .before .before .before .before .before .count-clauses in
     let e = c .before .before .before .before .before .before .before .before .enter-clauses in
     let f = c .before .before .prefer-all in
-    let cs = clausesAt (a .size) (a .sheet .now) (a .p) in
-    let number : length cs ≡ k .result = sym (k .ensures .0) in (
-      number,
+    let cs = clausesAt (a .size) (a .sheet .now) (a .p) in (
+      k .ensures .0,
       entered-loaded (a .n .count) cs (yesFirst (a .size) (signatureIn (a .sheet .now) (a .p .signature))) (f .last .1 .1 .1 .0)
           (numbered (a .sheet .now) (a .p) (a .size) (length (a .work .now)) (a .n .count) (s .pre .0) (s .pre .1 (a .sheet .now) .count)) (f .ensures .0 (allCodes cs) (allCodes cs) (e .ensures)) (f .ensures .1 (a .sheet .now)),
     )
