@@ -1,6 +1,7 @@
 //! Times the search of Find beside a plain Rust program of the same design, and beside minisat and picosat, on the same
 //! clauses, in one run. minisat and picosat learn clauses and so make other and often fewer propagations; the plain
-//! program takes the very steps of Find, so the ratio of the times is that of propagations per second.
+//! program takes the very steps of Find, so the ratio of the times is that of propagations per second. Each
+//! time is that of the whole: Find's has the making of the clauses in it, the others' the reading of the text.
 //!
 //!     cargo run --release -p nesskettle-trials --bin search [RUNS]
 
@@ -19,7 +20,9 @@ const RUNS: usize = 3;
 fn main() {
     let runs = std::env::args().nth(1).and_then(|n| n.parse().ok()).unwrap_or(RUNS);
     let file = std::env::temp_dir().join(format!("nesskettle-search-{}.cnf", std::process::id()));
-    println!("million propagations per second, and seconds for the whole search");
+    println!(
+        "million propagations per second, and seconds; the ratio is nesskettle's speed to that of the plain program"
+    );
     println!(
         "{:<26}{:>13}{:>18}{:>18}{:>8}{:>18}{:>18}",
         "", "propagations", "nesskettle", "plain", "ratio", "minisat", "picosat"
@@ -55,7 +58,11 @@ fn row(name: &str, size: u64, runs: usize, file: &Path) {
         let found = search.solve();
         plain = plain.min(start.elapsed().as_secs_f64());
         propagations = search.propagations;
-        assert_eq!(found, matches!(answer, nesskettle::Search::Found { .. }), "{name} at {size}");
+        assert_eq!(
+            found,
+            matches!(answer, nesskettle::Search::Found { .. }),
+            "{name} at {size}"
+        );
     }
     println!(
         "{:<26}{propagations:>13}{:>18}{:>18}{:>8.2}{:>18}{:>18}",
@@ -95,7 +102,13 @@ fn first_values(sheet: &[u8], size: u64, text: &[u8]) -> Vec<bool> {
 /// What a solver says of itself: its propagations per second and its seconds.
 fn solver(name: &str, options: &[&str], file: &Path) -> String {
     let start = Instant::now();
-    let Ok(output) = Command::new("timeout").arg("60").arg(name).args(options).arg(file).output() else {
+    let Ok(output) = Command::new("timeout")
+        .arg("60")
+        .arg(name)
+        .args(options)
+        .arg(file)
+        .output()
+    else {
         return "-".to_string();
     };
     let seconds = start.elapsed().as_secs_f64();
