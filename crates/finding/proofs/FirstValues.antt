@@ -5,9 +5,9 @@ use mathlib.Core.Bool.{Bool, true, false}
 use mathlib.Core.List.{List, [], _∷_, _++_}
 use native.Mathlib.Omega.{arith}
 use native.Mathlib.Nat.{not-suc-le-zero, suc-mul}
-use lib.ListN.{length, getD, take, replicate, length-replicate, getD-replicate, replicate-append-replicate, List·getD-append}
+use lib.ListN.{length, getD, replicate, length-replicate, getD-replicate, replicate-append-replicate, List·getD-append}
 use lib.Seq.{getD-append-add}
-use Rattle.theory.specs.Lists.{concatMap, sum}
+use Rattle.theory.specs.Lists.{concatMap}
 use Rattle.theory.specs.Syntax.{Kind, isFunction, Symbol, Signature, symbolAt}
 use Rattle.theory.specs.Cells.{tableSize, cellKinds}
 use Rattle.theory.specs.Propositional.{width, blockSize, propBase, propCount}

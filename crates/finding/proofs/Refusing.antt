@@ -1,6 +1,6 @@
 -- Find's checks in order: the first that fails refuses, and where all pass the search decides.
 use Prim.Native.Nat.{ℕ, _+_, _*_, _≤_, _<_}
-use mathlib.Core.Path.{_≡_, refl, sym, ap, _∙_}
+use mathlib.Core.Path.{_≡_, refl}
 use mathlib.Core.Bool.{Bool, true, false, _&&_}
 use mathlib.Core.List.{List}
 use native.Mathlib.Omega.{arith}
@@ -8,7 +8,7 @@ use borrow.Author.Tests.{le-leb, lt-leb}
 use lib.Dec.{leb}
 use Rattle.theory.specs.Propositional.{propCount}
 use Rattle.theory.specs.PropClauses.{instanceCount, literalCount, workNeeded}
-use Rattle.theory.specs.Refusals.{Refusal, Answer, answer, refused, unplaced, needing, _>>=_}
+use Rattle.theory.specs.Refusals.{Refusal, answer, refused, unplaced, needing}
 use Rattle.theory.specs.Problem.{Problem, readProblem}
 use Rattle.theory.specs.CaseText.{caseLength}
 use Rattle.theory.specs.Least.{smallestModel}
@@ -18,7 +18,6 @@ use Rattle.theory.proofs.Answers.{bind-step, bind-refused, check-of-true, check
 use Rattle.syntax.specs.declared.limits.Problem as code
 use Rattle.syntax.specs.Signatures.{signatureIn}
 use Rattle.problem.specs.Problems.{problemIn, Accepted}
-use Rattle.finding.specs.Searching.{Searchable}
 use Rattle.finding.specs.Ending.{foundIn, Sizes}
 
 -- low to high are sizes

@@ -1,13 +1,13 @@
 -- What a search at one size finds, read back, is the least model of that size.
-use Prim.Native.Nat.{ℕ, _≤_}
-use mathlib.Core.Path.{_≡_, sym, ap, _∙_, subst}
+use Prim.Native.Nat.{ℕ}
+use mathlib.Core.Path.{_≡_, sym, ap}
 use mathlib.Core.List.{List}
 use Rattle.theory.specs.Propositional.{propCount}
 use Rattle.theory.specs.Walk.{walked, yesFirst, searched}
 use Rattle.syntax.specs.declared.limits.Problem.{Problem}
 use Rattle.syntax.specs.Signatures.{signatureIn}
 use Rattle.problem.specs.Problems.{problemIn}
-use Rattle.finding.specs.Searching.{Searchable, clausesAt}
+use Rattle.finding.specs.Searching.{clausesAt}
 
 -- the walk over the clauses as the code has them is the theory's
 pub searched-walked : (sheet : List ℕ) (p : Problem) (size v : ℕ) → v ≡ propCount size (signatureIn sheet (p .signature))

@@ -2,7 +2,6 @@
 use Prim.Native.Nat.{ℕ, _≤_}
 use mathlib.Core.Path.{_≡_}
 use mathlib.Core.List.{List}
-use lib.ListN.{length}
 use Rattle.theory.specs.PropClauses.{propClauses, instanceCount, workNeeded}
 use Rattle.theory.specs.Propositional.{PropClause}
 use Rattle.theory.specs.Refusals.{answer}

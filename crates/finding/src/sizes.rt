@@ -9,7 +9,6 @@ use valuations::numbering::Numbering;
 use valuations::numbering::numbering_of;
 ghost use mathlib.Core.Path.{_≡_};
 ghost use mathlib.Core.Bool.{true};
-ghost use mathlib.Core.List.{List};
 ghost use Prim.Native.Nat.{ℕ, _≤_};
 ghost use lib.ListN.{length, take};
 ghost use Rattle.theory.specs.CaseText.{caseLength};
