@@ -10,11 +10,13 @@ mod lines;
 mod problem;
 mod program;
 mod search;
+mod sheet;
 mod syntax;
 pub mod vectors;
 
 pub use nesskettle_answers::{Counts, Operations, Reason, Refusal, Search};
 pub use program::program;
+pub use sheet::sheet_of;
 
 use grounding::{Counted, Numbering};
 use interpretation::Interpretation;

@@ -1,6 +1,7 @@
 //! The specification's examples, executed on the proved library.
 
 use nesskettle::{find, judge, read, read_back, write, Counts, Reason, Refusal, Search};
+use nesskettle_reference::sheet_of;
 use nesskettle_trials::problems::{sheet, GROUP_CASE};
 
 const NO_LINE: u64 = 0;
@@ -11,17 +12,6 @@ fn refused<T>(reason: Reason, line: u64) -> Result<T, Refusal> {
         line,
         needed: 0,
     })
-}
-
-/// A sheet from its declarations and clauses.
-fn sheet_of(functions: &[&str], predicates: &[&str], clauses: &[&str]) -> Vec<u8> {
-    let mut text = format!("sheet=1\nfuns={}\n", functions.len());
-    functions.iter().for_each(|f| text += &format!("fun={f}\n"));
-    text += &format!("preds={}\n", predicates.len());
-    predicates.iter().for_each(|p| text += &format!("pred={p}\n"));
-    text += &format!("clauses={}\n", clauses.len());
-    clauses.iter().for_each(|c| text += &format!("clause={c}\n"));
-    text.into_bytes()
 }
 
 /// The text of a call that writes one.

@@ -7,7 +7,7 @@
 use nesskettle_reference as reference;
 use nesskettle_trials::problems::{sheet, GROUP_CASE, MILLION};
 use nesskettle_trials::random::Random;
-use reference::{Operations, Search};
+use reference::{sheet_of, Operations, Search};
 use std::time::Duration;
 
 /// How many times each measurement is taken where the command line does not say.
@@ -91,22 +91,11 @@ fn processor_time() -> Duration {
     Duration::new(time.seconds as u64, time.nanoseconds as u32)
 }
 
-/// A sheet from its declarations and clauses.
-fn sheet_of(functions: &[String], predicates: &[String], clauses: &[String]) -> Vec<u8> {
-    let mut text = format!("sheet=1\nfuns={}\n", functions.len());
-    functions.iter().for_each(|f| text += &format!("fun={f}\n"));
-    text += &format!("preds={}\n", predicates.len());
-    predicates.iter().for_each(|p| text += &format!("pred={p}\n"));
-    text += &format!("clauses={}\n", clauses.len());
-    clauses.iter().for_each(|c| text += &format!("clause={c}\n"));
-    text.into_bytes()
-}
-
 fn read(bench: &Bench) {
     let small = sheet("two-constants");
     bench.row("read, 7 lines", 10_000, None, |o| assert!((o.read)(small).is_ok()));
     let clause = "+ longer A B".to_string() + &" - = f A B".repeat(12);
-    let large = sheet_of(&["f/1".to_string()], &["longer/2".to_string()], &vec![clause; 64]);
+    let large = sheet_of(&["f/1"], &["longer/2"], &[clause.as_str(); 64]);
     let kilobytes = large.len() as f64 / 1e3;
     let name = format!("read, 64 clauses of 64 words, {kilobytes:.1} kB");
     bench.row(&name, 100, Some((kilobytes / 1e3, "MB")), |o| {
@@ -119,8 +108,8 @@ fn judge(bench: &Bench) {
     bench.row("judge, group of 6", 1_000, None, |o| {
         assert_eq!((o.judge)(group, GROUP_CASE), Ok(true))
     });
-    let clause = "+ p A B C + p D E F - = G H + = f G H f H G".to_string();
-    let sheet = sheet_of(&["f/2".to_string()], &["p/3".to_string()], &[clause]);
+    let clause = "+ p A B C + p D E F - = G H + = f G H f H G";
+    let sheet = sheet_of(&["f/2"], &["p/3"], &[clause]);
     let mut random = Random::new(6);
     let mut values = |count: usize, least: usize, most: usize| {
         let values: Vec<String> = (0..count).map(|_| random.between(least, most).to_string()).collect();
@@ -153,6 +142,8 @@ fn write_row(bench: &Bench, name: &str, sheet: &[u8], size: u64, times: u32) {
 fn read_back(bench: &Bench) {
     let functions: Vec<String> = (0..12).map(|i| format!("f{i}/3")).collect();
     let predicates: Vec<String> = (0..12).map(|i| format!("p{i}/3")).collect();
+    let functions: Vec<&str> = functions.iter().map(String::as_str).collect();
+    let predicates: Vec<&str> = predicates.iter().map(String::as_str).collect();
     let sheet = sheet_of(&functions, &predicates, &[]);
     let mut random = Random::new(7);
     let mut setting = Vec::new();

@@ -73,17 +73,6 @@ pub fn searching(sheet: impl AsRef<[u8]>, low: u64, high: u64) -> Call {
     finding(sheet, low, high, work, output)
 }
 
-/// A sheet from its declarations and clauses.
-pub fn sheet(functions: &[&str], predicates: &[&str], clauses: &[&str]) -> Vec<u8> {
-    let mut text = format!("sheet=1\nfuns={}\n", functions.len());
-    functions.iter().for_each(|f| text += &format!("fun={f}\n"));
-    text += &format!("preds={}\n", predicates.len());
-    predicates.iter().for_each(|p| text += &format!("pred={p}\n"));
-    text += &format!("clauses={}\n", clauses.len());
-    clauses.iter().for_each(|c| text += &format!("clause={c}\n"));
-    text.into_bytes()
-}
-
 /// One of the sheets of `rust/data/sheets`, or a case there.
 pub fn file(name: &str) -> Vec<u8> {
     let path = std::path::Path::new(env!("CARGO_MANIFEST_DIR"))

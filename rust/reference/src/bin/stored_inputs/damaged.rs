@@ -1,7 +1,8 @@
 //! Damaged inputs: each refusal several times, several faults at once, bytes at the edges of what is allowed.
 
-use crate::calls::{file, finding, judging, reading, reading_back, sheet, writing, Call};
+use crate::calls::{file, finding, judging, reading, reading_back, writing, Call};
 use crate::examples::{full, two_constants};
+use nesskettle_reference::sheet_of;
 
 /// The edges of the bytes that layouts, names and words allow.
 const EDGES: [u8; 29] = [
@@ -28,7 +29,7 @@ pub fn of(operation: &str) -> Vec<Call> {
 
 /// The good sheet that is damaged: each line has a use.
 fn whole() -> String {
-    let text = sheet(&["a/0", "f/1"], &["p/1", "q/2"], &["+ p f a - q A B", "+ = f A a"]);
+    let text = sheet_of(&["a/0", "f/1"], &["p/1", "q/2"], &["+ p f a - q A B", "+ = f A a"]);
     String::from_utf8(text).expect("a sheet is text")
 }
 
@@ -191,7 +192,7 @@ fn longer() -> Vec<Vec<u8>> {
 
 /// Damaged cases of a good sheet.
 fn cases() -> Vec<Call> {
-    let problem = sheet(&["a/0", "f/1"], &["p/0", "q/2"], &["+ p", "+ q f a A"]);
+    let problem = sheet_of(&["a/0", "f/1"], &["p/0", "q/2"], &["+ p", "+ q f a A"]);
     let whole = "case=1\nsize=2\na=1\nf=2 1\np=1\nq=0 1 1 0\n";
     let changes = [
         ("case=1", "case=1"),

@@ -1,6 +1,7 @@
 //! Good inputs: the specification's examples, the limits from both sides, and sheets whose answer a usual mistake changes.
 
-use crate::calls::{file, finding, judging, reading, reading_back, searching, sheet, writing, Call};
+use crate::calls::{file, finding, judging, reading, reading_back, searching, writing, Call};
+use nesskettle_reference::sheet_of;
 use nesskettle_reference::{instances_and_variables, needed, write};
 
 pub fn of(operation: &str) -> Vec<Call> {
@@ -15,21 +16,21 @@ pub fn of(operation: &str) -> Vec<Call> {
 }
 
 pub fn two_constants() -> Vec<u8> {
-    sheet(&["a/0", "b/0"], &[], &["- = a b"])
+    sheet_of(&["a/0", "b/0"], &[], &["- = a b"])
 }
 
 /// Pairs of free triples: 8^6 instances each at size 8.
 fn triples(count: usize) -> Vec<u8> {
-    sheet(&[], &["q/3"], &vec!["+ q A B C + q D E F"; count])
+    sheet_of(&[], &["q/3"], &vec!["+ q A B C + q D E F"; count])
 }
 
 fn repeated(literal: &str, count: usize) -> Vec<u8> {
-    sheet(&["a/0"], &["p/0", "q/3"], &[&vec![literal; count].join(" ")])
+    sheet_of(&["a/0"], &["p/0", "q/3"], &[&vec![literal; count].join(" ")])
 }
 
 /// A clause of eight letters and more over three constants.
 fn lettered(more: &str) -> Vec<u8> {
-    sheet(
+    sheet_of(
         &["a/0", "b/0", "c/0"],
         &["q/3"],
         &[&format!("+ q A B C + q D E F + q G H H{more}")],
@@ -42,7 +43,7 @@ pub fn full(length: usize) -> Vec<u8> {
     let made = |name: usize, clauses: &[String]| {
         let clauses: Vec<&str> = clauses.iter().map(String::as_str).collect();
         let name = format!("{}/0", "z".repeat(name));
-        sheet(&["mnopqrstuvwx/0", &name], &["abcdefghijkl/3", "q/0"], &clauses)
+        sheet_of(&["mnopqrstuvwx/0", &name], &["abcdefghijkl/3", "q/0"], &clauses)
     };
     for clause in 0..63 {
         while clauses[clause].len() < 600 && made(1, &clauses).len() + 54 <= length {
@@ -63,8 +64,8 @@ fn reads() -> Vec<Call> {
     let predicates: Vec<&str> = predicates.iter().map(String::as_str).collect();
     let sheets = [
         two_constants(),
-        sheet(&[], &[], &[]),
-        sheet(&[], &[], &[""]),
+        sheet_of(&[], &[], &[]),
+        sheet_of(&[], &[], &[""]),
         // literals, words and variables at their limits and over them
         repeated("+ p", 16),
         repeated("+ p", 17),
@@ -78,15 +79,15 @@ fn reads() -> Vec<Call> {
         lettered(" + q a b c - = A B"),
         lettered(" + = a b + = c a"),
         // counts at their limits
-        sheet(&functions, &predicates, &["+ p0"; 64]),
-        sheet(&functions, &[], &[]),
-        sheet(&[], &predicates, &[""; 64]),
-        sheet(
+        sheet_of(&functions, &predicates, &["+ p0"; 64]),
+        sheet_of(&functions, &[], &[]),
+        sheet_of(&[], &predicates, &[""; 64]),
+        sheet_of(
             &["abcdefghijkl/3", "sheet/0", "a_1/1"],
             &["funs/2", "b__9/0"],
             &["+ funs sheet a_1 sheet"],
         ),
-        sheet(&["a/0", "b/0", "f/2"], &["p/2"], &["+ p f a b f b a"]),
+        sheet_of(&["a/0", "b/0", "f/2"], &["p/2"], &["+ p f a b f b a"]),
         full(16_384),
         file("group.sheet"),
         file("million.sheet"),
@@ -97,8 +98,8 @@ fn reads() -> Vec<Call> {
 fn judges() -> Vec<Call> {
     let (group, tables) = (file("group.sheet"), file("group-6.case"));
     let changed = |old: &str, new: &str| String::from_utf8_lossy(&tables).replace(old, new);
-    let single = sheet(&["a/0"], &["p/1"], &["+ p a", "- p A + = A a"]);
-    let eight = sheet(
+    let single = sheet_of(&["a/0"], &["p/1"], &["+ p a", "- p A + = A a"]);
+    let eight = sheet_of(
         &["f/3"],
         &["r/3"],
         &["+ r A A A", "- r A B C + = f A B C A", "+ = f A f B C D A f A B C"],
@@ -112,24 +113,24 @@ fn judges() -> Vec<Call> {
         judging(&group, changed("inv=1 2 3 5 4 6", "inv=1 2 3 4 5 6")),
         judging(two_constants(), "case=1\nsize=2\na=1\nb=2\n"),
         judging(two_constants(), "case=1\nsize=2\na=2\nb=2\n"),
-        judging(sheet(&[], &[], &[]), "case=1\nsize=8\n"),
-        judging(sheet(&[], &[], &[""]), "case=1\nsize=1\n"),
-        judging(sheet(&[], &[], &["+ = A B"]), "case=1\nsize=1\n"),
-        judging(sheet(&[], &[], &["+ = A B"]), "case=1\nsize=2\n"),
-        judging(sheet(&[], &[], &["- = A B"]), "case=1\nsize=1\n"),
-        judging(sheet(&["f/1"], &[], &["- = f A A"]), "case=1\nsize=3\nf=2 1 1\n"),
-        judging(sheet(&["f/1"], &[], &["- = f A A"]), "case=1\nsize=3\nf=2 1 3\n"),
+        judging(sheet_of(&[], &[], &[]), "case=1\nsize=8\n"),
+        judging(sheet_of(&[], &[], &[""]), "case=1\nsize=1\n"),
+        judging(sheet_of(&[], &[], &["+ = A B"]), "case=1\nsize=1\n"),
+        judging(sheet_of(&[], &[], &["+ = A B"]), "case=1\nsize=2\n"),
+        judging(sheet_of(&[], &[], &["- = A B"]), "case=1\nsize=1\n"),
+        judging(sheet_of(&["f/1"], &[], &["- = f A A"]), "case=1\nsize=3\nf=2 1 1\n"),
+        judging(sheet_of(&["f/1"], &[], &["- = f A A"]), "case=1\nsize=3\nf=2 1 3\n"),
         judging(&single, "case=1\nsize=2\na=1\np=1 0\n"),
         judging(&single, "case=1\nsize=2\na=2\np=1 0\n"),
         judging(&single, "case=1\nsize=2\na=2\np=1 1\n"),
         // the last argument runs fastest
-        judging(sheet(&[], &["q/2"], &["+ q A A"]), "case=1\nsize=2\nq=1 0 0 1\n"),
+        judging(sheet_of(&[], &["q/2"], &["+ q A A"]), "case=1\nsize=2\nq=1 0 0 1\n"),
         judging(
-            sheet(&["a/0", "b/0"], &["q/2"], &["+ q a b"]),
+            sheet_of(&["a/0", "b/0"], &["q/2"], &["+ q a b"]),
             "case=1\nsize=2\na=1\nb=2\nq=0 1 0 0\n",
         ),
         judging(
-            sheet(&["a/0", "b/0"], &["q/2"], &["+ q a b"]),
+            sheet_of(&["a/0", "b/0"], &["q/2"], &["+ q a b"]),
             "case=1\nsize=2\na=1\nb=2\nq=0 0 1 0\n",
         ),
         judging(
@@ -145,24 +146,24 @@ fn judges() -> Vec<Call> {
 
 /// Sheets and sizes with texts that show steps 1 to 4.
 fn written() -> Vec<(Vec<u8>, u64)> {
-    let one = |clause: &str| sheet(&["a/0", "b/0", "f/1", "g/2"], &["p/1", "r/2"], &[clause]);
-    let bare = |clause: &str| sheet(&[], &["p/1", "r/2"], &[clause]);
+    let one = |clause: &str| sheet_of(&["a/0", "b/0", "f/1", "g/2"], &["p/1", "r/2"], &[clause]);
+    let bare = |clause: &str| sheet_of(&[], &["p/1", "r/2"], &[clause]);
     vec![
         (two_constants(), 2),
         (two_constants(), 1),
-        (sheet(&["a/0", "b/0", "f/2"], &["p/2"], &["+ p f a b f b a"]), 1),
-        (sheet(&["a/0", "b/0", "f/2"], &["p/2"], &["+ p f a b f b a"]), 2),
-        (sheet(&[], &[], &["+ = A B"]), 1),
-        (sheet(&[], &[], &["+ = A B"]), 2),
-        (sheet(&[], &[], &["- = A B"]), 3),
-        (sheet(&[], &[], &["- = A A"]), 8),
-        (sheet(&[], &[], &[]), 8),
-        (sheet(&[], &[], &["", ""]), 4),
-        (sheet(&["f/1"], &[], &["- = f A A"]), 3),
+        (sheet_of(&["a/0", "b/0", "f/2"], &["p/2"], &["+ p f a b f b a"]), 1),
+        (sheet_of(&["a/0", "b/0", "f/2"], &["p/2"], &["+ p f a b f b a"]), 2),
+        (sheet_of(&[], &[], &["+ = A B"]), 1),
+        (sheet_of(&[], &[], &["+ = A B"]), 2),
+        (sheet_of(&[], &[], &["- = A B"]), 3),
+        (sheet_of(&[], &[], &["- = A A"]), 8),
+        (sheet_of(&[], &[], &[]), 8),
+        (sheet_of(&[], &[], &["", ""]), 4),
+        (sheet_of(&["f/1"], &[], &["- = f A A"]), 3),
         // repeated literals, both signs of one atom, repeated clauses
         (bare("+ p A + p A"), 2),
         (bare("+ p A - p A"), 2),
-        (sheet(&[], &["p/0"], &["+ p", "+ p", "- p", ""]), 2),
+        (sheet_of(&[], &["p/0"], &["+ p", "+ p", "- p", ""]), 2),
         // merged to the left of the deleted inequality too, chains, the leftmost first
         (bare("+ r A B - = A B + p B"), 2),
         (bare("+ p C - = A B - = B C + p A"), 2),
@@ -180,7 +181,7 @@ fn written() -> Vec<(Vec<u8>, u64)> {
         (one("+ r A B + r B A + = A B"), 3),
         (one("+ = A B + = a A - = B f A"), 3),
         // no variable, and ten
-        (sheet(&["a/0"], &["p/1", "o/0"], &["+ o", "- o + p a"]), 3),
+        (sheet_of(&["a/0"], &["p/1", "o/0"], &["+ o", "- o + p a"]), 3),
         (lettered(" + q a b a"), 1),
         (lettered(" + q a b a"), 2),
         (lettered(" + q a b a"), 3),
@@ -188,7 +189,7 @@ fn written() -> Vec<(Vec<u8>, u64)> {
         (triples(3), 8),
         (triples(4), 8),
         (file("million.sheet"), 8),
-        (sheet(&["h/3"], &[], &[]), 8),
+        (sheet_of(&["h/3"], &[], &[]), 8),
         (file("group.sheet"), 3),
         (file("tournament.sheet"), 2),
     ]
@@ -224,7 +225,7 @@ fn writes() -> Vec<Call> {
 fn read_backs() -> Vec<Call> {
     let two = two_constants();
     let back = |setting: &[u8], output: u64| reading_back(&two, 2, setting, output);
-    let mixed = sheet(&["a/0", "f/1"], &["p/0", "r/2"], &["+ p"]);
+    let mixed = sheet_of(&["a/0", "f/1"], &["p/0", "r/2"], &["+ p"]);
     let variables = instances_and_variables(&mixed, 3).expect("the sheet is taken").1 as usize;
     let third = |cells: [usize; 4], tail: u8| {
         let mut setting = vec![0; variables];
@@ -258,11 +259,11 @@ fn read_backs() -> Vec<Call> {
         reading_back(&mixed, 3, &third([0, 2, 1, 2], 0b1011_0101), length),
         reading_back(&mixed, 3, &third([2, 2, 2, 2], 0b0100_1110), length + 5),
         reading_back(&mixed, 3, &third([1, 0, 0, 0], 0), length - 1),
-        reading_back(sheet(&[], &[], &[]), 8, &[], 14),
-        reading_back(sheet(&[], &[], &[""]), 1, &[], 14),
-        reading_back(sheet(&[], &[], &[""]), 1, &[], 13),
-        reading_back(sheet(&[], &["p/1"], &[]), 8, &[0, 1, 0, 1, 1, 1, 0, 0], 40),
-        reading_back(sheet(&[], &["p/1"], &[]), 8, &[0, 1, 0, 1, 1, 1, 0], 40),
+        reading_back(sheet_of(&[], &[], &[]), 8, &[], 14),
+        reading_back(sheet_of(&[], &[], &[""]), 1, &[], 14),
+        reading_back(sheet_of(&[], &[], &[""]), 1, &[], 13),
+        reading_back(sheet_of(&[], &["p/1"], &[]), 8, &[0, 1, 0, 1, 1, 1, 0, 0], 40),
+        reading_back(sheet_of(&[], &["p/1"], &[]), 8, &[0, 1, 0, 1, 1, 1, 0], 40),
         // Read back takes a sheet that Write refuses by 9
         reading_back(triples(4), 8, &[1; 512], 2_000),
     ];
@@ -274,19 +275,19 @@ fn read_backs() -> Vec<Call> {
 
 fn finds() -> Vec<Call> {
     let two = two_constants();
-    let moved = sheet(&["f/1"], &[], &["- = f A A"]);
-    let single = sheet(&["a/0"], &["p/1"], &["+ p a", "- p A + = A a"]);
-    let three = sheet(&["a/0", "b/0", "c/0"], &[], &["- = a b", "- = a c", "- = b c"]);
-    let nothing = sheet(&[], &[], &[]);
+    let moved = sheet_of(&["f/1"], &[], &["- = f A A"]);
+    let single = sheet_of(&["a/0"], &["p/1"], &["+ p a", "- p A + = A a"]);
+    let three = sheet_of(&["a/0", "b/0", "c/0"], &[], &["- = a b", "- = a c", "- = b c"]);
+    let nothing = sheet_of(&[], &[], &[]);
     let mut calls = vec![
         searching(&two, 1, 1),
         searching(&two, 1, 2),
         searching(&two, 1, 3),
         searching(&two, 3, 3),
-        searching(sheet(&[], &[], &["+ = A B"]), 1, 1),
-        searching(sheet(&[], &[], &["+ = A B"]), 2, 8),
-        searching(sheet(&[], &[], &["- = A B"]), 1, 8),
-        searching(sheet(&[], &[], &[""]), 1, 8),
+        searching(sheet_of(&[], &[], &["+ = A B"]), 1, 1),
+        searching(sheet_of(&[], &[], &["+ = A B"]), 2, 8),
+        searching(sheet_of(&[], &[], &["- = A B"]), 1, 8),
+        searching(sheet_of(&[], &[], &[""]), 1, 8),
         searching(&nothing, 1, 1),
         searching(&nothing, 3, 8),
         searching(&moved, 1, 1),
@@ -302,7 +303,7 @@ fn finds() -> Vec<Call> {
         searching(&three, 1, 2),
         searching(&three, 4, 8),
         searching(
-            sheet(
+            sheet_of(
                 &["s/1"],
                 &["less/2"],
                 &["- less A A", "- less A B - less B A", "+ less A s A"],
@@ -321,19 +322,25 @@ fn finds() -> Vec<Call> {
 /// The least model is not the one that values for literals of one sign only would give.
 fn least_models() -> Vec<Call> {
     let sheets = [
-        (sheet(&[], &["p/1", "q/1"], &["+ p A + q A"]), 2),
-        (sheet(&[], &["p/1", "q/1"], &["- p A - q A"]), 2),
-        (sheet(&[], &["p/0", "q/0", "r/0"], &["+ p + q", "+ p + r"]), 1),
-        (sheet(&[], &["p/0", "q/0", "r/0"], &["+ q + r", "- q + p"]), 1),
-        (sheet(&["a/0", "b/0"], &["p/1"], &["+ p a", "+ p b", "- p a - p b"]), 3),
-        (sheet(&["a/0", "b/0"], &["p/1"], &["+ p a", "- p b"]), 2),
-        (sheet(&["a/0", "b/0", "c/0"], &[], &["- = a c + = b c", "- = a b"]), 3),
-        (sheet(&["f/1"], &[], &["+ = f f A A", "- = f A A"]), 4),
-        (sheet(&["f/1", "c/0"], &[], &["- = f A f B + = A B", "- = f c c"]), 3),
-        (sheet(&["m/2"], &[], &["+ = m A A A", "- = m A B m B A + = A B"]), 3),
-        (sheet(&["m/2"], &[], &["+ = m A m B A B"]), 3),
+        (sheet_of(&[], &["p/1", "q/1"], &["+ p A + q A"]), 2),
+        (sheet_of(&[], &["p/1", "q/1"], &["- p A - q A"]), 2),
+        (sheet_of(&[], &["p/0", "q/0", "r/0"], &["+ p + q", "+ p + r"]), 1),
+        (sheet_of(&[], &["p/0", "q/0", "r/0"], &["+ q + r", "- q + p"]), 1),
         (
-            sheet(
+            sheet_of(&["a/0", "b/0"], &["p/1"], &["+ p a", "+ p b", "- p a - p b"]),
+            3,
+        ),
+        (sheet_of(&["a/0", "b/0"], &["p/1"], &["+ p a", "- p b"]), 2),
+        (
+            sheet_of(&["a/0", "b/0", "c/0"], &[], &["- = a c + = b c", "- = a b"]),
+            3,
+        ),
+        (sheet_of(&["f/1"], &[], &["+ = f f A A", "- = f A A"]), 4),
+        (sheet_of(&["f/1", "c/0"], &[], &["- = f A f B + = A B", "- = f c c"]), 3),
+        (sheet_of(&["m/2"], &[], &["+ = m A A A", "- = m A B m B A + = A B"]), 3),
+        (sheet_of(&["m/2"], &[], &["+ = m A m B A B"]), 3),
+        (
+            sheet_of(
                 &[],
                 &["r/2"],
                 &["- r A A", "+ r A B + r B A + = A B", "- r A B - r B A"],
@@ -349,7 +356,7 @@ fn settled_marks() -> Vec<Call> {
     let constants = |count: usize, more: &[&str]| {
         let mut names = vec!["a/0", "b/0", "c/0"];
         names.truncate(count);
-        sheet(&[&names, more].concat(), &["p/0"], &["+ p", "- p"])
+        sheet_of(&[&names, more].concat(), &["p/0"], &["+ p", "- p"])
     };
     let sheets = [
         (constants(0, &[]), 1, 1),
