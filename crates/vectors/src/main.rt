@@ -14,12 +14,28 @@ fn run_file(path: &[u8], operation: Operation) {
         os::fail(path);
         return;
     }
-    let mut stored = [0u8; 300000];
-    let length = io::read_full(file, &mut stored);
+    run_stored(file, operation);
     libc::close(file);
+}
+
+// The buffers stand apart from what is done with them: a proof of what is done then has no list of all their numbers in it.
+fn run_stored(file: i32, operation: Operation) {
+    let mut stored = [0u8; 300000];
     let mut work = [0u32; 65536];
     let mut output = [0u8; 65536];
-    runs::answer_all(operation, &stored[..length], &mut work, &mut output);
+    answer_file(file, operation, &mut stored, &mut work, &mut output);
+}
+
+// What the file holds, answered.
+fn answer_file(
+    file: i32,
+    operation: Operation,
+    stored: &mut [u8],
+    work: &mut [u32],
+    output: &mut [u8],
+) {
+    let length = io::read_full(file, stored);
+    runs::answer_all(operation, &stored[..length], work, output);
 }
 
 fn main() {
