@@ -63,8 +63,3 @@ instances-placed s g c h =
 -- so of every clause flattened
 pub instances-flattened : (s : ℕ) (g : Signature) (c : Clause) → instances s g (placed (flatten c)) ≡ instances s g (flatten c)
 instances-flattened s g c = instances-placed s g (flatten c) (flatten-scoped c)
-
--- it has as many variables
-pub variableCount-placed : (c : FlatClause) → variableCount (placed c) ≡ variableCount c
-unfolding placed variableCount
-variableCount-placed c = zero-add (length (c .owns) + c .news)

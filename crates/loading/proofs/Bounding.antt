@@ -23,10 +23,6 @@ pub record Bounding (v base : ℕ) (w₀ w : List ℕ) (a l : ℕ) : Type 0 wher
   pub front : (j : ℕ) → j < 2 * v → getD w j 0 ≡ getD w₀ j 0
   pub rest : (j : ℕ) → 2 * v + 2 * l ≤ j → getD w j 0 ≡ getD w₀ j 0
 
-pub bounding-start : (v base : ℕ) (w : List ℕ) → Bounding v base w w base 0
-bounding-start v base w =
-    record { turn = omega arith; long = refl; sum = omega arith; starts = λ x h. absurd (not-suc-le-zero h); ends = λ x h. absurd (not-suc-le-zero h); front = λ j h. refl; rest = λ j h. refl }
-
 module _ (v base : ℕ) (w₀ w : List ℕ) (a l : ℕ) (g : Bounding v base w₀ w a l) (size : 6 * v ≤ length w₀) (go : l < 2 * v) where
   abbrev at : ℕ
   at = 2 * v + 2 * l

@@ -1,5 +1,5 @@
 -- A clause with each literal once has the literals of the clause, none twice.
-use mathlib.Core.Path.{_≡_, refl, sym, ap, _∙_}
+use mathlib.Core.Path.{_≡_, refl, ap, _∙_}
 use mathlib.Core.Bool.{Bool, true, false, cond, _||_}
 use mathlib.Core.List.{List, [], _∷_}
 use Prim.Native.Nat.{ℕ, _/_, _≤_, _<_}
@@ -7,10 +7,8 @@ use native.Mathlib.Omega.{arith}
 use lib.Dec.{eqb}
 use lib.ListN.{length}
 use Rattle.theory.specs.Lists.{elem}
-use Rattle.theory.proofs.Tests.{eqb-true, or-right}
-use Rattle.theory.proofs.Lists.{elem-here}
+use Rattle.theory.proofs.Tests.{eqb-true}
 use Rattle.propagation.specs.Clauses.{Distinct, insert, once}
-use Rattle.propagation.specs.WorkArea.{Within}
 
 elem-insert : (x u : ℕ) (d : List ℕ) → elem x (insert u d) ≡ elem x (u ∷ d)
 elem-insert x u d = by (elem u d) refl (eqb x u) refl
@@ -40,10 +38,3 @@ once-length (u ∷ us) = by (elem u (once us)) (once-length us)
     by : (b : Bool) → length (once us) ≤ length us → length (cond b (once us) (u ∷ once us)) ≤ length (u ∷ us)
     by true h = omega arith
     by false h = omega arith
-
-within-elem : (v : ℕ) (d : List ℕ) → ((x : ℕ) → elem x d ≡ true → x / 2 < v) → Within v d
-within-elem v [] h = tt
-within-elem v (y ∷ ys) h = (h y (elem-here y ys), within-elem v ys (λ x e. h x (or-right (eqb x y) (elem x ys) e)))
-
-pub once-within : (v : ℕ) (us : List ℕ) → ((x : ℕ) → elem x us ≡ true → x / 2 < v) → Within v (once us)
-once-within v us h = within-elem v (once us) (λ x e. h x (sym (elem-once x us) ∙ e))

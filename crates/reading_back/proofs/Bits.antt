@@ -1,19 +1,18 @@
 -- The bits of a symbol's cells: those of the setting, or of a part of a search's values.
 use Prim.Native.Nat.{ℕ, zero, suc, _+_, _*_, _-_, _≤_}
 use mathlib.Core.Path.{_≡_, refl, sym, ap, _∙_}
-use mathlib.Core.Bool.{Bool, true, false, cond}
+use mathlib.Core.Bool.{Bool, cond}
 use mathlib.Core.List.{List, [], _∷_, _++_, map-append}
 use native.Mathlib.Nat.{suc-mul}
 use native.Mathlib.Omega.{arith}
 use borrow.Author.Tests.{eq-eqb, ne-eqb}
-use lib.Dec.{eqb, ltb}
+use lib.Dec.{eqb}
 use lib.ListN.{length, take, drop, replicate, length-map, length-drop, take-append-drop}
 use lib.Seq.{take-append-le, drop-append-le, length-take-le, take-at}
-use Rattle.theory.specs.Lists.{all}
 use Rattle.theory.specs.Syntax.{Kind}
 use Rattle.theory.specs.Propositional.{width}
 use Rattle.theory.specs.Valuation.{valueOf, valuesOf}
-use Rattle.theory.proofs.Lists.{map-drop, all-map, all-every}
+use Rattle.theory.proofs.Lists.{map-drop}
 use Rattle.valuations.specs.Cells.{settingOf}
 use Rattle.reading_back.specs.Bits.{bitsHeld}
 
@@ -32,13 +31,6 @@ setting-held setting = no-values setting [] refl
 
 pub length-settingOf : (values : List ℕ) → length (settingOf values) ≡ length values
 length-settingOf values = length-map values (λ z. cond (eqb z 1) 1 0)
-
-pub binary-settingOf : (values : List ℕ) → all (λ b. ltb b 2) (settingOf values) ≡ true
-binary-settingOf values = all-map (λ b. ltb b 2) (λ z. cond (eqb z 1) 1 0) values ∙ all-every (λ z. ltb (cond (eqb z 1) 1 0) 2) values (λ z. one-or-none (eqb z 1))
-  where
-    one-or-none : (b : Bool) → ltb (cond b 1 0) 2 ≡ true
-    one-or-none true = refl
-    one-or-none false = refl
 
 -- a callee that was lent the first n of a list leaves as many,
 pub part-length : (n : ℕ) (l : List ℕ) → n ≤ length l → length (take (n - 0) l) ≡ n

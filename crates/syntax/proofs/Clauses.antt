@@ -4,12 +4,11 @@ use mathlib.Core.Path.{_≡_, refl, sym, ap, _∙_}
 use mathlib.Core.Bool.{true}
 use mathlib.Core.Option.{some}
 use mathlib.Core.List.{List, [], _∷_, _++_}
-use lib.ListN.{length, getD, drop}
+use lib.ListN.{length}
 use Rattle.theory.specs.Lists.{all, concatMap, distinct}
 use Rattle.theory.specs.Syntax.{Signature, Term, variable, apply, Terms, empty, cons, Atom, equal, holds, Literal, Clause, count, termVariables, termsVariables, atomVariables, variables, clauseOk}
-use Rattle.theory.specs.Grammar.{Word, equals, termWords, termsWords, atomWords, clauseWords, Grammar, clause, grammar, readWords, clauseIf, readClause}
+use Rattle.theory.specs.Grammar.{Word, termWords, termsWords, atomWords, clauseWords, Grammar, clause, grammar, readWords, clauseIf, readClause}
 use Rattle.theory.proofs.Lists.{concatMap-append}
-use Rattle.theory.proofs.DueWords.{taken, DueAt, due-at, taken-read}
 use Rattle.theory.specs.Claims.Grammar.{isDeclared}
 use Rattle.theory.proofs.Grammar.{clause-passed, clause-read, readClause-sound}
 use Rattle.syntax.specs.declared.words.ClauseWords.{ClauseWords}
@@ -48,14 +47,6 @@ clause-letters (l ∷ c) =
 module _ (g : Signature) (w : ClauseWords) (h : IsClause g w) where
   pub declared : all (isDeclared g) (wordsIn w) ≡ true
   declared = known-declared g (wordsIn w) (h .known)
-
-  -- what is due at a place, and that it stands there
-  pub dueAt : (i : ℕ) → i ≤ length (wordsIn w) → DueAt g (wordsIn w) i
-  dueAt i l = due-at g (wordsIn w) declared (h .grammatical) i l
-
-  -- the words behind a word have the terms that it takes
-  pub takenRead : (i : ℕ) → i < length (wordsIn w) → taken g (getD (wordsIn w) i equals) ≤ count (readWords g (drop (suc i) (wordsIn w)) .terms)
-  takenRead i l = taken-read g (wordsIn w) declared (h .grammatical) i l
 
   -- they are read as that clause
   pub readClause-clauseIn : readClause g (wordsIn w) ≡ some (clauseIn g w)

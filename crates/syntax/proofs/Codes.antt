@@ -2,7 +2,7 @@
 use Prim.Native.Nat.{ℕ, _+_, _-_, _≤_, _<_}
 use mathlib.Core.Path.{_≡_, refl, sym, ap, _∙_}
 use mathlib.Core.Bool.{Bool, true, false, cond}
-use mathlib.Core.List.{List, [], _∷_, map}
+use mathlib.Core.List.{List, _∷_}
 use native.Mathlib.Omega.{arith}
 use lib.Dec.{eqb, ltb}
 use lib.ListN.{length, getD, take, length-map}
@@ -12,7 +12,7 @@ use Rattle.theory.specs.Lists.{all}
 use Rattle.theory.specs.Syntax.{Signature}
 use Rattle.theory.specs.Grammar.{Word, sign, equals, symbol, letter}
 use Rattle.theory.specs.Claims.Grammar.{isDeclared}
-use Rattle.theory.proofs.Tests.{ltb-true, ltb-false, eqb-true, and-left, and-right}
+use Rattle.theory.proofs.Tests.{ltb-true, ltb-false, eqb-true}
 use Rattle.theory.proofs.Lists.{all-imply, all-at, map-at}
 use Rattle.syntax.specs.declared.words.ClauseWords.{ClauseWords}
 use Rattle.syntax.specs.Codes.{codeOf, wordOf, wordsIn, isKnown}
@@ -73,13 +73,6 @@ module _ (g : Signature) (small : length g ≤ 24) where
 
   pub known-below : (n : ℕ) → isKnown g (wordOf n) ≡ true → n < 73
   known-below n h = omega (arith, codeOf-below (wordOf n) h, codeOf-wordOf n)
-
-  -- the words that codes of known words stand for
-  pub wordsOf-codes : (ws : List Word) → all (isKnown g) ws ≡ true → map wordOf (map codeOf ws) ≡ ws
-  wordsOf-codes [] h = refl
-  wordsOf-codes (w ∷ ws) h =
-      ap (λ (v : Word). v ∷ map wordOf (map codeOf ws)) (wordOf-codeOf w (and-left (isKnown g w) (all (isKnown g) ws) h))
-      ∙ ap (λ (l : List Word). w ∷ l) (wordsOf-codes ws (and-right (isKnown g w) (all (isKnown g) ws) h))
 
 -- a known word's symbol is declared
 pub known-declared : (g : Signature) (ws : List Word) → all (isKnown g) ws ≡ true → all (isDeclared g) ws ≡ true

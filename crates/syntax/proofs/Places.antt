@@ -130,9 +130,6 @@ module _ (xs : List ℕ) (v : Variables) (h : Places xs v) (x : ℕ) (l : x < 8)
   pub place-below : getD (v .place) x 0 < length xs
   place-below = placeThat-some (eqb x) xs (getD (v .place) x 0) 0 placed .0
 
-  pub place-is : getD xs (getD (v .place) x 0) 0 ≡ x
-  place-is = sym (eqb-true x (getD xs (getD (v .place) x 0) 0) (placeThat-some (eqb x) xs (getD (v .place) x 0) 0 placed .1))
-
   pub assign-placed : (values : List ℕ) → assign xs values x ≡ getD values (getD (v .place) x 0) 0
   assign-placed values = assign-place xs values x (getD (v .place) x 0) placed
 

@@ -1,7 +1,7 @@
 -- Laws of answers: going on with a result, and refusing.
 use Prim.Native.Nat.{ℕ}
 use mathlib.Core.Path.{_≡_, refl, ap, _∙_}
-use mathlib.Core.Logic.{_⊎_, inl, inr}
+use mathlib.Core.Logic.{_⊎_}
 use mathlib.Core.Bool.{Bool, true, false}
 use mathlib.Core.Option.{Option, none, some}
 use native.Mathlib.Omega.{arith}
@@ -12,10 +12,6 @@ answer-inj a b e = cc
 
 pub refused-inj : {A : Type 0} (r s : Refusal) → _≡_ {A = Answer A} (refused r) (refused s) → r ≡ s
 refused-inj r s e = cc
-
-pub answer-or-refused : {A : Type 0} (m : Answer A) → ((a : A) × (m ≡ answer a)) ⊎ ((r : Refusal) × (m ≡ refused r))
-answer-or-refused (answer a) = inl (a, refl)
-answer-or-refused (refused r) = inr (r, refl)
 
 pub answer≢refused : {A : Type 0} (a : A) (r : Refusal) → answer a ≡ refused r → ⊥
 answer≢refused a r e = let z : _≡_ {A = ℕ} 0 1 = cc in omega arith

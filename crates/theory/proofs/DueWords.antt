@@ -6,8 +6,7 @@ use mathlib.Core.Option.{Option, none, some, Option·some-injective}
 use mathlib.Core.List.{List, [], _∷_}
 use native.Mathlib.Nat.{add-zero, zero-add}
 use native.Mathlib.Omega.{arith}
-use lib.ListN.{length, getD, drop}
-use lib.Seq.{drop-cons}
+use lib.ListN.{length, drop}
 use Rattle.theory.specs.Lists.{all}
 use Rattle.theory.specs.Syntax.{Kind, function, predicate, Signature, symbolAt, Terms, empty, cons, count}
 use Rattle.theory.specs.Grammar.{Word, sign, equals, symbol, letter, Due, terms, atom, dueAfterFunction, dueAfterPredicate, dueAfter, Grammar, clause, misplaced, grammarFrom, grammar, dropTerms, readSymbol, readWords}
@@ -103,11 +102,3 @@ module _ (g : Signature) where
         let r = due-from ws 0 (terms 0) good i l in
         let h : grammarFrom g i (r .0) (drop i ws) ≡ clause = ap (λ (k : ℕ). grammarFrom g k (r .0) (drop i ws)) (sym (zero-add i)) ∙ r .1 in
         record { due = r .0; rest = h; read = words-read g (drop i ws) i (r .0) (all-drop (isDeclared g) i ws declared) h }
-
-    -- the words behind a word have the terms that it takes
-    pub taken-read : (i : ℕ) → i < length ws → taken g (getD ws i equals) ≤ count (readWords g (drop (suc i) ws) .terms)
-    taken-read i l =
-        let at = due-at i (omega arith) in
-        let p = word-passed (getD ws i equals) (drop (suc i) ws) i (at .due) (ap (grammarFrom g i (at .due)) (sym (drop-cons ws i equals l)) ∙ at .rest) in
-        taken-due (at .due) (p .0) (getD ws i equals) (drop (suc i) ws) (p .1)
-        (words-read g (drop (suc i) ws) (suc i) (p .0) (all-drop (isDeclared g) (suc i) ws declared) (p .2))

@@ -7,7 +7,7 @@ use mathlib.Core.List.{List, [], _∷_, _++_}
 use native.Mathlib.Omega.{arith}
 use lib.ListN.{length, getD}
 use Rattle.theory.specs.Lists.{any, all, firstThat, placeAt, placeThat}
-use Rattle.theory.proofs.Tests.{and-left, and-right, or-false-left, or-false-right}
+use Rattle.theory.proofs.Tests.{or-false-left, or-false-right}
 
 module _ {A : Type 0} where
   pub firstThat-some : (p : A → Bool) (xs : List A) (y : A) → firstThat p xs ≡ some y → p y ≡ true
@@ -17,15 +17,6 @@ module _ {A : Type 0} where
       go : (b : Bool) → p x ≡ b → _≡_ {A = Option A} (elim b [ true ↦ some x | false ↦ firstThat p xs ]) (some y) → (firstThat p xs ≡ some y → p y ≡ true) → p y ≡ true
       go true h k ih = ap p (sym (Option·some-injective x y k)) ∙ h
       go false h k ih = ih k
-
-  -- what holds of every element holds of the one found
-  pub firstThat-all : (p q : A → Bool) (xs : List A) (y : A) → firstThat p xs ≡ some y → all q xs ≡ true → q y ≡ true
-  firstThat-all p q [] y e h = cc
-  firstThat-all p q (x ∷ xs) y e h = go (p x) e (λ k. firstThat-all p q xs y k (and-right (q x) (all q xs) h))
-    where
-      go : (b : Bool) → _≡_ {A = Option A} (elim b [ true ↦ some x | false ↦ firstThat p xs ]) (some y) → (firstThat p xs ≡ some y → q y ≡ true) → q y ≡ true
-      go true k ih = ap q (sym (Option·some-injective x y k)) ∙ and-left (q x) (all q xs) h
-      go false k ih = ih k
 
   -- no element fails the test exactly if all pass it
   pub firstThat-none : (p : A → Bool) (xs : List A) → firstThat (λ x. not (p x)) xs ≡ none → all p xs ≡ true

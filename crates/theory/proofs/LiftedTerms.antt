@@ -4,14 +4,13 @@ use mathlib.Core.Path.{_≡_, refl, sym, ap, _∙_}
 use mathlib.Core.Bool.{Bool, true, false, cond, not, _&&_, _||_, false≢true}
 use mathlib.Core.Option.{Option, some}
 use mathlib.Core.List.{List, [], _∷_, _++_, map}
-use native.Mathlib.Omega.{arith}
 use lib.Dec.{eqb}
 use lib.ListN.{length, getD}
-use Rattle.theory.specs.Lists.{any, all, concatMap, placeAt, placeThat}
+use Rattle.theory.specs.Lists.{any, all, concatMap, placeThat}
 use Rattle.theory.specs.Syntax.{Term, variable, apply, Terms, empty, cons, Atom, equal, holds, Literal, Clause}
 use Rattle.theory.specs.Flattening.{turnedAtom, turned, functionTerms, allFunctionTerms, toLift, sameTerm, sameTerms, addTerm, addTerms, liftedTerms, new, placeOr0, variableFor}
 use Rattle.theory.proofs.Tests.{eqb-true, eqb-same, not-true, both-false, false-of-not, and-left, and-right, and-join, or-left, or-right, or-false-left, or-false-right, or-false-join}
-use Rattle.theory.proofs.Lists.{any-append, any-at, all-append, all-at, all-imply, all-every, all-map, all-concatMap}
+use Rattle.theory.proofs.Lists.{any-append, all-append, all-imply, all-map, all-concatMap}
 use Rattle.theory.proofs.Finding.{placeThat-some, any→placeThat}
 
 -- the test of two terms is their equality
@@ -216,16 +215,6 @@ mutual
       all-append isApply (functionTerms t) (allFunctionTerms ts)
       ∙ and-join (all isApply (functionTerms t)) (all isApply (allFunctionTerms ts)) (functionTerms-apply t) (allFunctionTerms-apply ts)
 
-toLift-apply : (a : Atom) → all isApply (toLift a) ≡ true
-toLift-apply (equal (variable x) u) = refl
-toLift-apply (equal (apply f ts) u) =
-    all-append isApply (allFunctionTerms ts) (functionTerms u)
-    ∙ and-join (all isApply (allFunctionTerms ts)) (all isApply (functionTerms u)) (allFunctionTerms-apply ts) (functionTerms-apply u)
-toLift-apply (holds p ts) = allFunctionTerms-apply ts
-
-pub liftedTerms-apply : (c : Clause) → all isApply (liftedTerms c) ≡ true
-liftedTerms-apply c = liftedTerms-all isApply c (all-every (λ (l : Literal). all isApply (toLift (l .atom))) c (λ l. toLift-apply (l .atom)))
-
 -- Lifted terms are pairwise different.
 abbrev pub different : List Term → Bool
 different [] = true
@@ -249,27 +238,3 @@ addTerms-different found (t ∷ ts) h = addTerms-different (addTerm found t) ts 
     go : (b : Bool) → among found t ≡ b → different (cond b found (found ++ (t ∷ []))) ≡ true
     go true e = h
     go false e = different-snoc found t e h
-
-pub liftedTerms-different : (c : Clause) → different (liftedTerms c) ≡ true
-unfolding liftedTerms
-liftedTerms-different c = addTerms-different [] (concatMap (λ (l : Literal). toLift (l .atom)) c) refl
-
--- each of pairwise different terms is found at its own place
-pub different-place : (ts : List Term) (i : ℕ) → different ts ≡ true → i < length ts → placeThat (sameTerm (getD ts i (variable 0))) ts ≡ some i
-different-place [] i h l = absurd (omega arith)
-different-place (t ∷ ts) zero h l = ap (λ (b : Bool). placeAt b (placeThat (sameTerm t) ts)) (sameTerm-same t)
-different-place (t ∷ ts) (suc i) h l =
-    let u : Term = getD ts i (variable 0) in
-    let a : among ts t ≡ false = false-of-not (among ts t) (and-left (not (among ts t)) (different ts) h) in
-    let b : sameTerm u t ≡ false = not-true (sameTerm u t) (λ e. both-false (ap (among ts) (sym (sameTerm-true u t e)) ∙ any-at (sameTerm u) (variable 0) ts i (omega arith) (sameTerm-same u)) a) in
-    ap (λ (b : Bool). placeAt b (placeThat (sameTerm u) ts)) b
-    ∙ ap (placeAt false) (different-place ts i (and-right (not (among ts t)) (different ts) h) (omega arith))
-
--- new variable i stands for the i-th lifted term
-pub variableFor-lifted : (c : Clause) (i : ℕ) → i < length (liftedTerms c) → variableFor (liftedTerms c) (getD (liftedTerms c) i (variable 0)) ≡ new i
-variableFor-lifted c i l =
-    go (getD (liftedTerms c) i (variable 0)) (all-at isApply (variable 0) (liftedTerms c) i (liftedTerms-apply c) l) (different-place (liftedTerms c) i (liftedTerms-different c) l)
-  where
-    go : (t : Term) → isApply t ≡ true → placeThat (sameTerm t) (liftedTerms c) ≡ some i → variableFor (liftedTerms c) t ≡ new i
-    go (variable x) h e = absurd (false≢true h)
-    go (apply f ts) h e = ap (λ (o : Option ℕ). new (placeOr0 o)) e

@@ -3,62 +3,25 @@ use Prim.Native.Nat.{ℕ, suc, _+_, _*_, _≤_, _<_}
 use mathlib.Core.Path.{_≡_, refl, sym, ap, _∙_}
 use mathlib.Core.Bool.{Bool, true, _&&_}
 use mathlib.Core.List.{List, [], _∷_, map}
-use native.Mathlib.Nat.{le-trans, pow-le-pow-left, pow-le-pow-right, mul-le-mul}
+use native.Mathlib.Nat.{le-trans, pow-le-pow-left, pow-le-pow-right}
 use native.Mathlib.Omega.{arith}
 use lib.Dec.{ltb, leb}
 use lib.ListN.{length, getD, length-append, length-map}
-use Rattle.theory.specs.Lists.{all, sum}
-use Rattle.theory.specs.Syntax.{isFunction, isPredicate, Symbol, Signature, Term, Clause, variables, clauseOk}
-use Rattle.theory.specs.Cells.{tableSize, cellCount}
-use Rattle.theory.specs.Propositional.{width, blockSize, propCount}
+use Rattle.theory.specs.Lists.{all}
+use Rattle.theory.specs.Syntax.{Symbol, Signature, Term, Clause, variables, clauseOk}
+use Rattle.theory.specs.Cells.{tableSize}
 use Rattle.theory.specs.Grammar.{clauseWords}
 use Rattle.theory.specs.Flattening.{merged, turned, liftedTerms, shallow, definitions, flatten, variableCount}
 use Rattle.theory.specs.Problem.{isName, withinLimits, Problem}
 use Rattle.theory.proofs.Tests.{leb-true, and-left, and-right}
-use Rattle.theory.proofs.Lists.{all-append, all-at, all-and, sum-map-append, sum-within}
-use Rattle.theory.proofs.Declared.{function-kind, predicate-kind}
+use Rattle.theory.proofs.Lists.{all-at}
 use Rattle.theory.proofs.Letters.{variablesPass, clause-letters, variables-pass, merged-passes, merged-length}
-use Rattle.theory.proofs.Parsing.{symbolOk, isLetter, clauseAccepted, WellFormed, at-most-24}
+use Rattle.theory.proofs.Parsing.{symbolOk, isLetter, clauseAccepted, WellFormed}
 
 -- a symbol has at most 512 cells
 pub tableSize-within : (s : ℕ) (f : Symbol) → s ≤ 8 → symbolOk f ≡ true → tableSize s f ≤ 512
 tableSize-within s f le h =
     le-trans (pow-le-pow-left le (f .arity)) (pow-le-pow-right (omega arith) (leb-true (f .arity) 3 (and-left (leb (f .arity) 3) (isName (f .name)) h)))
-
--- a problem has at most 12,288 cells
-pub cellCount-within : (p : Problem) (s : ℕ) → WellFormed p → s ≤ 8 → cellCount s (p .symbols) ≤ 12288
-cellCount-within p s w le = omega (arith, at-most-24 p w, sum-within (tableSize s) symbolOk 512 (p .symbols) (λ f. tableSize-within s f le) (w .symbols-ok))
-
-function-block : (s : ℕ) (f : Symbol) → s ≤ 8 → (isFunction (f .kind) && symbolOk f) ≡ true → blockSize s f ≤ 4096
-function-block s f le h =
-    let e : width s (f .kind) ≡ s = ap (width s) (function-kind (f .kind) (and-left (isFunction (f .kind)) (symbolOk f) h)) in
-    let t : tableSize s f ≤ 512 = tableSize-within s f le (and-right (isFunction (f .kind)) (symbolOk f) h) in
-    omega (arith, ap (λ (n : ℕ). tableSize s f * n) e, mul-le-mul {n₁ = tableSize s f} {m₁ = s} {n₂ = 512} {m₂ = 8} t le)
-
-predicate-block : (s : ℕ) (f : Symbol) → s ≤ 8 → (isPredicate (f .kind) && symbolOk f) ≡ true → blockSize s f ≤ 512
-predicate-block s f le h =
-    let e : width s (f .kind) ≡ 1 = ap (width s) (predicate-kind (f .kind) (and-left (isPredicate (f .kind)) (symbolOk f) h)) in
-    let t : tableSize s f ≤ 512 = tableSize-within s f le (and-right (isPredicate (f .kind)) (symbolOk f) h) in
-    omega (arith, ap (λ (n : ℕ). tableSize s f * n) e)
-
--- a problem has at most 55,296 propositional variables
-pub propCount-within : (p : Problem) (s : ℕ) → WellFormed p → s ≤ 8 → propCount s (p .symbols) ≤ 55296
-unfolding propCount
-propCount-within p s w le =
-    let fs : List Symbol = w .functions in
-    let ps : List Symbol = w .predicates in
-    let ok : (all symbolOk fs && all symbolOk ps) ≡ true = sym (all-append symbolOk fs ps) ∙ ap (all symbolOk) (sym (w .split)) ∙ w .symbols-ok in
-    omega (
-      arith,
-      ap (λ (g : Signature). sum (map (blockSize s) g)) (w .split),
-      sum-map-append (blockSize s) fs ps,
-      w .function-count,
-      w .predicate-count,
-      sum-within (blockSize s) (λ (f : Symbol). isFunction (f .kind) && symbolOk f) 4096 fs (λ f. function-block s f le)
-          (all-and (λ (f : Symbol). isFunction (f .kind)) symbolOk fs (w .function-kinds) (and-left (all symbolOk fs) (all symbolOk ps) ok)),
-      sum-within (blockSize s) (λ (f : Symbol). isPredicate (f .kind) && symbolOk f) 512 ps (λ f. predicate-block s f le)
-          (all-and (λ (f : Symbol). isPredicate (f .kind)) symbolOk ps (w .predicate-kinds) (and-right (all symbolOk fs) (all symbolOk ps) ok)),
-    )
 
 definitions-length : (lifted : List Term) (i : ℕ) (ts : List Term) → length (definitions lifted i ts) ≡ length ts
 definitions-length lifted i [] = refl

@@ -222,9 +222,6 @@ map-at f (x ∷ xs) (suc i) d e h = map-at f xs i d e (omega arith)
 pub getD-map : (f : ℕ → ℕ) (xs : List ℕ) (i : ℕ) → i < length xs → getD (map f xs) i 0 ≡ f (getD xs i 0)
 getD-map f xs i h = map-at f xs i 0 0 h
 
-pub getD-map-upTo : (f : ℕ → ℕ) (n i : ℕ) → i < n → getD (map f (upTo n)) i 0 ≡ f i
-getD-map-upTo f n i h = getD-map f (upTo n) i (omega (arith, length-upFrom 0 n)) ∙ ap f (getD-upFrom 0 n i h ∙ zero-add i)
-
 pub all-getD : (p : ℕ → Bool) (xs : List ℕ) (i : ℕ) → all p xs ≡ true → i < length xs → p (getD xs i 0) ≡ true
 all-getD p xs i h k = all-at p 0 xs i h k
 

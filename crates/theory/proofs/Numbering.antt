@@ -18,7 +18,7 @@ use Rattle.theory.specs.Propositional.{width, blockSize, propCount, prop
 use Rattle.theory.specs.Claims.Numbering.{allCells, allPropVariables, Numbering}
 use Rattle.theory.proofs.Tests.{true-or-false, ltb-true, ltb-false}
 use Rattle.theory.proofs.Lists.{map-concatMap, concatMap-cong, concatMap-shift, concatMap-map, map-cong, map-add-upFrom, upFrom-append, blocks, sum-map-append}
-use Rattle.theory.proofs.Vectors.{rank-lt, rank-inj, rank-vectors}
+use Rattle.theory.proofs.Vectors.{rank-lt, rank-vectors}
 
 -- Each symbol has a row of so many numbers, and the rows lie one after the other.
 module _ (size : Symbol → ℕ) where
@@ -35,16 +35,6 @@ module _ (size : Symbol → ℕ) where
   row-below [] i r h k = absurd (omega arith)
   row-below (f ∷ g) zero r h k = omega arith
   row-below (f ∷ g) (suc i) r h k = omega (arith, row-below g i r (omega arith) k)
-
-  row-injective : (g : Signature) (i j r q : ℕ) → i < length g → j < length g → r < size (symbolAt g i) → q < size (symbolAt g j)
-      → before g i + r ≡ before g j + q → (i ≡ j) × (r ≡ q)
-  row-injective [] i j r q hi hj hr hq e = absurd (omega arith)
-  row-injective (f ∷ g) zero zero r q hi hj hr hq e = (refl, omega arith)
-  row-injective (f ∷ g) zero (suc j) r q hi hj hr hq e = absurd (omega arith)
-  row-injective (f ∷ g) (suc i) zero r q hi hj hr hq e = absurd (omega arith)
-  row-injective (f ∷ g) (suc i) (suc j) r q hi hj hr hq e =
-      let ih = row-injective g i j r q (omega arith) (omega arith) hr hq (omega arith) in
-      (ap suc (ih .0), ih .1)
 
   row-found : (g : Signature) (n : ℕ) → n < sum (map size g) → (i : ℕ) × (r : ℕ) × (i < length g) × (r < size (symbolAt g i)) × (n ≡ before g i + r)
   row-found [] n h = absurd (omega arith)
@@ -232,10 +222,3 @@ module _ (s : ℕ) (g : Signature) (i : ℕ) (v : List ℕ) (h : i < length g) (
 
   pub propVariable-within : (d : ℕ) → d < width s (symbolAt g i .kind) → propVariable s g i v d ≤ propCount s g
   propVariable-within d k = omega (arith, variable-within s g i (rank s v) d h (rank-below s (symbolAt g i) v e b) k)
-
--- cells of different symbols or arguments differ
-pub cell-injective : (s : ℕ) (g : Signature) (i j : ℕ) (u v : List ℕ) → i < length g → j < length g
-    → length u ≡ symbolAt g i .arity → length v ≡ symbolAt g j .arity → AllBelow s u → AllBelow s v → cell s g i u ≡ cell s g j v → (i ≡ j) × (u ≡ v)
-cell-injective s g i j u v hi hj eu ev bu bv e =
-    let r = row-injective (tableSize s) g i j (rank s u) (rank s v) hi hj (rank-below s (symbolAt g i) u eu bu) (rank-below s (symbolAt g j) v ev bv) e in
-    (r .0, rank-inj s u v (eu ∙ ap (λ (k : ℕ). symbolAt g k .arity) (r .0) ∙ sym ev) bu bv (r .1))

@@ -2,14 +2,14 @@
 use Prim.Native.Nat.{ℕ, zero, suc, _+_, _-_, _≤_, _<_}
 use mathlib.Core.Path.{_≡_, refl, sym, ap, _∙_, subst}
 use mathlib.Core.Logic.{_⊎_, inl, inr}
-use mathlib.Core.Bool.{Bool, true, false, cond, not, _&&_, false≢true}
+use mathlib.Core.Bool.{Bool, true, false, cond, not, _&&_}
 use mathlib.Core.Option.{Option, none, some, Option·some-injective}
 use mathlib.Core.List.{List, [], _∷_, _++_, append-assoc, append-nil}
 use native.Mathlib.Omega.{arith}
 use lib.Dec.{eqb, ltb, leb}
-use lib.ListN.{length, getD, take, length-append, List·getD-append, List·getD-eq-default}
-use lib.Seq.{getD-append-seam, getD-append-add}
-use Rattle.theory.specs.Lists.{all, select, same, prefix}
+use lib.ListN.{length, getD, take, length-append, List·getD-append}
+use lib.Seq.{getD-append-seam}
+use Rattle.theory.specs.Lists.{all, same, prefix}
 use Rattle.theory.specs.Bytes.{bytes, zeroDigit, isDigit}
 use Rattle.theory.specs.Lines.{Cut, wordsOf}
 use Rattle.theory.specs.Syntax.{Kind, function, predicate, isFunction, isPredicate, Symbol, Signature, noSymbol, symbolAt, Clause, clauseOk}
@@ -19,11 +19,10 @@ use Rattle.theory.specs.Problem.{countLine, isNameByte, isName, symbolOf
 use Rattle.theory.specs.Least.{functions}
 use Rattle.theory.specs.Claims.Grammar.{isDeclared}
 use Rattle.theory.proofs.Tests.{both-false, false-of-not, lt-or-eq-or-gt, leb-true, ltb-true, ltb-of-<, and-left, and-right, and-join}
-use Rattle.theory.proofs.Lists.{all-append, all-imply, all-at, any-at, same-refl, select-append, select-all, select-none}
+use Rattle.theory.proofs.Lists.{all-append, all-imply, all-at, any-at, same-refl}
 use Rattle.theory.proofs.Answers.{unbind, answer-inj, check-true, orRefuse-some}
-use Rattle.theory.proofs.Letters.{letterPasses, variablesPass, clause-letters}
+use Rattle.theory.proofs.Letters.{letterPasses}
 use Rattle.theory.proofs.Names.{NamesDiffer, name-without, named-place}
-use Rattle.theory.proofs.Declared.{function-kind, predicate-kind}
 use Rattle.theory.proofs.Grammar.{readClause-sound}
 
 -- the two kinds are the same
@@ -270,14 +269,6 @@ pub readProblem-bytes : (text : List ℕ) (p : Problem) → readProblem text ≡
 unfolding readProblem
 readProblem-bytes text p e = unbind _ _ p e λ (u : Unit {0}) h _. leb-true (length text) 16384 (check-true (leb (length text) 16384) (unplaced 1) u h)
 
-not-function : (k : Kind) → isPredicate k ≡ true → isFunction k ≡ false
-not-function function h = absurd (false≢true h)
-not-function predicate h = refl
-
-not-predicate : (k : Kind) → isFunction k ≡ true → isPredicate k ≡ false
-not-predicate function h = refl
-not-predicate predicate h = absurd (false≢true h)
-
 module _ (p : Problem) (w : WellFormed p) where
   abbrev g : Signature
   g = p .symbols
@@ -288,73 +279,17 @@ module _ (p : Problem) (w : WellFormed p) where
   pub at-most-24 : length g ≤ 24
   at-most-24 = omega (arith, symbol-count, w .function-count, w .predicate-count)
 
-  pub functions-are : functions g ≡ w .functions
-  functions-are =
-      let q : Symbol → Bool = λ (f : Symbol). isFunction (f .kind) in
-      let none-of : all (λ (f : Symbol). not (q f)) (w .predicates) ≡ true =
-      all-imply (λ (f : Symbol). isPredicate (f .kind)) (λ (f : Symbol). not (q f)) (w .predicates) (λ f h. ap not (not-function (f .kind) h)) (w .predicate-kinds) in
-      ap (select q) (w .split) ∙ select-append q (w .functions) (w .predicates)
-      ∙ ap (λ (l : List Symbol). l ++ select q (w .predicates)) (select-all q (w .functions) (w .function-kinds))
-      ∙ ap (λ (l : List Symbol). w .functions ++ l) (select-none q (w .predicates) none-of) ∙ append-nil (w .functions)
-
-  pub predicates-are : select (λ (f : Symbol). isPredicate (f .kind)) g ≡ w .predicates
-  predicates-are =
-      let q : Symbol → Bool = λ (f : Symbol). isPredicate (f .kind) in
-      let none-of : all (λ (f : Symbol). not (q f)) (w .functions) ≡ true =
-      all-imply (λ (f : Symbol). isFunction (f .kind)) (λ (f : Symbol). not (q f)) (w .functions) (λ f h. ap not (not-predicate (f .kind) h)) (w .function-kinds) in
-      ap (select q) (w .split) ∙ select-append q (w .functions) (w .predicates)
-      ∙ ap (λ (l : List Symbol). l ++ select q (w .predicates)) (select-none q (w .functions) none-of) ∙ select-all q (w .predicates) (w .predicate-kinds)
-
   -- the symbol at a place: its arity, its name, and its kind by its place
   pub arity-at : (i : ℕ) → i < length g → symbolAt g i .arity ≤ 3
   arity-at i lt = let f : Symbol = symbolAt g i in leb-true (f .arity) 3 (and-left (leb (f .arity) 3) (isName (f .name)) (all-at symbolOk noSymbol g i (w .symbols-ok) lt))
-
-  pub name-at : (i : ℕ) → i < length g → isName (symbolAt g i .name) ≡ true
-  name-at i lt = let f : Symbol = symbolAt g i in and-right (leb (f .arity) 3) (isName (f .name)) (all-at symbolOk noSymbol g i (w .symbols-ok) lt)
 
   -- a byte that is no name byte, as LF, space and =, is in no name
   pub names-without : (x : ℕ) → isNameByte x ≡ false → all (λ (f : Symbol). all (λ b. not (eqb b x)) (f .name)) g ≡ true
   names-without x h =
       all-imply symbolOk (λ (f : Symbol). all (λ b. not (eqb b x)) (f .name)) g (λ f k. name-without x (f .name) h (and-right (leb (f .arity) 3) (isName (f .name)) k)) (w .symbols-ok)
 
-  pub function-at : (i : ℕ) → i < length (w .functions) → symbolAt g i .kind ≡ function
-  function-at i lt =
-      function-kind (symbolAt g i .kind)
-      (ap (λ (l : List Symbol). isFunction (symbolAt l i .kind)) (w .split)
-      ∙ ap (λ (f : Symbol). isFunction (f .kind)) (List·getD-append (w .functions) (w .predicates) noSymbol i lt)
-      ∙ all-at (λ (f : Symbol). isFunction (f .kind)) noSymbol (w .functions) i (w .function-kinds) lt)
-
-  pub predicate-at : (i : ℕ) → length (w .functions) ≤ i → symbolAt g i .kind ≡ predicate
-  predicate-at i le = go (lt-or-eq-or-gt (i - length (w .functions)) (length (w .predicates)))
-    where
-      e : i ≡ length (w .functions) + (i - length (w .functions))
-      e = omega arith
-
-      at : symbolAt g i ≡ symbolAt (w .predicates) (i - length (w .functions))
-      at = ap (λ (l : List Symbol). symbolAt l i) (w .split) ∙ ap (symbolAt (w .functions ++ w .predicates)) e ∙ getD-append-add (w .functions) (w .predicates) (i - length (w .functions)) noSymbol
-
-      past : length (w .predicates) ≤ i - length (w .functions) → symbolAt g i .kind ≡ predicate
-      past h = ap (λ (f : Symbol). f .kind) (at ∙ List·getD-eq-default (w .predicates) noSymbol h)
-
-      go : (i - length (w .functions) < length (w .predicates)) ⊎ ((i - length (w .functions) ≡ length (w .predicates)) ⊎ (length (w .predicates) < i - length (w .functions)))
-          → symbolAt g i .kind ≡ predicate
-      go (inl lt) = predicate-kind (symbolAt g i .kind)
-          (ap (λ (f : Symbol). isPredicate (f .kind)) at ∙ all-at (λ (f : Symbol). isPredicate (f .kind)) noSymbol (w .predicates) (i - length (w .functions)) (w .predicate-kinds) lt)
-      go (inr (inl q)) = past (omega arith)
-      go (inr (inr q)) = past (omega arith)
-
   -- every clause: over the signature, within the limits, with letters A to H
   pub clauses-ok : all (clauseOk g) (p .clauses) ≡ true
   clauses-ok =
       all-imply (clauseAccepted g) (clauseOk g) (p .clauses)
       (λ c h. and-left (clauseOk g c) (withinLimits (clauseWords c) c) (and-left (clauseOk g c && withinLimits (clauseWords c) c) (all isLetter (clauseWords c)) h)) (w .clauses-accepted)
-
-  pub clauses-limited : all (λ c. withinLimits (clauseWords c) c) (p .clauses) ≡ true
-  clauses-limited =
-      all-imply (clauseAccepted g) (λ c. withinLimits (clauseWords c) c) (p .clauses)
-      (λ c h. and-right (clauseOk g c) (withinLimits (clauseWords c) c) (and-left (clauseOk g c && withinLimits (clauseWords c) c) (all isLetter (clauseWords c)) h)) (w .clauses-accepted)
-
-  pub clauses-lettered : all (variablesPass (λ x. ltb x 8)) (p .clauses) ≡ true
-  clauses-lettered =
-      all-imply (clauseAccepted g) (variablesPass (λ x. ltb x 8)) (p .clauses)
-      (λ c h. sym (clause-letters (λ x. ltb x 8) c) ∙ and-right (clauseOk g c && withinLimits (clauseWords c) c) (all isLetter (clauseWords c)) h) (w .clauses-accepted)

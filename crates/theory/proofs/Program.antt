@@ -7,11 +7,11 @@ use mathlib.Core.Option.{Option, none, some}
 use mathlib.Core.List.{List, [], _∷_, _++_, append-assoc}
 use native.Mathlib.Omega.{arith}
 use lib.Dec.{eqb, leb, ltb}
-use lib.ListN.{length, take, drop, take-append-drop, length-append, length-take}
+use lib.ListN.{length, take, drop, take-append-drop}
 use lib.Seq.{take-all, take-append-add, length-take-le}
 use Rattle.theory.specs.Lists.{all}
 use Rattle.theory.specs.Bytes.{bytes, LF, zeroDigit, isDigit}
-use Rattle.theory.specs.Lines.{Cut, cutLine, afterKey}
+use Rattle.theory.specs.Lines.{cutLine, afterKey}
 use Rattle.theory.specs.Refusals.{Refusal, Answer, answer, refused, unplaced, needing, _>>=_, check}
 use Rattle.theory.specs.PropClauses.{instanceCount, workNeeded}
 use Rattle.theory.specs.Problem.{Problem, maxBytes, readProblem}
@@ -154,7 +154,7 @@ reads-enough none (some i) input e f =
 
 -- a refusal with another number
 other : (r : Refusal) → OfSheet r → r .number ≡ 11 → ⊥
-other r h n = let z : leb 11 7 ≡ true = ap (λ (k : ℕ). leb k 7) (sym n) ∙ h in false≢true z
+other r h n = let z : leb 11 7 ≡ true = ap (λ (k : ℕ). leb k 7) (sym n) ∙ h .number in false≢true z
 
 -- a check that refuses with another number, and what follows it
 passed : {B C : Type 0} (b : Bool) (q : Refusal) (k : Unit {0} → Answer B) (r : Refusal) → (check b q >>= k) ≡ refused r → eqb (q .number) 11 ≡ false → r .number ≡ 11

@@ -6,7 +6,7 @@ use mathlib.Core.Option.{Option, none, some, Option·some-injective}
 use mathlib.Core.List.{List, [], _∷_, _++_, map, append-nil}
 use native.Mathlib.Nat.{add-zero, zero-add}
 use native.Mathlib.Omega.{arith}
-use lib.Dec.{eqb, ltb}
+use lib.Dec.{eqb}
 use lib.ListN.{length, getD, length-map}
 use Rattle.theory.specs.Lists.{all, concatMap, elem, placeAt, placeThat}
 use Rattle.theory.specs.Vectors.{vectors, AllBelow}
@@ -14,10 +14,10 @@ use Rattle.theory.specs.Syntax.{Term, variable, apply, Terms, empty, con
 use Rattle.theory.specs.Truth.{Interpretation, Assignment, value, values, atomTrue, literalTrue, clauseTrue, assign, failingChoice, Failure, firstFailure, noFailure}
 use Rattle.theory.specs.Cells.{interpretation, judged, isModel}
 use Rattle.theory.specs.Claims.Truth.{Valid, AllValid, Truth}
-use Rattle.theory.proofs.Tests.{eqb-true, eqb-same, eqb-of-≡, and-left, and-right, and-join, or-left, or-right, not-true, false-of-not}
+use Rattle.theory.proofs.Tests.{eqb-true, eqb-same, and-left, and-right, and-join, or-left, or-right, not-true, false-of-not}
 use Rattle.theory.proofs.Lists.{elem-append, elem-distinct}
-use Rattle.theory.proofs.Vectors.{all-vectors, vectors-all, allBelow-map, all→AllBelow, AllBelow→all}
-use Rattle.theory.proofs.Finding.{firstThat-some, firstThat-all, firstThat-none, none-firstThat}
+use Rattle.theory.proofs.Vectors.{all-vectors, vectors-all, allBelow-map}
+use Rattle.theory.proofs.Finding.{firstThat-some, firstThat-none, none-firstThat}
 
 -- two assignments agree on the variables xs
 abbrev pub Agree : Assignment → Assignment → List ℕ → Type 0
@@ -136,16 +136,6 @@ module _ (I : Interpretation) (s : ℕ) where
   pub failingChoice-false : (c : Clause) (v : List ℕ) → failingChoice I s c ≡ some v → clauseTrue I (assign (variables c) v) c ≡ false
   failingChoice-false c v e =
       false-of-not (clauseTrue I (assign (variables c) v) c) (firstThat-some (λ v. not (clauseTrue I (assign (variables c) v) c)) (vectors s (length (variables c))) v e)
-
-  -- a failing choice has an element for each variable
-  pub failingChoice-below : (c : Clause) (v : List ℕ) → failingChoice I s c ≡ some v → (length v ≡ length (variables c)) × AllBelow s v
-  failingChoice-below c v e =
-      let k : ℕ = length (variables c) in
-      let q : List ℕ → Bool = λ v. eqb (length v) k && all (λ d. ltb d s) v in
-      let h : q v ≡ true =
-      firstThat-all (λ v. not (clauseTrue I (assign (variables c) v) c)) q (vectors s k) v e
-      (vectors-all s k q (λ v l b. and-join (eqb (length v) k) (all (λ d. ltb d s) v) (eqb-of-≡ (length v) k l) (AllBelow→all s v b))) in
-      (eqb-true (length v) k (and-left (eqb (length v) k) (all (λ d. ltb d s) v) h), all→AllBelow s v (and-right (eqb (length v) k) (all (λ d. ltb d s) v) h))
 
   pub isValid-false : (c : Clause) (v : List ℕ) → failingChoice I s c ≡ some v → isValid I s c ≡ false
   isValid-false c v e = not-true (isValid I s c) (λ h. go (sym (none-failingChoice c h) ∙ e))
