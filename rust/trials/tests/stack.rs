@@ -1,0 +1,45 @@
+//! Every call does with 192 kB of stack, also on the deepest terms that a clause of 64 words has.
+
+use nesskettle::{find, judge, read, read_back, write, Reason};
+use nesskettle_reference::sheet_of;
+
+const STACK: usize = 192 * 1024;
+
+/// A clause of one predicate at `depth` functions, one inside the other.
+fn nested(depth: usize) -> Vec<u8> {
+    let clause = format!("+ p {}A", "f ".repeat(depth));
+    sheet_of(&["f/1"], &["p/1"], &[&clause])
+}
+
+/// Runs on a small stack: a call that needs more ends the test.
+fn on_a_small_stack(run: impl FnOnce() + Send + 'static) {
+    let thread = std::thread::Builder::new().stack_size(STACK).spawn(run);
+    thread.expect("a thread starts").join().expect("it ends");
+}
+
+#[test]
+fn the_deepest_terms_are_refused() {
+    let sheet = nested(61);
+    on_a_small_stack(move || {
+        let mut output = vec![0; 1000];
+        let mut work = vec![0; 1000];
+        assert_eq!(read(&sheet).unwrap_err().reason, Reason::ClauseTooLarge);
+        assert_eq!(judge(&sheet, b"").unwrap_err().reason, Reason::ClauseTooLarge);
+        assert_eq!(write(&sheet, 2, &mut output).unwrap_err().reason, Reason::ClauseTooLarge);
+        assert_eq!(read_back(&sheet, 2, b"", &mut output).unwrap_err().reason, Reason::ClauseTooLarge);
+        assert_eq!(find(&sheet, 1, 2, &mut work, &mut output).unwrap_err().reason, Reason::ClauseTooLarge);
+    });
+}
+
+#[test]
+fn the_deepest_terms_are_taken() {
+    let sheet = nested(9);
+    on_a_small_stack(move || {
+        let mut output = vec![0; 1_000_000];
+        let mut work = vec![0; 1_000_000];
+        assert_eq!(judge(&sheet, b"case=1\nsize=2\nf=1 2\np=0 1\n"), Ok(false));
+        assert!(write(&sheet, 2, &mut output).is_ok());
+        assert!(read_back(&sheet, 1, &[1, 1], &mut output).is_ok());
+        assert!(find(&sheet, 1, 2, &mut work, &mut output).is_ok());
+    });
+}
