@@ -44,12 +44,12 @@ tableLineIn case l vs (Next after) = answer (vs, drop after case)
 tableLineIn case l vs Fault = refused (atLine 12 l)
 
 -- the next line starts within n bytes
-abbrev pub NextWithin : ℕ → TableLine → Type 0
-NextWithin n (Next after) = after ≤ n
-NextWithin n Fault = Unit {0}
+abbrev pub NextTableWithin : ℕ → TableLine → Type 0
+NextTableWithin n (Next after) = after ≤ n
+NextTableWithin n Fault = Unit {0}
 
 -- r is what the symbol's line from `at` on is read to
 pub record TableRead (s : ℕ) (f : Symbol) (case : List ℕ) (at base : ℕ) (cells cells′ : List ℕ) (r : TableLine) : Type 0 where
   pub read : (l : ℕ) → tableLineIn case l (take (tableSize s f) (drop base cells′)) r ≡ readTable s f l (drop at case)
   pub front : take base cells′ ≡ take base cells
-  pub within : NextWithin (length case) r
+  pub within : NextTableWithin (length case) r

@@ -15,14 +15,14 @@ use Rattle.theory.specs.Grammar.{Word, equals, symbol, letter, terms, atom, Due
 use Rattle.theory.proofs.Tests.{or-cases, and-left}
 use Rattle.syntax.specs.declared.signature.Signature.{Signature}
 use Rattle.syntax.specs.Signatures.{kindOf, signatureIn}
-use Rattle.syntax.specs.Codes.{wordOf}
+use Rattle.syntax.specs.Codes.{codeWord}
 use Rattle.syntax.proofs.Codes.{wordOf-symbol, wordOf-letter}
 use Rattle.clauses.specs.Names.{Limited}
 use Rattle.clauses.specs.Words.{isFixed, isCode}
 use Rattle.clauses.proofs.Held.{blank, symbolAt-signatureIn}
 
 -- where nothing is due, no word but a sign can stand
-pub no-sign : (g : theory.Signature) (c : ℕ) → (c ≡ 43 → ⊥) → (c ≡ 45 → ⊥) → none ≡ dueAfter g (terms 0) (wordOf c)
+pub no-sign : (g : theory.Signature) (c : ℕ) → (c ≡ 43 → ⊥) → (c ≡ 45 → ⊥) → none ≡ dueAfter g (terms 0) (codeWord c)
 no-sign g c h k = rw (ne-eqb c 43 h, ne-eqb c 45 k) (go (eqb c 61) (ltb c 65))
   where
     go : (e s : Bool) → none ≡ dueAfter g (terms 0) (cond e equals (cond s (symbol c) (letter (c - 65))))
@@ -30,11 +30,11 @@ no-sign g c h k = rw (ne-eqb c 43 h, ne-eqb c 45 k) (go (eqb c 61) (ltb c 65))
     go false true = refl
     go false false = refl
 
-pub plus-sign : (g : theory.Signature) (c : ℕ) → c ≡ 43 → some atom ≡ dueAfter g (terms 0) (wordOf c)
-plus-sign g c e = ap (λ (n : ℕ). dueAfter g (terms 0) (wordOf n)) (sym e)
+pub plus-sign : (g : theory.Signature) (c : ℕ) → c ≡ 43 → some atom ≡ dueAfter g (terms 0) (codeWord c)
+plus-sign g c e = ap (λ (n : ℕ). dueAfter g (terms 0) (codeWord n)) (sym e)
 
-pub minus-sign : (g : theory.Signature) (c : ℕ) → c ≡ 45 → some atom ≡ dueAfter g (terms 0) (wordOf c)
-minus-sign g c e = ap (λ (n : ℕ). dueAfter g (terms 0) (wordOf n)) (sym e)
+pub minus-sign : (g : theory.Signature) (c : ℕ) → c ≡ 45 → some atom ≡ dueAfter g (terms 0) (codeWord c)
+minus-sign g c e = ap (λ (n : ℕ). dueAfter g (terms 0) (codeWord n)) (sym e)
 
 -- the codes of words
 code-cases : {P : Type 0} (n c : ℕ) → (c < n → P) → (c ≡ 43 → P) → (c ≡ 45 → P) → (c ≡ 61 → P) → (65 ≤ c → P) → isCode n c ≡ true → P
@@ -63,43 +63,43 @@ module _ (n c : ℕ) (small : n ≤ 24) (coded : isCode n c ≡ true) where
 
   module _ (g : theory.Signature) where
     -- neither a sign nor = is a term
-    pub no-term : (m : ℕ) → 43 ≤ c → c < 65 → none ≡ dueAfter g (terms (suc m)) (wordOf c)
+    pub no-term : (m : ℕ) → 43 ≤ c → c < 65 → none ≡ dueAfter g (terms (suc m)) (codeWord c)
     no-term m h k = code-cases n c (λ l. absurd (omega arith)) (at refl) (at refl) (at refl) (λ l. absurd (omega arith)) coded
       where
-        at : {k : ℕ} → none ≡ dueAfter g (terms (suc m)) (wordOf k) → c ≡ k → none ≡ dueAfter g (terms (suc m)) (wordOf c)
-        at e h = e ∙ ap (λ (n : ℕ). dueAfter g (terms (suc m)) (wordOf n)) (sym h)
+        at : {k : ℕ} → none ≡ dueAfter g (terms (suc m)) (codeWord k) → c ≡ k → none ≡ dueAfter g (terms (suc m)) (codeWord c)
+        at e h = e ∙ ap (λ (n : ℕ). dueAfter g (terms (suc m)) (codeWord n)) (sym h)
 
     -- neither a sign nor a letter is an atom
-    pub no-atom : (c ≡ 61 → ⊥) → 43 ≤ c → none ≡ dueAfter g atom (wordOf c)
+    pub no-atom : (c ≡ 61 → ⊥) → 43 ≤ c → none ≡ dueAfter g atom (codeWord c)
     no-atom ne h = code-cases n c (λ l. absurd (omega arith)) (at refl) (at refl) (λ e. absurd (ne e)) (λ l. ap (dueAfter g atom) (sym (wordOf-letter c l))) coded
       where
-        at : {k : ℕ} → none ≡ dueAfter g atom (wordOf k) → c ≡ k → none ≡ dueAfter g atom (wordOf c)
-        at e h = e ∙ ap (λ (n : ℕ). dueAfter g atom (wordOf n)) (sym h)
+        at : {k : ℕ} → none ≡ dueAfter g atom (codeWord k) → c ≡ k → none ≡ dueAfter g atom (codeWord c)
+        at e h = e ∙ ap (λ (n : ℕ). dueAfter g atom (codeWord n)) (sym h)
 
 -- a letter is a term
-pub letter-term : (g : theory.Signature) (c m : ℕ) → 65 ≤ c → some (terms m) ≡ dueAfter g (terms (suc m)) (wordOf c)
+pub letter-term : (g : theory.Signature) (c m : ℕ) → 65 ≤ c → some (terms m) ≡ dueAfter g (terms (suc m)) (codeWord c)
 letter-term g c m h = ap (dueAfter g (terms (suc m))) (sym (wordOf-letter c h))
 
-pub equals-atom : (g : theory.Signature) (c : ℕ) → c ≡ 61 → some (terms 2) ≡ dueAfter g atom (wordOf c)
-equals-atom g c e = ap (λ (n : ℕ). dueAfter g atom (wordOf n)) (sym e)
+pub equals-atom : (g : theory.Signature) (c : ℕ) → c ≡ 61 → some (terms 2) ≡ dueAfter g atom (codeWord c)
+equals-atom g c e = ap (λ (n : ℕ). dueAfter g atom (codeWord n)) (sym e)
 
 module _ (sheet : List ℕ) (s : Signature) (h : Limited s) (c : ℕ) (below : c < 43) (held : c < s .count) where
   -- a symbol where a term, and where an atom, is due
   after-symbol : (d : Due) (f : Kind → ℕ → Option Due) → ((i : ℕ) → dueAfter (signatureIn sheet s) d (symbol i) ≡ f (symbolAt (signatureIn sheet s) i .kind) (symbolAt (signatureIn sheet s) i .arity))
-      → dueAfter (signatureIn sheet s) d (wordOf c) ≡ f (kindOf (getD (s .symbols) c blank .function)) (getD (s .symbols) c blank .arity)
+      → dueAfter (signatureIn sheet s) d (codeWord c) ≡ f (kindOf (getD (s .symbols) c blank .function)) (getD (s .symbols) c blank .arity)
   after-symbol d f e =
       ap (dueAfter (signatureIn sheet s) d) (wordOf-symbol c below) ∙ e c ∙ ap (λ (y : theory.Symbol). f (y .kind) (y .arity)) (symbolAt-signatureIn s h sheet c held)
 
-  pub function-term : (m : ℕ) → getD (s .symbols) c blank .function ≡ true → some (terms (getD (s .symbols) c blank .arity + m)) ≡ dueAfter (signatureIn sheet s) (terms (suc m)) (wordOf c)
+  pub function-term : (m : ℕ) → getD (s .symbols) c blank .function ≡ true → some (terms (getD (s .symbols) c blank .arity + m)) ≡ dueAfter (signatureIn sheet s) (terms (suc m)) (codeWord c)
   function-term m e = sym (after-symbol (terms (suc m)) (λ k a. dueAfterFunction k a m) (λ i. refl) ∙ ap (λ (b : Bool). dueAfterFunction (kindOf b) (getD (s .symbols) c blank .arity) m) e)
 
-  pub predicate-no-term : (m : ℕ) → getD (s .symbols) c blank .function ≡ false → none ≡ dueAfter (signatureIn sheet s) (terms (suc m)) (wordOf c)
+  pub predicate-no-term : (m : ℕ) → getD (s .symbols) c blank .function ≡ false → none ≡ dueAfter (signatureIn sheet s) (terms (suc m)) (codeWord c)
   predicate-no-term m e = sym (after-symbol (terms (suc m)) (λ k a. dueAfterFunction k a m) (λ i. refl) ∙ ap (λ (b : Bool). dueAfterFunction (kindOf b) (getD (s .symbols) c blank .arity) m) e)
 
-  pub function-no-atom : getD (s .symbols) c blank .function ≡ true → none ≡ dueAfter (signatureIn sheet s) atom (wordOf c)
+  pub function-no-atom : getD (s .symbols) c blank .function ≡ true → none ≡ dueAfter (signatureIn sheet s) atom (codeWord c)
   function-no-atom e = sym (after-symbol atom dueAfterPredicate (λ i. refl) ∙ ap (λ (b : Bool). dueAfterPredicate (kindOf b) (getD (s .symbols) c blank .arity)) e)
 
-  pub predicate-atom : getD (s .symbols) c blank .function ≡ false → some (terms (getD (s .symbols) c blank .arity)) ≡ dueAfter (signatureIn sheet s) atom (wordOf c)
+  pub predicate-atom : getD (s .symbols) c blank .function ≡ false → some (terms (getD (s .symbols) c blank .arity)) ≡ dueAfter (signatureIn sheet s) atom (codeWord c)
   predicate-atom e = sym (after-symbol atom dueAfterPredicate (λ i. refl) ∙ ap (λ (b : Bool). dueAfterPredicate (kindOf b) (getD (s .symbols) c blank .arity)) e)
 
 -- a number of terms due that is not 0

@@ -32,7 +32,7 @@ fixed-one (b ∷ []) e = refl
 fixed-one (b ∷ c ∷ w) e = absurd (omega arith)
 
 -- the code of such a word stands for it
-pub fixed-word : (g : Signature) (w : List ℕ) → isFixedWord w ≡ true → some (codes.wordOf (getD w 0 0)) ≡ wordOf g w
+pub fixed-word : (g : Signature) (w : List ℕ) → isFixedWord w ≡ true → some (codes.codeWord (getD w 0 0)) ≡ wordOf g w
 unfolding wordOf
 fixed-word g [] e = absurd (false≢true e)
 fixed-word g (b ∷ c ∷ w) e = absurd (false≢true e)

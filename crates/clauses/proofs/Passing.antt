@@ -16,12 +16,12 @@ use Rattle.theory.specs.Syntax.{Signature}
 use Rattle.theory.specs.Grammar.{Word, sign, equals, symbol, letter, terms, Due}
 use Rattle.theory.specs.Problem.{maxWords}
 use Rattle.theory.proofs.Lists.{sum-map-append}
-use Rattle.syntax.specs.Codes.{wordOf}
+use Rattle.syntax.specs.Codes.{codeWord}
 use Rattle.clauses.specs.declared.clause.Words.{Words}
 use Rattle.clauses.specs.declared.words.Word.the-variants.{Code, Unknown}
 use Rattle.clauses.specs.Words.{WordRead}
 use Rattle.clauses.specs.Grammar.{dueIn, pending, dueNext, dueAfterAll}
-use Rattle.clauses.specs.Clauses.{signCount, Bounded, Passed, WordTaken}
+use Rattle.clauses.specs.Clauses.{signCount, WordsBounded, Passed, WordTaken}
 
 dueAfterAll-more : (g : Signature) (d : Option Due) (ws : List Word) (x : Word) → dueAfterAll g d (ws ++ (x ∷ [])) ≡ dueNext g (dueAfterAll g d ws) x
 unfolding dueAfterAll
@@ -32,10 +32,10 @@ signs-more : (ws : List Word) (x : Word) → sum (map signCount (ws ++ (x ∷ []
 signs-more ws x = sum-map-append signCount ws (x ∷ []) ∙ ap (λ (n : ℕ). sum (map signCount ws) + n) (add-zero (signCount x))
 
 -- the signs have the codes 43 and 45
-pub sign-code : (c k : ℕ) → 1 ≡ signCount (wordOf k) → c ≡ k → 1 ≡ signCount (wordOf c)
-sign-code c k h e = h ∙ ap (λ (n : ℕ). signCount (wordOf n)) (sym e)
+pub sign-code : (c k : ℕ) → 1 ≡ signCount (codeWord k) → c ≡ k → 1 ≡ signCount (codeWord c)
+sign-code c k h e = h ∙ ap (λ (n : ℕ). signCount (codeWord n)) (sym e)
 
-pub no-sign-code : (c : ℕ) → (c ≡ 43 → ⊥) → (c ≡ 45 → ⊥) → 0 ≡ signCount (wordOf c)
+pub no-sign-code : (c : ℕ) → (c ≡ 43 → ⊥) → (c ≡ 45 → ⊥) → 0 ≡ signCount (codeWord c)
 no-sign-code c h k = rw (ne-eqb c 43 h, ne-eqb c 45 k) (go (eqb c 61) (ltb c 65))
   where
     go : (e s : Bool) → 0 ≡ signCount (cond e equals (cond s (symbol c) (letter (c - 65))))
@@ -44,39 +44,39 @@ no-sign-code c h k = rw (ne-eqb c 43 h, ne-eqb c 45 k) (go (eqb c 61) (ltb c 65)
     go false false = refl
 
 -- the codes with one more, of which 64 are held
-codes-more : (ws : List Word) (cs : List ℕ) (n c : ℕ) → n ≡ length ws → length cs ≡ maxWords → map wordOf (take n cs) ≡ take maxWords ws
-    → map wordOf (take (n + 1) (set cs n c)) ≡ take maxWords (ws ++ (wordOf c ∷ []))
+codes-more : (ws : List Word) (cs : List ℕ) (n c : ℕ) → n ≡ length ws → length cs ≡ maxWords → map codeWord (take n cs) ≡ take maxWords ws
+    → map codeWord (take (n + 1) (set cs n c)) ≡ take maxWords (ws ++ (codeWord c ∷ []))
 codes-more ws cs n c e h k = go (ltb n maxWords) refl
   where
-    go : (b : Bool) → ltb n maxWords ≡ b → map wordOf (take (n + 1) (set cs n c)) ≡ take maxWords (ws ++ (wordOf c ∷ []))
+    go : (b : Bool) → ltb n maxWords ≡ b → map codeWord (take (n + 1) (set cs n c)) ≡ take maxWords (ws ++ (codeWord c ∷ []))
     go true t =
         let l : n < maxWords = ltb-true n maxWords t in
-        ap (λ (m : ℕ). map wordOf (take m (set cs n c))) (add-one n)
-        ∙ ap (map wordOf) (take-suc-set cs n c (omega arith))
-        ∙ map-append wordOf (take n cs) (c ∷ [])
-        ∙ ap (λ (l : List Word). l ++ (wordOf c ∷ [])) (k ∙ take-all maxWords ws (omega arith))
-        ∙ sym (take-all maxWords (ws ++ (wordOf c ∷ [])) (omega (arith, length-append ws (wordOf c ∷ []))))
+        ap (λ (m : ℕ). map codeWord (take m (set cs n c))) (add-one n)
+        ∙ ap (map codeWord) (take-suc-set cs n c (omega arith))
+        ∙ map-append codeWord (take n cs) (c ∷ [])
+        ∙ ap (λ (l : List Word). l ++ (codeWord c ∷ [])) (k ∙ take-all maxWords ws (omega arith))
+        ∙ sym (take-all maxWords (ws ++ (codeWord c ∷ [])) (omega (arith, length-append ws (codeWord c ∷ []))))
     go false t =
         let l : maxWords ≤ n = ltb-false n maxWords t in
-        ap (λ (l : List ℕ). map wordOf (take (n + 1) l)) (set-out cs n c (omega arith))
-        ∙ ap (map wordOf) (take-all (n + 1) cs (omega arith) ∙ sym (take-all n cs (omega arith)))
+        ap (λ (l : List ℕ). map codeWord (take (n + 1) l)) (set-out cs n c (omega arith))
+        ∙ ap (map codeWord) (take-all (n + 1) cs (omega arith) ∙ sym (take-all n cs (omega arith)))
         ∙ k
-        ∙ sym (take-append-le maxWords ws (wordOf c ∷ []) (omega arith))
+        ∙ sym (take-append-le maxWords ws (codeWord c ∷ []) (omega arith))
 
 -- one word more was read
 pub passed-more : (g : Signature) (ws : List Word) (w r : Words) (c : ℕ) → Passed g ws w
-    → r .words ≡ set (w .words) (w .count) c → r .count ≡ w .count + 1 → r .literals ≡ w .literals + signCount (wordOf c)
-    → dueIn (r .due) ≡ dueNext g (dueIn (w .due)) (wordOf c) → pending (r .due) ≤ pending (w .due) + 3
-    → Passed g (ws ++ (wordOf c ∷ [])) r
+    → r .words ≡ set (w .words) (w .count) c → r .count ≡ w .count + 1 → r .literals ≡ w .literals + signCount (codeWord c)
+    → dueIn (r .due) ≡ dueNext g (dueIn (w .due)) (codeWord c) → pending (r .due) ≤ pending (w .due) + 3
+    → Passed g (ws ++ (codeWord c ∷ [])) r
 passed-more g ws w r c p words count literals due bound =
     record {
-      count = count ∙ omega (arith, p .count, length-append ws (wordOf c ∷ []));
+      count = count ∙ omega (arith, p .count, length-append ws (codeWord c ∷ []));
       held = ap length words ∙ length-set (w .words) (w .count) c ∙ p .held;
-      codes = ap (λ (l : List ℕ). map wordOf (take (r .count) l)) words
-          ∙ ap (λ (n : ℕ). map wordOf (take n (set (w .words) (w .count) c))) count
+      codes = ap (λ (l : List ℕ). map codeWord (take (r .count) l)) words
+          ∙ ap (λ (n : ℕ). map codeWord (take n (set (w .words) (w .count) c))) count
           ∙ codes-more ws (w .words) (w .count) c (p .count) (p .held) (p .codes);
-      literals = literals ∙ ap (λ (n : ℕ). n + signCount (wordOf c)) (p .literals) ∙ sym (signs-more ws (wordOf c));
-      due = due ∙ ap (λ (d : Option Due). dueNext g d (wordOf c)) (p .due) ∙ sym (dueAfterAll-more g (some (terms 0)) ws (wordOf c));
+      literals = literals ∙ ap (λ (n : ℕ). n + signCount (codeWord c)) (p .literals) ∙ sym (signs-more ws (codeWord c));
+      due = due ∙ ap (λ (d : Option Due). dueNext g d (codeWord c)) (p .due) ∙ sym (dueAfterAll-more g (some (terms 0)) ws (codeWord c));
       pending = omega (arith, p .pending);
     }
 
@@ -86,20 +86,20 @@ sign-small equals = omega arith
 sign-small (symbol i) = omega arith
 sign-small (letter x) = omega arith
 
-pub signs-small : (c : ℕ) → signCount (wordOf c) ≤ 1
-signs-small c = sign-small (wordOf c)
+pub signs-small : (c : ℕ) → signCount (codeWord c) ≤ 1
+signs-small c = sign-small (codeWord c)
 
 signs-bounded : (ws : List Word) → sum (map signCount ws) ≤ length ws
 signs-bounded [] = omega arith
 signs-bounded (w ∷ ws) = omega (arith, sign-small w, signs-bounded ws)
 
-pub passed-bounded : (g : Signature) (ws : List Word) (w : Words) → Passed g ws w → 2 * w .count < 9223372036854775808 → Bounded w
+pub passed-bounded : (g : Signature) (ws : List Word) (w : Words) → Passed g ws w → 2 * w .count < 9223372036854775808 → WordsBounded w
 passed-bounded g ws w p h = record { count = h; literals = omega (arith, p .literals, p .count, signs-bounded ws); pending = p .pending }
 
 -- a word that was read to its code, and one that was not
 module _ (g : Signature) (word : List ℕ) (w r : Words) where
-  pub taken-code : (c : ℕ) → WordRead g word (Code c) → r .unknown ≡ false → ((ws : List Word) → Passed g ws w → Passed g (ws ++ (wordOf c ∷ [])) r) → WordTaken g word w r
-  taken-code c h e p = record { unknown = λ k. absurd (true≢false (sym k ∙ e)); known = λ _. (wordOf c, sym (h .read), p) }
+  pub taken-code : (c : ℕ) → WordRead g word (Code c) → r .unknown ≡ false → ((ws : List Word) → Passed g ws w → Passed g (ws ++ (codeWord c ∷ [])) r) → WordTaken g word w r
+  taken-code c h e p = record { unknown = λ k. absurd (true≢false (sym k ∙ e)); known = λ _. (codeWord c, sym (h .read), p) }
 
   pub taken-unknown : WordRead g word Unknown → r .unknown ≡ true → WordTaken g word w r
   taken-unknown h e = record { unknown = λ _. sym (h .read); known = λ k. absurd (true≢false (sym e ∙ k)) }

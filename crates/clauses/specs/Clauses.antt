@@ -15,7 +15,7 @@ use Rattle.theory.specs.Refusals.{Answer, answer, refused, atLine}
 use Rattle.theory.specs.Problem.{maxWords, maxLiterals, maxVariables, readAll, clauseOf}
 use Rattle.theory.specs.Problem as theory
 use Rattle.syntax.specs.declared.words.ClauseWords.{ClauseWords}
-use Rattle.syntax.specs.Codes.{wordOf, clauseIn, IsClause}
+use Rattle.syntax.specs.Codes.{codeWord, clauseIn, IsClause}
 use Rattle.clauses.specs.declared.clause.Words.{Words}
 use Rattle.clauses.specs.declared.clause.ClauseLine.{ClauseLine}
 use Rattle.clauses.specs.Grammar.{dueIn, pending, dueAfterAll}
@@ -28,7 +28,7 @@ signCount (symbol i) = 0
 signCount (letter x) = 0
 
 -- the counts are small enough to go on
-pub record Bounded (w : Words) : Type 0 where
+pub record WordsBounded (w : Words) : Type 0 where
   pub count : 2 * w .count < 9223372036854775808
   pub literals : w .literals ≤ w .count
   pub pending : pending (w .due) ≤ 3 * w .count
@@ -37,7 +37,7 @@ pub record Bounded (w : Words) : Type 0 where
 pub record Passed (g : Signature) (ws : List Word) (w : Words) : Type 0 where
   pub count : w .count ≡ length ws
   pub held : length (w .words) ≡ maxWords
-  pub codes : map wordOf (take (w .count) (w .words)) ≡ take maxWords ws
+  pub codes : map codeWord (take (w .count) (w .words)) ≡ take maxWords ws
   pub literals : w .literals ≡ sum (map signCount ws)
   pub due : dueIn (w .due) ≡ dueAfterAll g (some (terms 0)) ws
   pub pending : pending (w .due) ≤ 3 * w .count
@@ -53,16 +53,16 @@ pub record WordsRead (g : Signature) (value : List ℕ) (r : Words) : Type 0 whe
   pub known : r .unknown ≡ false → (ws : List Word) × (readAll g (wordsOf value) ≡ some ws) × Passed g ws r
 
 -- what the value of line l was read to
-abbrev pub clauseLineIn : Signature → ℕ → ClauseLine → Answer Clause
-clauseLineIn g l r = cond (eqb (r .fault) 0) (answer (clauseIn g (r .words))) (refused (atLine (r .fault) l))
+abbrev pub clauseValueIn : Signature → ℕ → ClauseLine → Answer Clause
+clauseValueIn g l r = cond (eqb (r .fault) 0) (answer (clauseIn g (r .words))) (refused (atLine (r .fault) l))
 
 -- the clause words are a clause within the limits
-pub record Accepted (g : Signature) (w : ClauseWords) : Type 0 where
+pub record AcceptedWords (g : Signature) (w : ClauseWords) : Type 0 where
   pub clause : IsClause g w
   pub literals : length (clauseIn g w) ≤ maxLiterals
   pub variables : variableCount (flatten (clauseIn g w)) ≤ maxVariables
 
 -- r is what the value is read to, whatever the number of its line
 pub record ClauseRead (g : Signature) (value : List ℕ) (r : ClauseLine) : Type 0 where
-  pub read : (l : ℕ) → clauseLineIn g l r ≡ clauseOf g l value
-  pub accepted : r .fault ≡ 0 → Accepted g (r .words)
+  pub read : (l : ℕ) → clauseValueIn g l r ≡ clauseOf g l value
+  pub accepted : r .fault ≡ 0 → AcceptedWords g (r .words)

@@ -34,7 +34,7 @@ isCoded n Unknown = true
 
 -- the word that was read, if it is one
 abbrev pub wordIn : Word → Option theory.Word
-wordIn (Code c) = some (codes.wordOf c)
+wordIn (Code c) = some (codes.codeWord c)
 wordIn Unknown = none
 
 -- r is the word that the bytes are

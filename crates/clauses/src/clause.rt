@@ -17,10 +17,10 @@ ghost use Prim.Native.Nat.{ℕ};
 ghost use lib.ListN.{set};
 ghost use Rattle.theory.specs.Grammar as theory;
 ghost use Rattle.syntax.specs.Signatures.{signatureIn};
-ghost use Rattle.syntax.specs.Codes.{wordOf};
+ghost use Rattle.syntax.specs.Codes.{codeWord};
 ghost use Rattle.clauses.specs.Names.{Limited, Readable};
 ghost use Rattle.clauses.specs.Words.{isCode};
-ghost use Rattle.clauses.specs.Clauses.{signCount, Bounded, Passed, WordTaken, WordsRead, ClauseRead};
+ghost use Rattle.clauses.specs.Clauses.{signCount, WordsBounded, Passed, WordTaken, WordsRead, ClauseRead};
 
 // What was read of a line: the codes of its first 64 words, how many words and signs, what is due, whether a word was unknown.
 pub struct Words {
@@ -114,7 +114,7 @@ fn read_words(sheet: &[u8], signature: Signature, value: &[u8]) -> Words
 
 // One word more.
 fn with_word(sheet: &[u8], signature: Signature, w: Words, word: &[u8]) -> Words
-    requires { ⌜ Readable (now sheet) signature × Bounded w ⌝ }
+    requires { ⌜ Readable (now sheet) signature × WordsBounded w ⌝ }
     ensures { λ r. ⌜ WordTaken (signatureIn (now (sheet .entry)) signature) (now (word .entry)) w r ⌝ }
 {
     match word_of(sheet, signature, word) {
@@ -131,9 +131,9 @@ fn with_unknown(mut w: Words) -> Words
 }
 
 fn with_code(signature: Signature, w: Words, code: u8) -> Words
-    requires { ⌜ Limited signature × ((isCode (signature .count) code ≡ true) × Bounded w) ⌝ }
+    requires { ⌜ Limited signature × ((isCode (signature .count) code ≡ true) × WordsBounded w) ⌝ }
     ensures known { λ r. ⌜ r .unknown ≡ false ⌝ }
-    ensures passed { λ r. ⌜ ((sheet : List ℕ) (ws : List theory.Word) → Passed (signatureIn sheet signature) ws w → Passed (signatureIn sheet signature) (ws ++ (wordOf code ∷ [])) r) ⌝ }
+    ensures passed { λ r. ⌜ ((sheet : List ℕ) (ws : List theory.Word) → Passed (signatureIn sheet signature) ws w → Passed (signatureIn sheet signature) (ws ++ (codeWord code ∷ [])) r) ⌝ }
 {
     let words = w.words;
     let due = w.due;
@@ -159,7 +159,7 @@ fn stored(mut words: [u8; Problem::MAX_WORDS], n: usize, code: u8) -> [u8; Probl
 
 // How many signs the word is.
 fn signs(code: u8) -> usize
-    ensures { λ r. ⌜ r ≡ signCount (wordOf code) ⌝ }
+    ensures { λ r. ⌜ r ≡ signCount (codeWord code) ⌝ }
 {
     if code == 43 {
         return 1;

@@ -7,7 +7,7 @@ ghost use Prim.Native.Nat.{ℕ, _+_, _≤_, _<_, _^_};
 ghost use Rattle.theory.specs.Syntax as theory;
 ghost use Rattle.theory.specs.Grammar.{terms, atom, dueAfter};
 ghost use Rattle.syntax.specs.Signatures.{signatureIn};
-ghost use Rattle.syntax.specs.Codes.{wordOf};
+ghost use Rattle.syntax.specs.Codes.{codeWord};
 ghost use Rattle.clauses.specs.Names.{Limited};
 ghost use Rattle.clauses.specs.Words.{isCode};
 ghost use Rattle.clauses.specs.Grammar.{dueIn, pending, dueNext, isFinished};
@@ -35,7 +35,7 @@ pub fn is_finished(due: Due) -> bool
 // What is due after one word more.
 pub fn after(signature: Signature, due: Due, code: u8) -> Due
     requires { ⌜ Limited signature × ((isCode (signature .count) code ≡ true) × (pending due + 3 < 2 ^ 64)) ⌝ }
-    ensures due { λ r. ⌜ ((sheet : List ℕ) → dueIn r ≡ dueNext (signatureIn sheet signature) (dueIn due) (wordOf code)) ⌝ }
+    ensures due { λ r. ⌜ ((sheet : List ℕ) → dueIn r ≡ dueNext (signatureIn sheet signature) (dueIn due) (codeWord code)) ⌝ }
     ensures pending { λ r. ⌜ pending r ≤ pending due + 3 ⌝ }
 {
     match due {
@@ -48,7 +48,7 @@ pub fn after(signature: Signature, due: Due, code: u8) -> Due
 // Where n terms are due stands a letter or a function.
 fn after_terms(signature: Signature, n: usize, code: u8) -> Due
     requires { ⌜ Limited signature × ((isCode (signature .count) code ≡ true) × (n + 3 < 2 ^ 64)) ⌝ }
-    ensures due { λ r. ⌜ ((sheet : List ℕ) → dueIn r ≡ dueAfter (signatureIn sheet signature) (terms n) (wordOf code)) ⌝ }
+    ensures due { λ r. ⌜ ((sheet : List ℕ) → dueIn r ≡ dueAfter (signatureIn sheet signature) (terms n) (codeWord code)) ⌝ }
     ensures pending { λ r. ⌜ pending r ≤ n + 3 ⌝ }
 {
     if n == 0 {
@@ -70,7 +70,7 @@ fn after_terms(signature: Signature, n: usize, code: u8) -> Due
 
 // Where nothing is due stands a sign.
 fn after_literal(code: u8) -> Due
-    ensures due { λ r. ⌜ ((g : theory.Signature) → dueIn r ≡ dueAfter g (terms 0) (wordOf code)) ⌝ }
+    ensures due { λ r. ⌜ ((g : theory.Signature) → dueIn r ≡ dueAfter g (terms 0) (codeWord code)) ⌝ }
     ensures pending { λ r. ⌜ pending r ≤ 0 ⌝ }
 {
     if code == 43 {
@@ -85,7 +85,7 @@ fn after_literal(code: u8) -> Due
 // Where an atom is due stands = or a predicate.
 fn after_sign(signature: Signature, code: u8) -> Due
     requires { ⌜ Limited signature × (isCode (signature .count) code ≡ true) ⌝ }
-    ensures due { λ r. ⌜ ((sheet : List ℕ) → dueIn r ≡ dueAfter (signatureIn sheet signature) atom (wordOf code)) ⌝ }
+    ensures due { λ r. ⌜ ((sheet : List ℕ) → dueIn r ≡ dueAfter (signatureIn sheet signature) atom (codeWord code)) ⌝ }
     ensures pending { λ r. ⌜ pending r ≤ 3 ⌝ }
 {
     if code == 61 {

@@ -21,7 +21,7 @@ use Rattle.stream.specs.Literals.{allCodes}
 use Rattle.stream.specs.Consuming.{state, Consumes, Consumed}
 use Rattle.encoding.proofs.Bounds as bounds
 use Rattle.encoding.proofs.Passes as passes
-use Rattle.finding.specs.Searching.{Searchable, clausesAt}
+use Rattle.finding.specs.Searching.{Searchable, sheetClauses}
 
 -- before the first clause
 abbrev start : Progress
@@ -29,7 +29,7 @@ start = record { at = 0; count = 0 }
 
 module _ (sheet : List ℕ) (p : Problem) (size n v : ℕ) (h : Searchable sheet p size n) (e : v ≡ propCount size (signatureIn sheet (p .signature))) where
   abbrev cs : List PropClause
-  cs = clausesAt size sheet p
+  cs = sheetClauses size sheet p
 
   same-count : v ≡ propCount size (problemIn sheet p .symbols)
   unfolding problemIn

@@ -7,10 +7,10 @@ use Rattle.theory.specs.Walk.{walked, yesFirst, searched}
 use Rattle.syntax.specs.declared.limits.Problem.{Problem}
 use Rattle.syntax.specs.Signatures.{signatureIn}
 use Rattle.problem.specs.Problems.{problemIn}
-use Rattle.finding.specs.Searching.{clausesAt}
+use Rattle.finding.specs.Searching.{sheetClauses}
 
 -- the walk over the clauses as the code has them is the theory's
 pub searched-walked : (sheet : List ℕ) (p : Problem) (size v : ℕ) → v ≡ propCount size (signatureIn sheet (p .signature))
-    → searched size (problemIn sheet p) .answer ≡ walked v (clausesAt size sheet p) (yesFirst size (signatureIn sheet (p .signature))) .answer
+    → searched size (problemIn sheet p) .answer ≡ walked v (sheetClauses size sheet p) (yesFirst size (signatureIn sheet (p .signature))) .answer
 unfolding searched problemIn
-searched-walked sheet p size v e = ap (λ (k : ℕ). walked k (clausesAt size sheet p) (yesFirst size (signatureIn sheet (p .signature))) .answer) (sym e)
+searched-walked sheet p size v e = ap (λ (k : ℕ). walked k (sheetClauses size sheet p) (yesFirst size (signatureIn sheet (p .signature))) .answer) (sym e)

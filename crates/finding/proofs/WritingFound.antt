@@ -7,7 +7,7 @@ use mathlib.Core.List.{List, [], _∷_}
 use lib.Dec.{ltb, eqb·suc-zero}
 use lib.ListN.{length, replicate}
 use Rattle.theory.specs.Lists.{all}
-use Rattle.theory.specs.Valuation.{isFunctional, readBack}
+use Rattle.theory.specs.Valuation.{isFunctional, readBack, settingOf}
 use Rattle.theory.specs.Refusals.{answer}
 use Rattle.theory.specs.CaseText.{caseText, caseLength}
 use Rattle.theory.specs.Least.{leastModel, withSize}
@@ -17,10 +17,9 @@ use Rattle.answers.specs.declared.FindAnswer.the-variants as find
 use Rattle.syntax.specs.declared.limits.Problem.{Problem}
 use Rattle.syntax.specs.Signatures.{signatureIn}
 use Rattle.problem.specs.Problems.{problemIn}
-use Rattle.search.specs.Search.{settingOf}
 use Rattle.valuations.specs.declared.numbering.Numbering.{Numbering}
 use Rattle.valuations.specs.Numbers.{NumberingOf}
-use Rattle.reading_back.specs.Bits.{bitsHeld, Writable}
+use Rattle.reading_back.specs.Bits.{bitsHeld, WritableBits}
 use Rattle.finding.specs.Searching.{Searchable}
 use Rattle.finding.specs.Ending.{Ends}
 use Rattle.finding.proofs.Found.{FoundAt, found-at}
@@ -38,7 +37,7 @@ module _ (sheet : List ℕ) (p : Problem) (n : Numbering) (size room : ℕ) (h :
   pub found : FoundAt size (problemIn sheet p) (settingOf zs)
   found = found-at size (problemIn sheet p) (h .positive) (clauses-over sheet p size room h) (settingOf zs) e
 
-  pub writable : Writable sheet (p .signature) n size (bitsHeld [] zs)
+  pub writable : WritableBits sheet (p .signature) n size (bitsHeld [] zs)
   unfolding problemIn
   writable =
       record {

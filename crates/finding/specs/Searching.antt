@@ -20,5 +20,5 @@ pub record Searchable (sheet : List ℕ) (p : Problem) (size room : ℕ) : Type 
   pub space : workNeeded size (problemIn sheet p .symbols) (problemIn sheet p .clauses) ≤ room
 
 -- the clauses of the problem at a size
-abbrev pub clausesAt : ℕ → List ℕ → Problem → List PropClause
-clausesAt size sheet p = propClauses size (problemIn sheet p .symbols) (problemIn sheet p .clauses)
+abbrev pub sheetClauses : ℕ → List ℕ → Problem → List PropClause
+sheetClauses size sheet p = propClauses size (problemIn sheet p .symbols) (problemIn sheet p .clauses)

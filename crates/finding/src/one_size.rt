@@ -18,16 +18,16 @@ ghost use Rattle.propagation.specs.WorkArea.{Loaded};
 ghost use Rattle.loading.specs.Loading.{Tallied, Entered};
 ghost use Rattle.stream.specs.Literals.{allCodes};
 ghost use Rattle.problem.specs.Problems.{problemIn};
-ghost use Rattle.search.specs.Search.{answered};
+ghost use Rattle.search.specs.Search.{searchAnswer};
 ghost use Rattle.valuations.specs.Numbers.{NumberingOf};
-ghost use Rattle.finding.specs.Searching.{Searchable, clausesAt};
+ghost use Rattle.finding.specs.Searching.{Searchable, sheetClauses};
 
 // Clears the work area and counts the clauses at a size in it; answers how many they are.
 fn count_clauses(sheet: &[u8], p: Problem, n: Numbering, size: usize, work: &mut [u32]) -> usize
     requires { ⌜ Searchable (now sheet) p size (length (now work)) ⌝ }
     requires { ⌜ NumberingOf (signatureIn (now sheet) (p .signature)) size n ⌝ }
-    ensures number { λ r. ⌜ length (clausesAt size (now (sheet .entry)) p) ≡ r ⌝ }
-    ensures tallied { λ r. ⌜ Tallied (n .count) (allCodes (clausesAt size (now (sheet .entry)) p)) (now (work .exit)) ⌝ }
+    ensures number { λ r. ⌜ length (sheetClauses size (now (sheet .entry)) p) ≡ r ⌝ }
+    ensures tallied { λ r. ⌜ Tallied (n .count) (allCodes (sheetClauses size (now (sheet .entry)) p)) (now (work .exit)) ⌝ }
 {
     let mut no_text = [0u8; 1];
     clear_all(work);
@@ -48,9 +48,9 @@ fn count_clauses(sheet: &[u8], p: Problem, n: Numbering, size: usize, work: &mut
 fn enter_clauses(sheet: &[u8], p: Problem, n: Numbering, size: usize, m: usize, work: &mut [u32])
     requires { ⌜ Searchable (now sheet) p size (length (now work)) ⌝ }
     requires { ⌜ NumberingOf (signatureIn (now sheet) (p .signature)) size n ⌝ }
-    requires { ⌜ length (clausesAt size (now sheet) p) ≡ m ⌝ }
-    requires { ⌜ Tallied (n .count) (allCodes (clausesAt size (now sheet) p)) (now work) ⌝ }
-    ensures { λ _. ⌜ Entered (n .count) (allCodes (clausesAt size (now (sheet .entry)) p)) (allCodes (clausesAt size (now (sheet .entry)) p)) (now (work .exit)) ⌝ }
+    requires { ⌜ length (sheetClauses size (now sheet) p) ≡ m ⌝ }
+    requires { ⌜ Tallied (n .count) (allCodes (sheetClauses size (now sheet) p)) (now work) ⌝ }
+    ensures { λ _. ⌜ Entered (n .count) (allCodes (sheetClauses size (now (sheet .entry)) p)) (allCodes (sheetClauses size (now (sheet .entry)) p)) (now (work .exit)) ⌝ }
 {
     let v = n.count as usize;
     bounds(work, v, m);
@@ -71,8 +71,8 @@ fn enter_clauses(sheet: &[u8], p: Problem, n: Numbering, size: usize, m: usize, 
 fn load(sheet: &[u8], p: Problem, n: Numbering, size: usize, work: &mut [u32]) -> usize
     requires { ⌜ Searchable (now sheet) p size (length (now work)) ⌝ }
     requires { ⌜ ((text : List ℕ) → NumberingOf (signatureIn text (p .signature)) size n) ⌝ }
-    ensures number { λ r. ⌜ length (clausesAt size (now (sheet .entry)) p) ≡ r ⌝ }
-    ensures loaded { λ r. ⌜ Loaded (n .count) (clausesAt size (now (sheet .entry)) p) (yesFirst size (signatureIn (now (sheet .entry)) (p .signature))) (now (work .exit)) ⌝ }
+    ensures number { λ r. ⌜ length (sheetClauses size (now (sheet .entry)) p) ≡ r ⌝ }
+    ensures loaded { λ r. ⌜ Loaded (n .count) (sheetClauses size (now (sheet .entry)) p) (yesFirst size (signatureIn (now (sheet .entry)) (p .signature))) (now (work .exit)) ⌝ }
 {
     let m = count_clauses(sheet, p, n, size, work);
     enter_clauses(sheet, p, n, size, m, work);
@@ -85,7 +85,7 @@ fn load(sheet: &[u8], p: Problem, n: Numbering, size: usize, work: &mut [u32]) -
 pub fn search_size(sheet: &[u8], p: Problem, n: Numbering, size: usize, work: &mut [u32]) -> bool
     requires { ⌜ Searchable (now sheet) p size (length (now work)) ⌝ }
     requires { ⌜ ((text : List ℕ) → NumberingOf (signatureIn text (p .signature)) size n) ⌝ }
-    ensures { λ r. ⌜ searched size (problemIn (now (sheet .entry)) p) .answer ≡ answered r (take (n .count) (now (work .exit))) ⌝ }
+    ensures { λ r. ⌜ searched size (problemIn (now (sheet .entry)) p) .answer ≡ searchAnswer r (take (n .count) (now (work .exit))) ⌝ }
 {
     let m = load(sheet, p, n, size, work);
     solve(work, n.count as usize, m)

@@ -18,7 +18,7 @@ ghost use Rattle.theory.specs.Refusals.{answer};
 ghost use Rattle.theory.specs.Operations.{searchOf};
 ghost use Rattle.syntax.specs.Signatures.{signatureIn};
 ghost use Rattle.problem.specs.Problems.{problemIn};
-ghost use Rattle.search.specs.Search.{answered};
+ghost use Rattle.search.specs.Search.{searchAnswer};
 ghost use Rattle.valuations.specs.Numbers.{NumberingOf};
 ghost use Rattle.finding.specs.Searching.{Searchable};
 ghost use Rattle.finding.specs.Ending.{Ends, Sizes};
@@ -59,7 +59,7 @@ fn put_found(
 ) -> FindAnswer
     requires { ⌜ Searchable (now sheet) p size (length (now work)) ⌝ }
     requires { ⌜ NumberingOf (signatureIn (now sheet) (p .signature)) size n ⌝ }
-    requires { ⌜ searched size (problemIn (now sheet) p) .answer ≡ answered true (take (n .count) (now work)) ⌝ }
+    requires { ⌜ searched size (problemIn (now sheet) p) .answer ≡ searchAnswer true (take (n .count) (now work)) ⌝ }
     requires { ⌜ caseLength size (problemIn (now sheet) p .symbols) ≤ length (now output) ⌝ }
     ensures { λ r. ⌜ ((low high : ℕ) → Ends (answer (searchOf (problemIn (now (sheet .entry)) p) low high (withSize size (leastModel size (problemIn (now (sheet .entry)) p))))) r (now (work .entry)) (now (work .exit)) (now (output .entry)) (now (output .exit))) ⌝ }
 {

@@ -14,7 +14,7 @@ use Rattle.theory.specs.Lists.{prefix}
 use Rattle.theory.specs.Propositional.{PropLiteral, PropClause}
 use Rattle.theory.specs.Instances.{kept}
 use Rattle.theory.proofs.Tests.{eqb-of-≡, eqb-false}
-use Rattle.stream.specs.Literals.{literalOf, clauseOf}
+use Rattle.stream.specs.Literals.{literalOf, propClauseOf}
 use Rattle.forms.specs.LinearForms.{codeAt, isTrueAt, addForm, formAt, formInstance, Safe, AllSafe}
 
 -- number j of the form at a place
@@ -62,7 +62,7 @@ pub record Evaluated (v : List ℕ) (count : ℕ) (fs codes : List ℕ) (written
   pub room : at + left * 10 ≤ length fs
   pub few : written + left ≤ count
   pub safe : AllSafe left (drop at fs)
-  pub rest : formInstance v count fs ≡ prefixed (clauseOf (take written codes)) (formInstance v left (drop at fs))
+  pub rest : formInstance v count fs ≡ prefixed (propClauseOf (take written codes)) (formInstance v left (drop at fs))
 
 pub none-evaluated : (v : List ℕ) (count : ℕ) (fs codes : List ℕ) → count * 10 ≤ length fs → AllSafe count fs → Evaluated v count fs codes 0 0 count
 none-evaluated v count fs codes h s = record { room = omega arith; few = omega arith; safe = s; rest = refl }
@@ -80,18 +80,18 @@ module _ (v : List ℕ) (count : ℕ) (fs codes : List ℕ) (written at left : �
   -- what the next form adds
   next : (t q : Bool) → eqb (getD (formAt fs at) 0 0) 0 ≡ t → isTrueAt (formAt fs at) v ≡ q
       → formInstance v count fs
-      ≡ prefixed (clauseOf (take written codes)) (cond t (prefix (literalOf (codeAt (formAt fs at) v)) (formInstance v left (drop (at + 10) fs))) (cond q none (formInstance v left (drop (at + 10) fs))))
+      ≡ prefixed (propClauseOf (take written codes)) (cond t (prefix (literalOf (codeAt (formAt fs at) v)) (formInstance v left (drop (at + 10) fs))) (cond q none (formInstance v left (drop (at + 10) fs))))
   next t q e d =
       p .rest
-      ∙ ap (λ (l : List ℕ). prefixed (clauseOf (take written codes)) (addForm (formAt fs at) v (formInstance v left l))) behind
-      ∙ ap₂ (λ (t q : Bool). prefixed (clauseOf (take written codes)) (cond t (prefix (literalOf (codeAt (formAt fs at) v)) (formInstance v left (drop (at + 10) fs))) (cond q none (formInstance v left (drop (at + 10) fs))))) e d
+      ∙ ap (λ (l : List ℕ). prefixed (propClauseOf (take written codes)) (addForm (formAt fs at) v (formInstance v left l))) behind
+      ∙ ap₂ (λ (t q : Bool). prefixed (propClauseOf (take written codes)) (cond t (prefix (literalOf (codeAt (formAt fs at) v)) (formInstance v left (drop (at + 10) fs))) (cond q none (formInstance v left (drop (at + 10) fs))))) e d
 
   -- a code
   pub one-written : (u : ℕ) → written < length codes → getD fs at 0 ≡ 0 → u ≡ codeAt (formAt fs at) v → Evaluated v count fs (set codes written u) (suc written) (at + 10) left
   one-written u h e c =
-      let ls : PropClause = clauseOf (take written codes) in
+      let ls : PropClause = propClauseOf (take written codes) in
       let r : Option PropClause = formInstance v left (drop (at + 10) fs) in
-      let w : clauseOf (take (suc written) (set codes written u)) ≡ ls ++ (literalOf u ∷ []) = ap clauseOf (take-suc-set codes written u h) ∙ map-append literalOf (take written codes) (u ∷ []) in
+      let w : propClauseOf (take (suc written) (set codes written u)) ≡ ls ++ (literalOf u ∷ []) = ap propClauseOf (take-suc-set codes written u h) ∙ map-append literalOf (take written codes) (u ∷ []) in
       record {
         room = omega (arith, p .room);
         few = omega (arith, p .few);
@@ -118,7 +118,7 @@ module _ (v : List ℕ) (count : ℕ) (fs codes : List ℕ) (written at left : �
 
   -- a true equality
   pub dropped : getD fs at 0 ≢ 0 → isTrueAt (formAt fs at) v ≡ true → kept (formInstance v count fs) ≡ []
-  dropped h e = ap kept (next false true (is-equality h) e ∙ prefixed-none (clauseOf (take written codes)))
+  dropped h e = ap kept (next false true (is-equality h) e ∙ prefixed-none (propClauseOf (take written codes)))
 
 -- The same for a number of forms left that is not 0.
 module _ (v : List ℕ) (count : ℕ) (fs codes : List ℕ) (written at left : ℕ) (p : Evaluated v count fs codes written at left) (some : 0 < left) where
@@ -140,8 +140,8 @@ module _ (v : List ℕ) (count : ℕ) (fs codes : List ℕ) (written at left : �
   dropped-here = dropped v count fs codes written at (left - 1) one-of
 
 -- the whole instance
-pub all-evaluated : (v : List ℕ) (count : ℕ) (fs codes : List ℕ) (written at : ℕ) → Evaluated v count fs codes written at 0 → kept (formInstance v count fs) ≡ clauseOf (take written codes) ∷ []
-all-evaluated v count fs codes written at p = ap kept (p .rest ∙ prefixed-all (clauseOf (take written codes)))
+pub all-evaluated : (v : List ℕ) (count : ℕ) (fs codes : List ℕ) (written at : ℕ) → Evaluated v count fs codes written at 0 → kept (formInstance v count fs) ≡ propClauseOf (take written codes) ∷ []
+all-evaluated v count fs codes written at p = ap kept (p .rest ∙ prefixed-all (propClauseOf (take written codes)))
 
 -- the products of a form and its base make up its code
 pub code-made : (fs : List ℕ) (at : ℕ) (v : List ℕ) (b x y z w : ℕ) → b ≡ getD fs (at + 1) 0

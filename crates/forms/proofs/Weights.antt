@@ -8,20 +8,20 @@ use lib.ListN.{length, take}
 use lib.Seq.{length-take-le}
 use Rattle.theory.specs.Vectors.{rank}
 use Rattle.interpretation.proofs.Ranks.{table-within}
-use Rattle.forms.specs.LinearForms.{weight, place}
+use Rattle.forms.specs.LinearForms.{rankWeight, place}
 
 -- argument j counts as often as there are vectors of the arguments after it
-pub weight-within : (s a j : ℕ) → j < a → weight s a j ≡ s ^ (a - j - 1)
+pub weight-within : (s a j : ℕ) → j < a → rankWeight s a j ≡ s ^ (a - j - 1)
 weight-within s zero j h = absurd (omega arith)
 weight-within s (suc a) zero h = let e : suc a - 0 - 1 ≡ a = omega arith in ap (λ (n : ℕ). s ^ n) (sym e)
 weight-within s (suc a) (suc j) h = let e : a - j - 1 ≡ suc a - suc j - 1 = omega arith in weight-within s a j (omega arith) ∙ ap (λ (n : ℕ). s ^ n) e
 
-pub weight-past : (s a j : ℕ) → a ≤ j → weight s a j ≡ 0
+pub weight-past : (s a j : ℕ) → a ≤ j → rankWeight s a j ≡ 0
 weight-past s zero j h = refl
 weight-past s (suc a) zero h = absurd (omega arith)
 weight-past s (suc a) (suc j) h = weight-past s a j (omega arith)
 
-pub weight-small : (s a j : ℕ) → s ≤ 8 → a ≤ 3 → weight s a j ≤ 512
+pub weight-small : (s a j : ℕ) → s ≤ 8 → a ≤ 3 → rankWeight s a j ≤ 512
 weight-small s zero j h l = omega arith
 weight-small s (suc a) zero h l = table-within s a h (omega arith)
 weight-small s (suc a) (suc j) h l = weight-small s a j h (omega arith)
@@ -43,7 +43,7 @@ place-below (suc a) zero x h = h (omega arith)
 place-below (suc a) (suc j) x h = place-below a j x (λ l. h (omega arith))
 
 -- the place of an argument that is not there does not count
-weight-place : (s a j x : ℕ) (f : ℕ → ℕ) → weight s a j * f (place a j x) ≡ weight s a j * f x
+weight-place : (s a j x : ℕ) (f : ℕ → ℕ) → rankWeight s a j * f (place a j x) ≡ rankWeight s a j * f x
 weight-place s zero j x f = zero-mul (f 0) ∙ sym (zero-mul (f x))
 weight-place s (suc a) zero x f = refl
 weight-place s (suc a) (suc j) x f = weight-place s a j x f
@@ -51,7 +51,7 @@ weight-place s (suc a) (suc j) x f = weight-place s a j x f
 -- the numbers from argument j on, each as often as it counts
 abbrev weighed : ℕ → ℕ → ℕ → List ℕ → ℕ
 weighed s a j [] = 0
-weighed s a j (u ∷ us) = weight s a j * u + weighed s a (suc j) us
+weighed s a j (u ∷ us) = rankWeight s a j * u + weighed s a (suc j) us
 
 weighed-none : (s j : ℕ) (us : List ℕ) → weighed s 0 j us ≡ 0
 weighed-none s j [] = refl
@@ -59,7 +59,7 @@ weighed-none s j (u ∷ us) = omega (arith, zero-mul u, weighed-none s (suc j) u
 
 weighed-after : (s a j : ℕ) (us : List ℕ) → weighed s (suc a) (suc j) us ≡ weighed s a j us
 weighed-after s a j [] = refl
-weighed-after s a j (u ∷ us) = ap (λ (n : ℕ). weight s a j * u + n) (weighed-after s a (suc j) us)
+weighed-after s a j (u ∷ us) = ap (λ (n : ℕ). rankWeight s a j * u + n) (weighed-after s a (suc j) us)
 
 weighed-rank : (s a : ℕ) (us : List ℕ) → a ≤ length us → weighed s a 0 us ≡ rank s (take a us)
 weighed-rank s zero us h = weighed-none s 0 us
@@ -73,11 +73,11 @@ mul-sum c a b = omega (arith, mul-comm c (a + b), add-mul a b c, mul-comm a c, m
 
 -- three products of a form are their rank, as often as it counts
 pub products-rank : (s a step x y z : ℕ) (f : ℕ → ℕ) → a ≤ 3
-    → step * weight s a 0 * f (place a 0 x) + (step * weight s a 1 * f (place a 1 y) + step * weight s a 2 * f (place a 2 z)) ≡ step * rank s (take a (f x ∷ f y ∷ f z ∷ []))
+    → step * rankWeight s a 0 * f (place a 0 x) + (step * rankWeight s a 1 * f (place a 1 y) + step * rankWeight s a 2 * f (place a 2 z)) ≡ step * rank s (take a (f x ∷ f y ∷ f z ∷ []))
 products-rank s a step x y z f h =
-    let p : ℕ = weight s a 0 * f x in
-    let q : ℕ = weight s a 1 * f y in
-    let r : ℕ = weight s a 2 * f z in
+    let p : ℕ = rankWeight s a 0 * f x in
+    let q : ℕ = rankWeight s a 1 * f y in
+    let r : ℕ = rankWeight s a 2 * f z in
     let e : p + (q + (r + 0)) ≡ rank s (take a (f x ∷ f y ∷ f z ∷ [])) = weighed-rank s a (f x ∷ f y ∷ f z ∷ []) h in
     let e′ : p + (q + r) ≡ rank s (take a (f x ∷ f y ∷ f z ∷ [])) = omega (arith, e) in
     omega (
@@ -90,8 +90,8 @@ products-rank s a step x y z f h =
       ap (λ (n : ℕ). step * n) e′,
     )
   where
-    counted : (j x : ℕ) → step * weight s a j * f (place a j x) ≡ step * (weight s a j * f x)
-    counted j x = mul-assoc step (weight s a j) (f (place a j x)) ∙ ap (λ (n : ℕ). step * n) (weight-place s a j x f)
+    counted : (j x : ℕ) → step * rankWeight s a j * f (place a j x) ≡ step * (rankWeight s a j * f x)
+    counted j x = mul-assoc step (rankWeight s a j) (f (place a j x)) ∙ ap (λ (n : ℕ). step * n) (weight-place s a j x f)
 
 -- a coefficient is small
 pub coefficient-small : (step w : ℕ) → step ≤ 16 → w ≤ 512 → step * w ≤ 8192

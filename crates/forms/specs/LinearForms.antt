@@ -23,10 +23,10 @@ use Rattle.valuations.specs.Numbers.{NumberingOf}
 use Rattle.stream.specs.Literals.{literalOf}
 
 -- how often argument j of so many counts in their rank
-abbrev pub weight : ℕ → ℕ → ℕ → ℕ
-weight s zero j = 0
-weight s (suc arity) zero = s ^ arity
-weight s (suc arity) (suc j) = weight s arity j
+abbrev pub rankWeight : ℕ → ℕ → ℕ → ℕ
+rankWeight s zero j = 0
+rankWeight s (suc arity) zero = s ^ arity
+rankWeight s (suc arity) (suc j) = rankWeight s arity j
 
 -- the place x of argument j of so many, or 0 where there are fewer
 abbrev pub place : ℕ → ℕ → ℕ → ℕ
@@ -42,9 +42,9 @@ equalityForm positive x y = cond positive 1 2 ∷ 0 ∷ x ∷ 0 ∷ y ∷ 0 ∷ 
 abbrev pub linearForm : Bool → ℕ → ℕ → ℕ → ℕ → ℕ → ℕ → ℕ → ℕ → ℕ → List ℕ
 linearForm positive base step arity x y z w d s =
     0 ∷ (2 * base + cond positive 0 1)
-    ∷ place arity 0 x ∷ (step * weight s arity 0)
-    ∷ place arity 1 y ∷ (step * weight s arity 1)
-    ∷ place arity 2 z ∷ (step * weight s arity 2)
+    ∷ place arity 0 x ∷ (step * rankWeight s arity 0)
+    ∷ place arity 1 y ∷ (step * rankWeight s arity 1)
+    ∷ place arity 2 z ∷ (step * rankWeight s arity 2)
     ∷ w ∷ d ∷ []
 
 -- the code of a form under the values v

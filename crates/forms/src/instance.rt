@@ -5,7 +5,7 @@ ghost use mathlib.Core.List.{[], _∷_};
 ghost use Prim.Native.Nat.{_+_, _*_, _≤_, _<_};
 ghost use lib.ListN.{getD, length, take};
 ghost use Rattle.theory.specs.Instances.{kept};
-ghost use Rattle.stream.specs.Literals.{clauseOf};
+ghost use Rattle.stream.specs.Literals.{propClauseOf};
 ghost use Rattle.forms.specs.LinearForms.{AllSafe, Safe, codeAt, formAt, formInstance, isTrueAt};
 
 // Whether the instance is kept, and the number of its literals.
@@ -19,7 +19,7 @@ pub fn instance_at(forms: &[u32], count: usize, values: &[u8], codes: &mut [u32]
     requires { ⌜ AllSafe count (now forms) × ((count * 10 ≤ length (now forms)) × (length (now values) ≡ 10)) ⌝ }
     requires { ⌜ count ≤ length (now codes) ⌝ }
     ensures count { λ r. ⌜ r .count ≤ count ⌝ }
-    ensures instance { λ r. ⌜ kept (formInstance (now (values .entry)) count (now (forms .entry))) ≡ cond (r .kept) (clauseOf (take (r .count) (now (codes .exit))) ∷ []) [] ⌝ }
+    ensures instance { λ r. ⌜ kept (formInstance (now (values .entry)) count (now (forms .entry))) ≡ cond (r .kept) (propClauseOf (take (r .count) (now (codes .exit))) ∷ []) [] ⌝ }
 {
     let mut written: usize = 0;
     let mut at: usize = 0;

@@ -2,11 +2,11 @@
 // A form is ten numbers: kind, base, x, a, y, b, z, c, w, d. Under the values v it is the literal with the code
 // base + a·v[x] + b·v[y] + c·v[z] + d·v[w], or by its kind an equality of the variables at places x and y.
 use flattening::flat::FlatClause;
+use indices::PropVar;
 use interpretation::vector::power;
 use shallow::literals::Literal;
 use shallow::literals::Shape;
 use valuations::numbering::Numbering;
-use valuations::numbering::PropVar;
 use valuations::numbering::literal;
 ghost use mathlib.Core.Path.{_≡_};
 ghost use mathlib.Core.List.{[], _∷_};
@@ -14,7 +14,7 @@ ghost use Prim.Native.Nat.{_+_, _≤_};
 ghost use lib.ListN.{length};
 ghost use lib.Seq.{paste};
 ghost use Rattle.flattening.specs.Flat.{flatIn};
-ghost use Rattle.forms.specs.LinearForms.{AllSafe, Groundable, Linear, LiteralOver, Means, Safe, equalityForm, linearForm, literalOver, place, weight};
+ghost use Rattle.forms.specs.LinearForms.{AllSafe, Groundable, Linear, LiteralOver, Means, Safe, equalityForm, linearForm, literalOver, place, rankWeight};
 
 // A form for each literal, one after the other.
 pub struct Forms {
@@ -158,7 +158,7 @@ fn place_of(arity: u8, j: u8, x: u8) -> u32
 // How often argument j counts in the rank.
 fn weight_of(arity: u8, j: u8, size: u32) -> u32
     requires { ⌜ (arity ≤ 3) × (size ≤ 8) ⌝ }
-    ensures weight { λ r. ⌜ r ≡ weight size arity j ⌝ }
+    ensures weight { λ r. ⌜ r ≡ rankWeight size arity j ⌝ }
     ensures small { λ r. ⌜ r ≤ 512 ⌝ }
 {
     if j < arity {

@@ -19,7 +19,7 @@ use Rattle.syntax.specs.declared.signature.Signature as declared
 use Rattle.syntax.specs.Signatures.{kindOf, symbolIn, signatureIn}
 use Rattle.clauses.specs.Names.{Limited}
 use Rattle.clauses.proofs.Held.{blank, count-signatureIn, symbolAt-signatureIn}
-use Rattle.stream.specs.Literals.{literalOf, clauseOf}
+use Rattle.stream.specs.Literals.{literalOf, propClauseOf}
 use Rattle.stream.proofs.Codes.{literalOf-code}
 use Rattle.valuations.specs.declared.numbering.Numbering.{Numbering}
 use Rattle.valuations.specs.Numbers.{NumberingOf}
@@ -33,13 +33,13 @@ cell-literal x d u b e =
     ap literalOf e ∙ literalOf-code (x + d) b ∙ ap (λ (k : ℕ). record { positive = b; number = k }) n
 
 -- not d or not e
-pub pair-clause : (x d e a b : ℕ) → a ≡ 2 * (x + d) + 1 → b ≡ 2 * (x + e) + 1 → clauseOf (a ∷ b ∷ []) ≡ notBoth (1 + x) d e
+pub pair-clause : (x d e a b : ℕ) → a ≡ 2 * (x + d) + 1 → b ≡ 2 * (x + e) + 1 → propClauseOf (a ∷ b ∷ []) ≡ notBoth (1 + x) d e
 pair-clause x d e a b p q = ap₂ (λ (l m : PropLiteral). l ∷ m ∷ []) (cell-literal x d a false p) (cell-literal x e b false q)
 
 -- some result, one result more
-pub result-more : (x d u : ℕ) (us : List ℕ) → d < length us → clauseOf (take d us) ≡ someResult d (1 + x) → u ≡ 2 * (x + d) + 0 → clauseOf (take (suc d) (set us d u)) ≡ someResult (suc d) (1 + x)
+pub result-more : (x d u : ℕ) (us : List ℕ) → d < length us → propClauseOf (take d us) ≡ someResult d (1 + x) → u ≡ 2 * (x + d) + 0 → propClauseOf (take (suc d) (set us d u)) ≡ someResult (suc d) (1 + x)
 result-more x d u us h e p =
-    ap clauseOf (take-suc-set us d u h)
+    ap propClauseOf (take-suc-set us d u h)
     ∙ map-append literalOf (take d us) (u ∷ [])
     ∙ ap₂ (λ (c : PropClause) (l : PropLiteral). c ++ (l ∷ [])) e (cell-literal x d u true p)
     ∙ sym whole
@@ -93,7 +93,7 @@ pub row-small : (r s : ℕ) → r < 512 → s ≤ 8 → r * s ≤ 4096
 row-small r s h l = omega (arith, mul-le-mul {n₁ = r} {m₁ = s} {n₂ = 512} {m₂ = 8} (omega arith) l)
 
 -- some result has a literal for each
-pub length-some : (s n : ℕ) (us : List ℕ) → clauseOf us ≡ someResult s n → s ≡ length us
+pub length-some : (s n : ℕ) (us : List ℕ) → propClauseOf us ≡ someResult s n → s ≡ length us
 length-some s n us e =
     sym (length-upFrom 0 s)
     ∙ sym (length-map (upTo s) (λ d. record { positive = true; number = n + d }))

@@ -1,4 +1,5 @@
 // The clauses of the function cells, in written order: some result, then not two.
+use indices::PropVar;
 use interpretation::vector::power;
 use stream::consumer::Mode;
 use stream::consumer::Progress;
@@ -6,7 +7,6 @@ use stream::consumer::take_clause;
 use syntax::signature::Signature;
 use syntax::signature::Symbol;
 use valuations::numbering::Numbering;
-use valuations::numbering::PropVar;
 use valuations::numbering::literal;
 ghost use mathlib.Core.Path.{_≡_};
 ghost use mathlib.Core.List.{List, [], _∷_};
@@ -15,7 +15,7 @@ ghost use lib.ListN.{take};
 ghost use Rattle.theory.specs.PropClauses.{cellClauses, notBoth, notTwo, someResult};
 ghost use Rattle.syntax.specs.Signatures.{signatureIn};
 ghost use Rattle.clauses.specs.Names.{Limited};
-ghost use Rattle.stream.specs.Literals.{clauseOf};
+ghost use Rattle.stream.specs.Literals.{propClauseOf};
 ghost use Rattle.stream.specs.Consuming.{Consumed, Consumes, state};
 ghost use Rattle.valuations.specs.Numbers.{NumberingOf};
 ghost use Rattle.grounding.specs.CellPart.{cellPart, notWith, rowClauses, symbolClauses};
@@ -123,7 +123,7 @@ fn cell(
 // Some result: the `size` variables from x on.
 fn some_result(x: u32, size: u32) -> [u32; 8]
     requires { ⌜ (size ≤ 8) × (x < 2 ^ 20) ⌝ }
-    ensures { λ r. ⌜ clauseOf (take size r) ≡ someResult size (1 + x) ⌝ }
+    ensures { λ r. ⌜ propClauseOf (take size r) ≡ someResult size (1 + x) ⌝ }
 {
     let mut some = [0u32; 8];
     let mut d: u32 = 0;

@@ -1,4 +1,3 @@
-// What interpretations (document 01: cases) are made of: elements, cells, argument vectors, the tables of symbols.
-pub mod numbers;
+// What interpretations (document 01: cases) are made of: argument vectors and the tables of symbols.
 pub mod tables;
 pub mod vector;

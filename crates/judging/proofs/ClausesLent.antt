@@ -18,7 +18,7 @@ use Rattle.theory.proofs.Distinct.{length-distinct}
 use Rattle.theory.proofs.Interpretations.{length-interpretation}
 use Rattle.syntax.specs.declared.words.ClauseWords.{ClauseWords}
 use Rattle.syntax.specs.declared.variables.Variables.{Variables}
-use Rattle.syntax.specs.Codes.{wordOf, wordsIn, clauseIn}
+use Rattle.syntax.specs.Codes.{codeWord, wordsIn, clauseIn}
 use Rattle.syntax.specs.Variables.{lettersOf, CodesBelow, Places, variablesIn}
 use Rattle.syntax.proofs.Places.{letters-below}
 use Rattle.syntax.proofs.Clauses.{codesBelow, variables-clauseIn}
@@ -71,5 +71,5 @@ module _ {g : Signature} {c : ClauseWords} {t : Tables} {cells : List ℕ} {s : 
     pub judged-failing : firstFailing judged-lent ≡ failingChoice (interpretation s g cells) s (clauseIn g c)
     unfolding clauseIn
     judged-failing =
-        ap (λ (n : ℕ). firstThat (λ v. not (clauseTrue (interpretation s g cells) (assign (variablesIn c) v) (readWords g (map wordOf (take n (c .words))) .clause))) (vectors s (length (variablesIn c)))) (sub-zero (c .count)) ∙
+        ap (λ (n : ℕ). firstThat (λ v. not (clauseTrue (interpretation s g cells) (assign (variablesIn c) v) (readWords g (map codeWord (take n (c .words))) .clause))) (vectors s (length (variablesIn c)))) (sub-zero (c .count)) ∙
         ap (λ (xs : List ℕ). firstThat (λ v. not (clauseTrue (interpretation s g cells) (assign xs v) (readWords g (wordsIn c) .clause))) (vectors s (length xs))) (sym (variables-clauseIn g c (j .clause)))

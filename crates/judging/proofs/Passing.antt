@@ -15,7 +15,7 @@ use Rattle.theory.specs.Cells.{interpretation}
 use Rattle.interpretation.specs.declared.tables.Tables.{Tables}
 use Rattle.interpretation.specs.declared.vector.ArgumentVector.{ArgumentVector}
 use Rattle.interpretation.specs.Vectors.{digitsIn, firstVector, IsVector, IsNext}
-use Rattle.truth.specs.Values.{Chosen, ClauseLent, clauseOf}
+use Rattle.truth.specs.Values.{Chosen, ClauseLent, lentClause}
 use Rattle.judging.specs.Choices.{failsAt, firstFailing}
 use Rattle.interpretation.proofs.Counting.{length-vectors, drop-vectors}
 
@@ -117,10 +117,10 @@ module _ {words place : List ℕ} {t : Tables} {cells : List ℕ} {s n : ℕ} {a
   passed-chosen xs e = rw lent (record { counted = reached-length s n a i (p .reached) ∙ e; below = reached-below s n a i (p .reached) })
 
   module _ (c : ClauseLent words place t cells s) (e : n ≡ length (c .variables)) where
-    lent-value : (b : Bool) → b ≡ clauseTrue (interpretation s (c .signature) cells) (assign (c .variables) (take (n - 0) (a .digits))) (clauseOf c) → failsAt c (digitsIn a) ≡ not b
-    lent-value b q = sym (ap not (q ∙ ap (λ (v : List ℕ). clauseTrue (interpretation s (c .signature) cells) (assign (c .variables) v) (clauseOf c)) lent))
+    lent-value : (b : Bool) → b ≡ clauseTrue (interpretation s (c .signature) cells) (assign (c .variables) (take (n - 0) (a .digits))) (lentClause c) → failsAt c (digitsIn a) ≡ not b
+    lent-value b q = sym (ap not (q ∙ ap (λ (v : List ℕ). clauseTrue (interpretation s (c .signature) cells) (assign (c .variables) v) (lentClause c)) lent))
 
-    pub passed-fails : (b : Bool) → i < s ^ n → b ≡ false → b ≡ clauseTrue (interpretation s (c .signature) cells) (assign (c .variables) (take (n - 0) (a .digits))) (clauseOf c)
+    pub passed-fails : (b : Bool) → i < s ^ n → b ≡ false → b ≡ clauseTrue (interpretation s (c .signature) cells) (assign (c .variables) (take (n - 0) (a .digits))) (lentClause c)
         → some (digitsIn a) ≡ firstFailing c
     passed-fails b h z q = sym (p .rest c e ∙ found-here s n a i (p .reached) (failsAt c) h (lent-value b q ∙ ap not z))
 
@@ -129,7 +129,7 @@ module _ {words place : List ℕ} {t : Tables} {cells : List ℕ} {s n : ℕ} {a
 
   pub passed-next : (b : Bool) (r : ArgumentVector) → length (r .digits) ≡ 10 → i < s ^ n → b ≡ true → IsNext a r
       → ((c : ClauseLent words place t cells s) → n ≡ length (c .variables)
-      → b ≡ clauseTrue (interpretation s (c .signature) cells) (assign (c .variables) (take (n - 0) (a .digits))) (clauseOf c))
+      → b ≡ clauseTrue (interpretation s (c .signature) cells) (assign (c .variables) (take (n - 0) (a .digits))) (lentClause c))
       → Passed words place t cells s n r (suc i)
   passed-next b r long h z x q =
       record {

@@ -17,7 +17,7 @@ use Rattle.interpretation.specs.declared.tables.Tables.{Tables}
 use Rattle.judging.specs.declared.choices.Choice.{Choice}
 use Rattle.interpretation.specs.Vectors.{digitsIn}
 use Rattle.interpretation.specs.Tables.{TablesOf}
-use Rattle.truth.specs.Values.{ClauseLent, clauseOf}
+use Rattle.truth.specs.Values.{ClauseLent, lentClause}
 
 -- the choice, if there is one
 abbrev pub choiceIn : Choice → Option (List ℕ)
@@ -25,7 +25,7 @@ choiceIn c = cond (c .fails) (some (digitsIn (c .values))) none
 
 -- the clause fails under the values v of the variables
 abbrev pub failsAt : {words place : List ℕ} {t : Tables} {cells : List ℕ} {s : ℕ} → ClauseLent words place t cells s → List ℕ → Bool
-failsAt {cells = cells} {s = s} c v = not (clauseTrue (interpretation s (c .signature) cells) (assign (c .variables) v) (clauseOf c))
+failsAt {cells = cells} {s = s} c v = not (clauseTrue (interpretation s (c .signature) cells) (assign (c .variables) v) (lentClause c))
 
 -- the first values under which it does
 abbrev pub firstFailing : {words place : List ℕ} {t : Tables} {cells : List ℕ} {s : ℕ} → ClauseLent words place t cells s → Option (List ℕ)

@@ -50,8 +50,8 @@ module _ {codes place arities : List ℕ} {owns at : ℕ} {t : Table} (s : TermT
   abbrev g : Signature
   g = s .source .signature
 
-  pub before-end : at < s .source .length
-  before-end = let w = starts (s .term) (s .rest) in first-below codes (s .source .length) (s .source .fits) at (w .0) (w .1) (s .words ∙ w .2)
+  pub before-end : at < s .source .count
+  before-end = let w = starts (s .term) (s .rest) in first-below codes (s .source .count) (s .source .fits) at (w .0) (w .1) (s .words ∙ w .2)
 
   pub inside : at < length codes
   inside = omega (arith, before-end, s .source .fits)
@@ -74,7 +74,7 @@ module _ {codes place arities : List ℕ} {owns at : ℕ} {t : Table} (s : TermT
     where
       go : (u : Term) → s .term ≡ u → VariableTerm ⊎ FunctionTerm
       go (variable x) e =
-          let w = first-word codes (s .source .length) (s .source .fits) at (letter x) (s .rest) (s .words ∙ ap (λ (u : Term). termWords u ++ s .rest) e) in
+          let w = first-word codes (s .source .count) (s .source .fits) at (letter x) (s .rest) (s .words ∙ ap (λ (u : Term). termWords u ++ s .rest) e) in
           inl (record {
             x = x;
             is = e;
@@ -82,7 +82,7 @@ module _ {codes place arities : List ℕ} {owns at : ℕ} {t : Table} (s : TermT
             own = and-left (elem x xs) true (ap (λ (u : Term). within xs (termVariables u)) (sym e) ∙ s .own);
           })
       go (apply f us) e =
-          let w = first-word codes (s .source .length) (s .source .fits) at (symbol f) (termsWords us ++ s .rest) (s .words ∙ ap (λ (u : Term). termWords u ++ s .rest) e) in
+          let w = first-word codes (s .source .count) (s .source .fits) at (symbol f) (termsWords us ++ s .rest) (s .words ∙ ap (λ (u : Term). termWords u ++ s .rest) e) in
           let c : f ≡ code = sym (ap codeOf w) ∙ codeOf-wordOf code in
           let d = functionOf→ g f (count us) (and-left (functionOf g f (count us)) (termsOk g us) (ap (termOk g) (sym e) ∙ s .ok)) in
           inr (record {
@@ -127,7 +127,7 @@ module _ {codes place arities : List ℕ} {owns at : ℕ} {t : Table} (s : TermT
   pub function-inside : getD codes at 0 < 65 → getD codes at 0 < length arities
   function-inside h = omega (arith, function-term h .below, s .source .table .within)
 
-  pub words-behind : (p : FunctionTerm) → wordsFrom codes (s .source .length) at ≡ symbol code ∷ (termsWords (p .arguments) ++ s .rest)
+  pub words-behind : (p : FunctionTerm) → wordsFrom codes (s .source .count) at ≡ symbol code ∷ (termsWords (p .arguments) ++ s .rest)
   words-behind p = s .words ∙ ap (λ (u : Term). termWords u ++ s .rest) (p .is)
 
   abbrev pub arguments-there : FunctionTerm → TermsThere codes place arities owns (at + 1) (getD arities (getD codes at 0) 0) t
@@ -139,7 +139,7 @@ module _ {codes place arities : List ℕ} {owns at : ℕ} {t : Table} (s : TermT
         ok = and-right (functionOf g code (count (p .arguments))) (termsOk g (p .arguments)) (ap (termOk g) (sym (p .is)) ∙ s .ok);
         own = ap (λ (u : Term). within xs (termVariables u)) (sym (p .is)) ∙ s .own;
         rest = s .rest;
-        words = first-after codes (s .source .length) (s .source .fits) at (symbol code) (termsWords (p .arguments) ++ s .rest) (words-behind p);
+        words = first-after codes (s .source .count) (s .source .fits) at (symbol code) (termsWords (p .arguments) ++ s .rest) (words-behind p);
         found = s .found;
         lifts = s .lifts;
         room = omega (arith, s .room);
@@ -155,7 +155,7 @@ module _ {codes place arities : List ℕ} {owns at : ℕ} {t : Table} (s : TermT
         addTerms-length (s .found) us,
         allFunctionTerms-words (p .arguments),
         s .room,
-        words-fit codes (s .source .length) (s .source .fits) at (symbol code ∷ termsWords (p .arguments)) (s .rest) (words-behind p) (omega (arith, before-end)),
+        words-fit codes (s .source .count) (s .source .fits) at (symbol code ∷ termsWords (p .arguments)) (s .rest) (words-behind p) (omega (arith, before-end)),
         s .source .short,
       )
 
@@ -215,7 +215,7 @@ module _ {codes place arities : List ℕ} {owns at n : ℕ} {t : Table} (s : Ter
       go (cons u us) e = record { first = u; others = us; is = e }
 
   module _ (p : MoreTerms) where
-    pub words-there : wordsFrom codes (s .source .length) at ≡ termWords (p .first) ++ (termsWords (p .others) ++ s .rest)
+    pub words-there : wordsFrom codes (s .source .count) at ≡ termWords (p .first) ++ (termsWords (p .others) ++ s .rest)
     words-there = s .words ∙ ap (λ (us : Terms). termsWords us ++ s .rest) (p .is) ∙ append-assoc (termWords (p .first)) (termsWords (p .others)) (s .rest)
 
     pub all-ok : (termOk (s .source .signature) (p .first) && termsOk (s .source .signature) (p .others)) ≡ true
@@ -253,8 +253,8 @@ module _ {codes place arities : List ℕ} {owns at n : ℕ} {t : Table} (s : Ter
             own = within-right (s .source .variables) (termVariables (p .first)) (termsVariables (p .others)) all-own;
             rest = s .rest;
             words =
-                ap (wordsFrom codes (s .source .length)) (e .next)
-                ∙ words-after codes (s .source .length) (s .source .fits) at (termWords (p .first)) (termsWords (p .others) ++ s .rest) words-there;
+                ap (wordsFrom codes (s .source .count)) (e .next)
+                ∙ words-after codes (s .source .count) (s .source .fits) at (termWords (p .first)) (termsWords (p .others) ++ s .rest) words-there;
             found = addTerms (s .found) (functionTerms (p .first));
             lifts = e .lifts;
             room = omega (arith, addTerms-length (s .found) (functionTerms (p .first)), functionTerms-words (p .first), s .room, e .next);

@@ -8,15 +8,15 @@ use lib.ListN.{length, getD, take, drop, length-map, length-drop, length-append}
 use lib.Seq.{length-take-le, getD-take, drop-cons, drop-drop, drop-append-seam}
 use Rattle.theory.specs.Grammar.{Word, equals}
 use Rattle.theory.proofs.Lists.{map-at}
-use Rattle.syntax.specs.Codes.{wordOf}
+use Rattle.syntax.specs.Codes.{codeWord}
 use Rattle.lifting.specs.Reading.{wordsFrom}
 
 module _ (codes : List ℕ) (n : ℕ) (fits : n ≤ length codes) (at : ℕ) where
   abbrev words : List Word
-  words = map wordOf (take n codes)
+  words = map codeWord (take n codes)
 
   length-words : length words ≡ n
-  length-words = length-map (take n codes) wordOf ∙ length-take-le n codes fits
+  length-words = length-map (take n codes) codeWord ∙ length-take-le n codes fits
 
   -- where words begin with us, there is room for them, and behind them stand the rest
   pub words-fit : (us rest : List Word) → wordsFrom codes n at ≡ us ++ rest → at ≤ n → at + length us ≤ n
@@ -33,10 +33,10 @@ module _ (codes : List ℕ) (n : ℕ) (fits : n ≤ length codes) (at : ℕ) whe
     first-split : getD words at equals ∷ drop (suc at) words ≡ w ∷ ws
     first-split = sym (drop-cons words at equals (omega (arith, first-below, length-words))) ∙ e
 
-    pub first-word : wordOf (getD codes at 0) ≡ w
+    pub first-word : codeWord (getD codes at 0) ≡ w
     first-word =
-        ap wordOf (sym (getD-take n codes at 0 first-below))
-        ∙ sym (map-at wordOf (take n codes) at 0 equals (omega (arith, first-below, length-take-le n codes fits)))
+        ap codeWord (sym (getD-take n codes at 0 first-below))
+        ∙ sym (map-at codeWord (take n codes) at 0 equals (omega (arith, first-below, length-take-le n codes fits)))
         ∙ ap (λ (l : List Word). getD l 0 equals) first-split
 
     pub first-after : wordsFrom codes n (at + 1) ≡ ws

@@ -10,7 +10,7 @@ use Rattle.theory.specs.Lists.{all, placeThat}
 use Rattle.theory.specs.Syntax.{Signature, Term, Terms, count, termVariables, termsVariables, termOk, termsOk}
 use Rattle.theory.specs.Grammar.{Word, termWords, termsWords}
 use Rattle.theory.specs.Flattening.{functionTerms, allFunctionTerms, addTerms, variableFor}
-use Rattle.syntax.specs.Codes.{wordOf}
+use Rattle.syntax.specs.Codes.{codeWord}
 use Rattle.syntax.specs.Signatures.{Arities, Small}
 use Rattle.syntax.specs.Variables.{isLetter, placeOr8}
 use Rattle.lifting.specs.declared.table.Table.{Table}
@@ -24,19 +24,19 @@ pub record Source (codes place arities : List ℕ) (owns : ℕ) : Type 0 where
   pub signature : Signature
   pub table : Arities signature arities
   pub small : Small signature
-  pub length : ℕ
-  pub fits : length ≤ lib.ListN.length codes
-  pub short : length ≤ 64
+  pub count : ℕ
+  pub fits : count ≤ length codes
+  pub short : count ≤ 64
   pub variables : List ℕ
   pub letters : all isLetter variables ≡ true
-  pub owned : owns ≡ lib.ListN.length variables
+  pub owned : owns ≡ length variables
   pub few : owns ≤ 8
-  pub eight : 8 ≤ lib.ListN.length place
+  pub eight : 8 ≤ length place
   pub places : (x : ℕ) → x < 8 → getD place x 0 ≡ placeOr8 (placeThat (eqb x) variables)
 
 -- the clause's words
 abbrev pub wordsFrom : List ℕ → ℕ → ℕ → List Word
-wordsFrom codes n at = drop at (map wordOf (take n codes))
+wordsFrom codes n at = drop at (map codeWord (take n codes))
 
 -- a term stands at the place, and the table holds the terms found before
 pub record TermThere (codes place arities : List ℕ) (owns at : ℕ) (t : Table) : Type 0 where
@@ -45,7 +45,7 @@ pub record TermThere (codes place arities : List ℕ) (owns at : ℕ) (t : Table
   pub ok : termOk (source .signature) term ≡ true
   pub own : within (source .variables) (termVariables term) ≡ true
   pub rest : List Word
-  pub words : wordsFrom codes (source .length) at ≡ termWords term ++ rest
+  pub words : wordsFrom codes (source .count) at ≡ termWords term ++ rest
   pub found : List Term
   pub lifts : Lifts (source .signature) (source .variables) found t
   pub room : length found ≤ at
@@ -58,7 +58,7 @@ pub record TermsThere (codes place arities : List ℕ) (owns at n : ℕ) (t : Ta
   pub ok : termsOk (source .signature) terms ≡ true
   pub own : within (source .variables) (termsVariables terms) ≡ true
   pub rest : List Word
-  pub words : wordsFrom codes (source .length) at ≡ termsWords terms ++ rest
+  pub words : wordsFrom codes (source .count) at ≡ termsWords terms ++ rest
   pub found : List Term
   pub lifts : Lifts (source .signature) (source .variables) found t
   pub room : length found ≤ at

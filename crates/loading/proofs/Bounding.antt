@@ -10,7 +10,7 @@ use borrow.Author.Tests.{eqb-true, eqb-false}
 use lib.Dec.{eqb}
 use lib.ListN.{length, getD, set, length-set}
 use lib.Seq.{slice, slice-empty, getD-set-same, getD-set-other}
-use Rattle.loading.specs.Filling.{from, to, occurrences, literals, Filling, sums, Bounded}
+use Rattle.loading.specs.Filling.{from, to, occurrences, literals, Filling, sums, EmptyBlocks}
 use Rattle.loading.specs.Loading.{Tallied}
 use Rattle.loading.proofs.Occurrences.{sumBelow-cong, sumBelow-up, literals-sum}
 
@@ -72,7 +72,7 @@ module _ (v base : ℕ) (w₀ w : List ℕ) (a l : ℕ) (g : Bounding v base w�
           let n = eqb-false x l e in
           other (2 * v + 2 * x + 1) (λ z. omega (arith, z)) (λ z. omega (arith, z, n)) ∙ g .ends x (omega (arith, n, h))
 
-pub bounding-done : (v base : ℕ) (w₀ w : List ℕ) (a l : ℕ) → Bounding v base w₀ w a l → 2 * v ≤ l → Bounded v base w₀ w
+pub bounding-done : (v base : ℕ) (w₀ w : List ℕ) (a l : ℕ) → Bounding v base w₀ w a l → 2 * v ≤ l → EmptyBlocks v base w₀ w
 bounding-done v base w₀ w a l g past =
     record {
       long = g .long;
@@ -87,7 +87,7 @@ pub tallied-sum : (v : ℕ) (cs : List (List ℕ)) (w : List ℕ) → Tallied v 
 tallied-sum v cs w t = omega (arith, sumBelow-cong (λ y. to v y w) (λ y. occurrences y cs) (2 * v) (t .counts), literals-sum (2 * v) cs)
 
 -- the bounds start a filling: no clause yet, with room for each literal's occurrences
-module _ (v : ℕ) (cs : List (List ℕ)) (w w′ : List ℕ) (t : Tallied v cs w) (b : Bounded v (7 * v + length cs) w w′) (small : v < 2 ^ 18)
+module _ (v : ℕ) (cs : List (List ℕ)) (w w′ : List ℕ) (t : Tallied v cs w) (b : EmptyBlocks v (7 * v + length cs) w w′) (small : v < 2 ^ 18)
     (size : 7 * v + length cs + sums w v (2 * v) ≤ length w) where
   ends : (x : ℕ) → x < 2 * v → from v x w′ + occurrences x cs ≡ 7 * v + length cs + sums w v (suc x)
   ends x h = omega (arith, b .starts x h, t .counts x h)

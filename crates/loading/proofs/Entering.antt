@@ -11,7 +11,7 @@ use lib.ListN.{length, getD, set, take, drop, length-set, length-append, List·g
 use lib.Seq.{slice, length-slice, length-take-le, take-suc, drop-append-le, ext-getD, getD-set-same, getD-set-other, getD-append-seam}
 use Rattle.theory.specs.Lists.{elem}
 use Rattle.propagation.specs.Clauses.{All, weight, holders}
-use Rattle.propagation.specs.WorkArea.{Clause}
+use Rattle.propagation.specs.WorkArea.{ShortClause}
 use Rattle.propagation.proofs.Frames.{getD-slice}
 use Rattle.loading.specs.Filling.{from, to, occurrences, Filling, entered}
 
@@ -60,7 +60,7 @@ all-snoc P [] d a p = (p, tt)
 all-snoc P (e ∷ es) d a p = (a .0, all-snoc P es d (a .1) p)
 
 module _ (v : ℕ) (cs es : List (List ℕ)) (d w : List ℕ) (fill : Filling v cs (es ++ (d ∷ [])) w) (u : ℕ) (is : u < 2 * v) (new : elem u d ≡ false)
-    (space : to v u w < from v u w + occurrences u cs) (clause : Clause v (u ∷ d)) where
+    (space : to v u w < from v u w + occurrences u cs) (clause : ShortClause v (u ∷ d)) where
   abbrev m : ℕ
   m = length cs
 
@@ -204,7 +204,7 @@ module _ (v : ℕ) (cs es : List (List ℕ)) (d w : List ℕ) (fill : Filling v 
   entered-filling =
       record {
         small = fill .small;
-        clauses = all-snoc (Clause v) es (u ∷ d) (all-init (Clause v) es d (fill .clauses)) clause;
+        clauses = all-snoc (ShortClause v) es (u ∷ d) (all-init (ShortClause v) es d (fill .clauses)) clause;
         size = omega (arith, fill .size, long);
         count = omega (arith, fill .count, many, many′);
         values = λ i h. other i (λ e. omega (arith, e, t-in, h)) (λ e. omega (arith, e, h)) (λ e. omega (arith, e, h)) ∙ fill .values i h;

@@ -10,7 +10,7 @@ use lib.ListN.{length, getD, take, drop, replicate, length-append, length-map, l
 use lib.Seq.{slice, length-slice, length-take-le, ext-getD, getD-take, getD-drop, getD-append-seam, getD-append-add}
 use Rattle.theory.specs.Lists.{elem}
 use Rattle.propagation.specs.Clauses.{weight, holders}
-use Rattle.propagation.specs.WorkArea.{Clause, Held}
+use Rattle.propagation.specs.WorkArea.{ShortClause, WorkHeld}
 use Rattle.propagation.proofs.Frames.{getD-slice}
 use Rattle.loading.specs.Filling.{from, to, occurrences, Filling, entered, endsWith, enters}
 use Rattle.propagation.proofs.Lives.{holder-at}
@@ -21,7 +21,7 @@ pub opened : (v : ℕ) (cs es : List (List ℕ)) (w : List ℕ) → Filling v cs
 opened v cs es w f h =
     record {
       small = f .small;
-      clauses = all-snoc (Clause v) es [] (f .clauses) (record { distinct = tt; within = tt; short = omega arith });
+      clauses = all-snoc (ShortClause v) es [] (f .clauses) (record { distinct = tt; within = tt; short = omega arith });
       size = f .size;
       count = omega (arith, n);
       values = f .values;
@@ -100,8 +100,8 @@ module _ (v : ℕ) (cs es : List (List ℕ)) (d w : List ℕ) (f : Filling v cs 
       → Filling v cs (es ++ (cond k d (u ∷ d) ∷ [])) (enters v u c w)
   enters-filling space short true e = subst⁻¹ (λ (q : Bool). Filling v cs (es ++ (d ∷ [])) (cond q w (entered v u c w))) (test true e) f
   enters-filling space short false e =
-      let k = all-last (Clause v) es d (f .clauses) in
-      let k′ : Clause v (u ∷ d) = record { distinct = (e, k .distinct); within = (omega arith, k .within); short = omega arith } in
+      let k = all-last (ShortClause v) es d (f .clauses) in
+      let k′ : ShortClause v (u ∷ d) = record { distinct = (e, k .distinct); within = (omega arith, k .within); short = omega arith } in
       subst⁻¹ (λ (q : Bool). Filling v cs (es ++ ((u ∷ d) ∷ [])) (cond q w (entered v u c w))) (test false e) (entered-filling v cs es d w f u is e (space e) k′)
 
 -- a filled work area with no value set holds its clauses
@@ -134,7 +134,7 @@ module _ (v : ℕ) (cs ds : List (List ℕ)) (w : List ℕ) (f : Filling v cs ds
           let e′ : 7 * v + length ds + j ≡ 7 * v + i = omega (arith, ltb-false i (length ds) k) in
           sym (ap (λ (n : ℕ). getD (ms ++ drop (7 * v + length ds) w) n 0) e ∙ getD-append-add ms (drop (7 * v + length ds) w) j 0 ∙ getD-drop (7 * v + length ds) w j 0 ∙ ap (λ (n : ℕ). getD w n 0) e′)
 
-  pub filled-held : Held v ds 0 0 w
+  pub filled-held : WorkHeld v ds 0 0 w
   filled-held =
       record {
         small = f .small;

@@ -8,7 +8,7 @@ use lib.ListN.{length, getD, set, length-append}
 use lib.Seq.{getD-append-seam}
 use Rattle.theory.specs.Lists.{elem}
 use Rattle.propagation.specs.Clauses.{weight}
-use Rattle.propagation.specs.WorkArea.{Clause}
+use Rattle.propagation.specs.WorkArea.{ShortClause}
 use Rattle.propagation.proofs.Lives.{weight-small}
 use Rattle.loading.specs.Filling.{from, to, entered, endsWith, enters}
 use Rattle.loading.specs.Loading.{LiteralEnterable}
@@ -43,7 +43,7 @@ module _ (v u c : ℕ) (w : List ℕ) (p a b : ℕ) (r : Read v u c w p a b) whe
 
   pub weight-fits : (y : ℕ) → y ≡ c → getD w y 0 + 64 * u + 1 < 2 ^ 32
   weight-fits y ye =
-      let k = all-last (Clause v) (e .es) (e .d) (e .filling .clauses) in
+      let k = all-last (ShortClause v) (e .es) (e .d) (e .filling .clauses) in
       let o : getD w y 0 ≡ weight [] (e .d) =
       ap (λ (n : ℕ). getD w n 0) (ye ∙ e .at) ∙ e .filling .weights (length (e .es)) (omega (arith, many)) ∙ ap (weight []) (getD-append-seam (e .es) (e .d) [] []) in
       omega (arith, o, weight-small v [] (e .d) (e .filling .small) (k .within), e .short, e .literal, e .filling .small)

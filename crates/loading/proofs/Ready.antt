@@ -9,7 +9,7 @@ use Rattle.theory.specs.Lists.{all, sum}
 use Rattle.theory.specs.Propositional.{PropClause}
 use Rattle.theory.specs.Claims.Counts.{isNumbered}
 use Rattle.propagation.specs.Clauses.{code, codes, once, coded}
-use Rattle.propagation.specs.WorkArea.{Held, Prefers, Loaded}
+use Rattle.propagation.specs.WorkArea.{WorkHeld, Prefers, Loaded}
 use Rattle.propagation.proofs.Truths.{zero-at}
 use Rattle.loading.specs.Filling.{areaEnd}
 use Rattle.loading.specs.Loading.{Tallied, Entered}
@@ -34,7 +34,7 @@ pub entered-loaded : (v : ℕ) (cs : List PropClause) (first : ℕ → Bool) (w 
 entered-loaded v cs first w n f p =
     record {
       numbered = n;
-      held = subst (λ (ds : List (List ℕ)). Held v ds 0 0 w) (once-codes cs) (filled-held v (map codes cs) (map once (map codes cs)) w f (length-map (map codes cs) once));
+      held = subst (λ (ds : List (List ℕ)). WorkHeld v ds 0 0 w) (once-codes cs) (filled-held v (map codes cs) (map once (map codes cs)) w f (length-map (map codes cs) once));
       prefers = p;
     }
   where

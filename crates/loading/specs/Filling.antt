@@ -8,7 +8,7 @@ use lib.Seq.{slice}
 use lib.Dec.{eqb, ltb}
 use Rattle.theory.specs.Lists.{sum}
 use Rattle.propagation.specs.Clauses.{All, weight, holders}
-use Rattle.propagation.specs.WorkArea.{Clause}
+use Rattle.propagation.specs.WorkArea.{ShortClause}
 
 -- where the block of literal x starts and ends
 abbrev pub from : ℕ → ℕ → List ℕ → ℕ
@@ -37,7 +37,7 @@ areaEnd v cs = 7 * v + length cs + literals cs
 -- The clauses ds, each literal once, are in the work area, and there is room for cs: the block of x has room for each occurrence of x in cs.
 pub record Filling (v : ℕ) (cs ds : List (List ℕ)) (w : List ℕ) : Type 0 where
   pub small : v < 2 ^ 18
-  pub clauses : All (Clause v) ds
+  pub clauses : All (ShortClause v) ds
   pub size : 7 * v + length cs ≤ length w
   pub count : length ds ≤ length cs
   -- no variable has a value
@@ -76,7 +76,7 @@ abbrev pub sums : List ℕ → ℕ → ℕ → ℕ
 sums w v x = sumBelow (λ y. to v y w) x
 
 -- w′ is w with empty blocks, one after the other from base on, each with room for its count
-pub record Bounded (v base : ℕ) (w w′ : List ℕ) : Type 0 where
+pub record EmptyBlocks (v base : ℕ) (w w′ : List ℕ) : Type 0 where
   pub starts : (x : ℕ) → x < 2 * v → from v x w′ ≡ base + sums w v x
   pub ends : (x : ℕ) → x < 2 * v → to v x w′ ≡ base + sums w v x
   pub long : length w′ ≡ length w

@@ -10,7 +10,7 @@ use Rattle.theory.specs.Syntax.{Signature, Term, variable, apply, Terms, empty,
 use Rattle.theory.specs.Grammar.{Word, sign, equals, symbol, letter, termWords, termsWords, atomWords, clauseWords}
 use Rattle.theory.specs.Flattening.{rename, renameTerm, renameTerms, renameAtom, renameLiteral}
 use Rattle.theory.proofs.Tests.{eqb-true, eqb-same, eqb-ne, eqb-false, and-left, and-right, and-join}
-use Rattle.syntax.specs.Codes.{codeOf, wordOf, isKnown}
+use Rattle.syntax.specs.Codes.{codeOf, codeWord, isKnown}
 use Rattle.syntax.proofs.Codes.{codeOf-wordOf}
 use Rattle.merging.specs.Merged.{renamedCode}
 
@@ -72,8 +72,8 @@ module _ (x y : ℕ) where
       one (letter z) l = go z (eqb z y) l
 
 -- the same in codes of letters
-module _ (a b x y : ℕ) (ea : wordOf a ≡ letter x) (eb : wordOf b ≡ letter y) where
-  code-renamed : (n : ℕ) → wordOf (renamedCode a b n) ≡ renameWord x y (wordOf n)
+module _ (a b x y : ℕ) (ea : codeWord a ≡ letter x) (eb : codeWord b ≡ letter y) where
+  code-renamed : (n : ℕ) → codeWord (renamedCode a b n) ≡ renameWord x y (codeWord n)
   code-renamed n = go (eqb n b) refl
     where
       other : n ≢ b → (w : Word) → codeOf w ≡ n → w ≡ renameWord x y w
@@ -84,13 +84,13 @@ module _ (a b x y : ℕ) (ea : wordOf a ≡ letter x) (eb : wordOf b ≡ letter 
           let k : 65 + y ≡ b = ap codeOf (sym eb) ∙ codeOf-wordOf b in
           ap (λ (t : Bool). letter (cond t x z)) (sym (eqb-false z y (λ q. d (sym e ∙ ap (λ (m : ℕ). 65 + m) q ∙ k))))
 
-      go : (t : Bool) → eqb n b ≡ t → wordOf (cond t a n) ≡ renameWord x y (wordOf n)
-      go true e = ea ∙ sym (ap (λ (m : ℕ). renameWord x y (wordOf m)) (eqb-true n b e) ∙ ap (renameWord x y) eb ∙ ap (λ (t : Bool). letter (cond t x y)) (eqb-same y))
-      go false e = other (eqb-ne n b e) (wordOf n) (codeOf-wordOf n)
+      go : (t : Bool) → eqb n b ≡ t → codeWord (cond t a n) ≡ renameWord x y (codeWord n)
+      go true e = ea ∙ sym (ap (λ (m : ℕ). renameWord x y (codeWord m)) (eqb-true n b e) ∙ ap (renameWord x y) eb ∙ ap (λ (t : Bool). letter (cond t x y)) (eqb-same y))
+      go false e = other (eqb-ne n b e) (codeWord n) (codeOf-wordOf n)
 
-  pub codes-renamed : (ns : List ℕ) → map wordOf (map (renamedCode a b) ns) ≡ map (renameWord x y) (map wordOf ns)
+  pub codes-renamed : (ns : List ℕ) → map codeWord (map (renamedCode a b) ns) ≡ map (renameWord x y) (map codeWord ns)
   codes-renamed [] = refl
   codes-renamed (n ∷ ns) =
-      let p : wordOf (renamedCode a b n) ≡ renameWord x y (wordOf n) = code-renamed n in
-      let q : map wordOf (map (renamedCode a b) ns) ≡ map (renameWord x y) (map wordOf ns) = codes-renamed ns in
-      ap (λ (w : Word). w ∷ map wordOf (map (renamedCode a b) ns)) p ∙ ap (λ (ws : List Word). renameWord x y (wordOf n) ∷ ws) q
+      let p : codeWord (renamedCode a b n) ≡ renameWord x y (codeWord n) = code-renamed n in
+      let q : map codeWord (map (renamedCode a b) ns) ≡ map (renameWord x y) (map codeWord ns) = codes-renamed ns in
+      ap (λ (w : Word). w ∷ map codeWord (map (renamedCode a b) ns)) p ∙ ap (λ (ws : List Word). renameWord x y (codeWord n) ∷ ws) q

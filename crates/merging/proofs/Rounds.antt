@@ -19,7 +19,7 @@ use Rattle.theory.proofs.Lists.{all-append, all-take, all-drop, all-at, map-at,
 use Rattle.theory.proofs.Tests.{eqb-true, eqb-ne, and-join}
 use Rattle.theory.proofs.Merging.{rename-clauseOk, leftmost-ok, merged-round, merged-end}
 use Rattle.syntax.specs.declared.words.ClauseWords.{ClauseWords}
-use Rattle.syntax.specs.Codes.{wordOf, wordsIn, clauseIn, isKnown, IsClause}
+use Rattle.syntax.specs.Codes.{codeWord, wordsIn, clauseIn, isKnown, IsClause}
 use Rattle.syntax.proofs.Codes.{length-wordsIn, wordsIn-at}
 use Rattle.syntax.proofs.Clauses.{clauseOk-clauseIn, clauseWords-clauseIn, clauseWords-isClause, clauseIn-clauseWords}
 use Rattle.merging.specs.Unequal.{isUnequal, startsUnequal, unequalPlace}
@@ -67,20 +67,20 @@ place-starts (w ∷ ws) e = ap (λ (b : Bool). cond b 0 (suc (unequalPlace ws)))
 -- the walk over the words of w: the four from place i on are tested
 module _ (w : ClauseWords) (fits : w .count ≤ length (w .words)) (i : ℕ) (h : i + 3 < w .count) where
   pub starts-at : startsUnequal (drop i (wordsIn w))
-      ≡ isUnequal (wordOf (getD (w .words) i 0)) (wordOf (getD (w .words) (i + 1) 0)) (wordOf (getD (w .words) (i + 2) 0)) (wordOf (getD (w .words) (i + 3) 0))
+      ≡ isUnequal (codeWord (getD (w .words) i 0)) (codeWord (getD (w .words) (i + 1) 0)) (codeWord (getD (w .words) (i + 2) 0)) (codeWord (getD (w .words) (i + 3) 0))
   starts-at =
       let ws : List Word = wordsIn w in
       let n : length ws ≡ w .count = length-wordsIn w fits in
-      let a : getD (drop i ws) 0 equals ≡ wordOf (getD (w .words) i 0) =
+      let a : getD (drop i ws) 0 equals ≡ codeWord (getD (w .words) i 0) =
       getD-drop i ws 0 equals ∙ ap (λ (j : ℕ). getD ws j equals) (add-zero i) ∙ wordsIn-at w fits i equals (omega arith) in
-      let b : getD (drop i ws) 1 equals ≡ wordOf (getD (w .words) (i + 1) 0) = getD-drop i ws 1 equals ∙ wordsIn-at w fits (i + 1) equals (omega arith) in
-      let c : getD (drop i ws) 2 equals ≡ wordOf (getD (w .words) (i + 2) 0) = getD-drop i ws 2 equals ∙ wordsIn-at w fits (i + 2) equals (omega arith) in
-      let d : getD (drop i ws) 3 equals ≡ wordOf (getD (w .words) (i + 3) 0) = getD-drop i ws 3 equals ∙ wordsIn-at w fits (i + 3) equals (omega arith) in
+      let b : getD (drop i ws) 1 equals ≡ codeWord (getD (w .words) (i + 1) 0) = getD-drop i ws 1 equals ∙ wordsIn-at w fits (i + 1) equals (omega arith) in
+      let c : getD (drop i ws) 2 equals ≡ codeWord (getD (w .words) (i + 2) 0) = getD-drop i ws 2 equals ∙ wordsIn-at w fits (i + 2) equals (omega arith) in
+      let d : getD (drop i ws) 3 equals ≡ codeWord (getD (w .words) (i + 3) 0) = getD-drop i ws 3 equals ∙ wordsIn-at w fits (i + 3) equals (omega arith) in
       starts-four (drop i ws) (simp length-drop (omega arith))
       ∙ ap (λ (v : Word). isUnequal v (getD (drop i ws) 1 equals) (getD (drop i ws) 2 equals) (getD (drop i ws) 3 equals)) a
-      ∙ ap (λ (v : Word). isUnequal (wordOf (getD (w .words) i 0)) v (getD (drop i ws) 2 equals) (getD (drop i ws) 3 equals)) b
-      ∙ ap (λ (v : Word). isUnequal (wordOf (getD (w .words) i 0)) (wordOf (getD (w .words) (i + 1) 0)) v (getD (drop i ws) 3 equals)) c
-      ∙ ap (λ (v : Word). isUnequal (wordOf (getD (w .words) i 0)) (wordOf (getD (w .words) (i + 1) 0)) (wordOf (getD (w .words) (i + 2) 0)) v) d
+      ∙ ap (λ (v : Word). isUnequal (codeWord (getD (w .words) i 0)) v (getD (drop i ws) 2 equals) (getD (drop i ws) 3 equals)) b
+      ∙ ap (λ (v : Word). isUnequal (codeWord (getD (w .words) i 0)) (codeWord (getD (w .words) (i + 1) 0)) v (getD (drop i ws) 3 equals)) c
+      ∙ ap (λ (v : Word). isUnequal (codeWord (getD (w .words) i 0)) (codeWord (getD (w .words) (i + 1) 0)) (codeWord (getD (w .words) (i + 2) 0)) v) d
 
   pub place-hit : unequalPlace (wordsIn w) ≡ i + unequalPlace (drop i (wordsIn w)) → startsUnequal (drop i (wordsIn w)) ≡ true → unequalPlace (wordsIn w) ≡ i
   place-hit e k = e ∙ ap (λ (n : ℕ). i + n) (place-starts (drop i (wordsIn w)) k) ∙ add-zero i
@@ -114,17 +114,17 @@ pub record Round (g : Signature) (c w : ClauseWords) : Type 0 where
   pub isClause : IsClause g w
   pub same : theory.merged (clauseIn g w) ≡ theory.merged (clauseIn g c)
 
-words-left : (ns : List ℕ) (u : Unequal) (l : Leftmost (map wordOf ns) u) → map wordOf (withoutAt ns (l .at)) ≡ clauseWords (map (renameLiteral (u .x) (u .y)) (u .rest))
+words-left : (ns : List ℕ) (u : Unequal) (l : Leftmost (map codeWord ns) u) → map codeWord (withoutAt ns (l .at)) ≡ clauseWords (map (renameLiteral (u .x) (u .y)) (u .rest))
 words-left ns u l =
     let at : ℕ = l .at in
-    let n : length (map wordOf ns) ≡ length ns = length-map ns wordOf in
-    let x : wordOf (getD ns (at + 2) 0) ≡ letter (u .x) = sym (map-at wordOf ns (at + 2) 0 equals (omega (arith, l .within))) ∙ l .first in
-    let y : wordOf (getD ns (at + 3) 0) ≡ letter (u .y) = sym (map-at wordOf ns (at + 3) 0 equals (omega (arith, l .within))) ∙ l .second in
+    let n : length (map codeWord ns) ≡ length ns = length-map ns codeWord in
+    let x : codeWord (getD ns (at + 2) 0) ≡ letter (u .x) = sym (map-at codeWord ns (at + 2) 0 equals (omega (arith, l .within))) ∙ l .first in
+    let y : codeWord (getD ns (at + 3) 0) ≡ letter (u .y) = sym (map-at codeWord ns (at + 3) 0 equals (omega (arith, l .within))) ∙ l .second in
     codes-renamed (getD ns (at + 2) 0) (getD ns (at + 3) 0) (u .x) (u .y) x y (take at ns ++ drop (at + 4) ns)
     ∙ ap (map (renameWord (u .x) (u .y)))
-    (map-append wordOf (take at ns) (drop (at + 4) ns)
-    ∙ ap (λ (ws : List Word). ws ++ map wordOf (drop (at + 4) ns)) (map-take wordOf at ns)
-    ∙ ap (λ (ws : List Word). take at (map wordOf ns) ++ ws) (map-drop wordOf (at + 4) ns)
+    (map-append codeWord (take at ns) (drop (at + 4) ns)
+    ∙ ap (λ (ws : List Word). ws ++ map codeWord (drop (at + 4) ns)) (map-take codeWord at ns)
+    ∙ ap (λ (ws : List Word). take at (map codeWord ns) ++ ws) (map-drop codeWord (at + 4) ns)
     ∙ l .rest)
     ∙ clause-renamed (u .x) (u .y) (u .rest)
 
@@ -154,10 +154,10 @@ module _ (g : Signature) (w : ClauseWords) (fits : w .count ≤ length (w .words
 
   -- the words left by a round are those of the clause left
   pub round-words : (u : Unequal) → leftmost (clauseIn g w) ≡ some u
-      → map wordOf (withoutAt (take (w .count) (w .words)) (unequalPlace (wordsIn w))) ≡ clauseWords (map (renameLiteral (u .x) (u .y)) (u .rest))
+      → map codeWord (withoutAt (take (w .count) (w .words)) (unequalPlace (wordsIn w))) ≡ clauseWords (map (renameLiteral (u .x) (u .y)) (u .rest))
   round-words u k =
       let l = leftmost-at u k in
-      ap (λ (at : ℕ). map wordOf (withoutAt (take (w .count) (w .words)) at)) (l .place) ∙ words-left (take (w .count) (w .words)) u l
+      ap (λ (at : ℕ). map codeWord (withoutAt (take (w .count) (w .words)) at)) (l .place) ∙ words-left (take (w .count) (w .words)) u l
 
   -- and known
   pub round-known : (u : Unequal) → leftmost (clauseIn g w) ≡ some u → all (isKnown g) (clauseWords (map (renameLiteral (u .x) (u .y)) (u .rest))) ≡ true
@@ -184,7 +184,7 @@ round-more g c w r at fits k d n e h =
     let u = p .0 in
     let rest : Clause = map (renameLiteral (u .x) (u .y)) (u .rest) in
     let ok : clauseOk g rest ≡ true = rename-clauseOk g (u .x) (u .y) (u .rest) ∙ leftmost-ok g (clauseIn g w) u (p .1) (clauseOk-clauseIn g w (h .isClause)) in
-    let ws : wordsIn r ≡ clauseWords rest = ap (map wordOf) (e ∙ ap (withoutAt (take (w .count) (w .words))) k) ∙ round-words g w fits (h .isClause) u (p .1) in
+    let ws : wordsIn r ≡ clauseWords rest = ap (map codeWord) (e ∙ ap (withoutAt (take (w .count) (w .words))) k) ∙ round-words g w fits (h .isClause) u (p .1) in
     let known : all (isKnown g) (wordsIn r) ≡ true = ap (all (isKnown g)) ws ∙ round-known g w fits (h .isClause) u (p .1) in
     record {
       isClause = clauseWords-isClause g r rest (omega (arith, h .isClause .fits)) known ok ws;

@@ -7,12 +7,12 @@ use native.Mathlib.Omega.{arith}
 use lib.Dec.{leb}
 use borrow.Author.Tests.{leb-true, leb-false, le-leb, lt-leb}
 use Rattle.theory.specs.Grammar.{Word, sign, equals, symbol, letter}
-use Rattle.syntax.specs.Codes.{codeOf, wordOf}
+use Rattle.syntax.specs.Codes.{codeOf, codeWord}
 use Rattle.syntax.proofs.Codes.{codeOf-wordOf, wordOf-letter}
 use Rattle.merging.specs.Unequal.{isMinus, isEquals, isVariable, isUnequal}
 
-not-minus : (n : ℕ) → n ≢ 45 → isMinus (wordOf n) ≡ false
-not-minus n h = go (wordOf n) (codeOf-wordOf n)
+not-minus : (n : ℕ) → n ≢ 45 → isMinus (codeWord n) ≡ false
+not-minus n h = go (codeWord n) (codeOf-wordOf n)
   where
     go : (w : Word) → codeOf w ≡ n → isMinus w ≡ false
     go (sign true) e = refl
@@ -21,8 +21,8 @@ not-minus n h = go (wordOf n) (codeOf-wordOf n)
     go (symbol i) e = refl
     go (letter x) e = refl
 
-not-equals : (n : ℕ) → n ≢ 61 → isEquals (wordOf n) ≡ false
-not-equals n h = go (wordOf n) (codeOf-wordOf n)
+not-equals : (n : ℕ) → n ≢ 61 → isEquals (codeWord n) ≡ false
+not-equals n h = go (codeWord n) (codeOf-wordOf n)
   where
     go : (w : Word) → codeOf w ≡ n → isEquals w ≡ false
     go (sign b) e = refl
@@ -30,7 +30,7 @@ not-equals n h = go (wordOf n) (codeOf-wordOf n)
     go (symbol i) e = refl
     go (letter x) e = refl
 
-isVariable-code : (n : ℕ) → isVariable (wordOf n) ≡ leb 65 n
+isVariable-code : (n : ℕ) → isVariable (codeWord n) ≡ leb 65 n
 isVariable-code n = go (leb 65 n) refl
   where
     other : n < 65 → (w : Word) → codeOf w ≡ n → isVariable w ≡ false
@@ -39,29 +39,29 @@ isVariable-code n = go (leb 65 n) refl
     other l (symbol i) e = refl
     other l (letter x) e = absurd (omega arith)
 
-    go : (b : Bool) → leb 65 n ≡ b → isVariable (wordOf n) ≡ b
+    go : (b : Bool) → leb 65 n ≡ b → isVariable (codeWord n) ≡ b
     go true e = ap isVariable (wordOf-letter n (leb-true 65 n e))
-    go false e = other (leb-false 65 n e) (wordOf n) (codeOf-wordOf n)
+    go false e = other (leb-false 65 n e) (codeWord n) (codeOf-wordOf n)
 
 -- the four codes stand for - = and two letters, test by test
 module _ (s e x y : ℕ) where
-  pub first-fails : s ≢ 45 → false ≡ isUnequal (wordOf s) (wordOf e) (wordOf x) (wordOf y)
-  first-fails h = ap (λ (b : Bool). b && (isEquals (wordOf e) && (isVariable (wordOf x) && isVariable (wordOf y)))) (sym (not-minus s h))
+  pub first-fails : s ≢ 45 → false ≡ isUnequal (codeWord s) (codeWord e) (codeWord x) (codeWord y)
+  first-fails h = ap (λ (b : Bool). b && (isEquals (codeWord e) && (isVariable (codeWord x) && isVariable (codeWord y)))) (sym (not-minus s h))
 
-  pub second-fails : s ≡ 45 → e ≢ 61 → false ≡ isUnequal (wordOf s) (wordOf e) (wordOf x) (wordOf y)
+  pub second-fails : s ≡ 45 → e ≢ 61 → false ≡ isUnequal (codeWord s) (codeWord e) (codeWord x) (codeWord y)
   second-fails p h =
-      ap (λ (b : Bool). b && (isVariable (wordOf x) && isVariable (wordOf y))) (sym (not-equals e h))
-      ∙ ap (λ (n : ℕ). isUnequal (wordOf n) (wordOf e) (wordOf x) (wordOf y)) (sym p)
+      ap (λ (b : Bool). b && (isVariable (codeWord x) && isVariable (codeWord y))) (sym (not-equals e h))
+      ∙ ap (λ (n : ℕ). isUnequal (codeWord n) (codeWord e) (codeWord x) (codeWord y)) (sym p)
 
-  pub two-hold : s ≡ 45 → e ≡ 61 → (leb 65 x && leb 65 y) ≡ isUnequal (wordOf s) (wordOf e) (wordOf x) (wordOf y)
+  pub two-hold : s ≡ 45 → e ≡ 61 → (leb 65 x && leb 65 y) ≡ isUnequal (codeWord s) (codeWord e) (codeWord x) (codeWord y)
   two-hold p q =
       ap (λ (b : Bool). b && leb 65 y) (sym (isVariable-code x))
-      ∙ ap (λ (b : Bool). isVariable (wordOf x) && b) (sym (isVariable-code y))
-      ∙ ap (λ (n : ℕ). isUnequal (wordOf n) equals (wordOf x) (wordOf y)) (sym p)
-      ∙ ap (λ (n : ℕ). isUnequal (wordOf s) (wordOf n) (wordOf x) (wordOf y)) (sym q)
+      ∙ ap (λ (b : Bool). isVariable (codeWord x) && b) (sym (isVariable-code y))
+      ∙ ap (λ (n : ℕ). isUnequal (codeWord n) equals (codeWord x) (codeWord y)) (sym p)
+      ∙ ap (λ (n : ℕ). isUnequal (codeWord s) (codeWord n) (codeWord x) (codeWord y)) (sym q)
 
-  pub third-fails : s ≡ 45 → e ≡ 61 → x < 65 → false ≡ isUnequal (wordOf s) (wordOf e) (wordOf x) (wordOf y)
+  pub third-fails : s ≡ 45 → e ≡ 61 → x < 65 → false ≡ isUnequal (codeWord s) (codeWord e) (codeWord x) (codeWord y)
   third-fails p q h = ap (λ (b : Bool). b && leb 65 y) (sym (lt-leb 65 x h)) ∙ two-hold p q
 
-  pub fourth-decides : s ≡ 45 → e ≡ 61 → 65 ≤ x → leb 65 y ≡ isUnequal (wordOf s) (wordOf e) (wordOf x) (wordOf y)
+  pub fourth-decides : s ≡ 45 → e ≡ 61 → 65 ≤ x → leb 65 y ≡ isUnequal (codeWord s) (codeWord e) (codeWord x) (codeWord y)
   fourth-decides p q h = ap (λ (b : Bool). b && leb 65 y) (sym (le-leb 65 x h)) ∙ two-hold p q

@@ -7,7 +7,7 @@ ghost use Prim.Native.Nat.{_+_, _-_, _≤_};
 ghost use lib.Dec.{eqb, ltb};
 ghost use lib.ListN.{getD, take};
 ghost use Rattle.theory.specs.Syntax.{Signature};
-ghost use Rattle.syntax.specs.Codes.{IsClause, wordOf, wordsIn};
+ghost use Rattle.syntax.specs.Codes.{IsClause, codeWord, wordsIn};
 ghost use Rattle.merging.specs.Unequal.{isUnequal, unequalPlace};
 ghost use Rattle.merging.specs.Merged.{Merged, keptFrom, renamedCode, withoutAt};
 
@@ -42,7 +42,7 @@ fn unequal_at(w: ClauseWords) -> usize
 }
 
 fn is_unequal(sign: u8, equals: u8, x: u8, y: u8) -> bool
-    ensures { λ r. ⌜ r ≡ isUnequal (wordOf sign) (wordOf equals) (wordOf x) (wordOf y) ⌝ }
+    ensures { λ r. ⌜ r ≡ isUnequal (codeWord sign) (codeWord equals) (codeWord x) (codeWord y) ⌝ }
 {
     if sign != 45 {
         return false;

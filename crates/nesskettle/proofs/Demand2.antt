@@ -13,10 +13,10 @@ use Rattle.theory.specs.Refusals.{Refusal, Answer, answer, refused, needing}
 use Rattle.theory.specs.Problem.{Problem, readProblem}
 use Rattle.theory.specs.CaseText.{Case, readCase}
 use Rattle.theory.specs.Operations.{judgeAnswer, over, contentOf, writtenText, Search, found, nothing, foundCase, noCase, findResult, findAnswer, findOutput}
-use Rattle.theory.specs.Claims.Demand2 as theory
+use Rattle.theory.specs.Claims.FindsLeast as theory
 use Rattle.theory.specs.Claims.Least.{NotAfter}
 use Rattle.theory.proofs.Answers.{unbind, bind-step, answer-inj, answer≢refused}
-use Rattle.theory.proofs.Demand2.{demand2}
+use Rattle.theory.proofs.FindsLeast.{finds-least}
 use Rattle.answers.specs.declared.Refusal as answers
 use Rattle.answers.specs.declared.JudgeAnswer.{JudgeAnswer}
 use Rattle.answers.specs.declared.JudgeAnswer.the-variants as judge
@@ -103,8 +103,8 @@ module _ (sheet : List ℕ) (p : Problem) (low high : ℕ) (read : readProblem s
   abbrev result : Answer Search
   result = findResult sheet low high (length (f .lentWork)) (length (f .lent))
 
-  d : theory.Demand2 sheet p low high result
-  d = demand2 sheet p low high (length (f .lentWork)) (length (f .lent)) read
+  d : theory.FindsLeast sheet p low high result
+  d = finds-least sheet p low high (length (f .lentWork)) (length (f .lent)) read
 
   least-text : (size : ℕ) (c : List ℕ) → theory.LeastText sheet p low high size c → LeastModel p low high size c
   unfolding judged-is-model
@@ -133,7 +133,7 @@ module _ (sheet : List ℕ) (p : Problem) (low high : ℕ) (read : readProblem s
   finds =
       record {
         found = find-found;
-        none = λ b e t c le₁ le₂ m. d .findsNone b (no-case result b (sym (f .answer) ∙ ap findIn e)) t c le₁ le₂ (model-is-judged sheet p read t c m);
+        saysNone = λ b e t c le₁ le₂ m. d .findsNone b (no-case result b (sym (f .answer) ∙ ap findIn e)) t c le₁ le₂ (model-is-judged sheet p read t c m);
         noneIf = go (f .result) refl;
       }
     where

@@ -9,10 +9,10 @@ use Rattle.theory.specs.Refusals.{answer, unplaced, needing}
 use Rattle.theory.specs.Problem.{Problem, readProblem}
 use Rattle.theory.specs.CaseText.{caseLength}
 use Rattle.theory.specs.Operations.{contentOf, writtenText, readBackText}
-use Rattle.theory.specs.Claims.Demand3 as theory
+use Rattle.theory.specs.Claims.ReadingBack as theory
 use Rattle.theory.proofs.Tests.{leb-true, leb-of-≤}
 use Rattle.theory.proofs.Answers.{unbind, bind-step, answer-inj, check-true, check-of-true}
-use Rattle.theory.proofs.Demand3.{demand3}
+use Rattle.theory.proofs.ReadingBack.{reading-back}
 use Rattle.writing.specs.Texts.{clausesText}
 use Rattle.nesskettle.specs.Calls.{WriteCall, ReadBackCall, Leaves}
 use Rattle.nesskettle.specs.Demand3.{Demand3, Demand3Holds}
@@ -51,7 +51,7 @@ read-back-in sheet size room σ c p read e enough fits =
     (bind-step _ _ u₂ _ h₂
     (bind-step _ _ u₃ _ h₃ (bind-step _ _ tt _ (check-of-true (leb (caseLength size (q .symbols)) enough) (needing 11 (caseLength size (q .symbols))) (leb-of-≤ (caseLength size (q .symbols)) enough fits′)) e₅))))
 
-module _ (sheet : List ℕ) (p : Problem) (size : ℕ) (content : contentOf sheet size ≡ answer p) (d : theory.Demand3 sheet p size (clausesText p size) (caseLength size (p .symbols))) where
+module _ (sheet : List ℕ) (p : Problem) (size : ℕ) (content : contentOf sheet size ≡ answer p) (d : theory.ReadingBack sheet p size (clausesText p size) (caseLength size (p .symbols))) where
   abbrev needed : ℕ
   needed = caseLength size (p .symbols)
 
@@ -84,5 +84,5 @@ pub demand3-of-calls : Demand3Holds
 demand3-of-calls sheet p size content w fits =
     let t = written sheet size (length (w .lent)) p content fits in (
       leaves (w .result) (writtenText sheet size (length (w .lent))) (w .lent) (w .output) (w .answer) (w .left) (clausesText p size) t,
-      of-calls sheet p size content (demand3 sheet p size (length (w .lent)) (caseLength size (p .symbols)) (clausesText p size) content t (le-refl (caseLength size (p .symbols)))),
+      of-calls sheet p size content (reading-back sheet p size (length (w .lent)) (caseLength size (p .symbols)) (clausesText p size) content t (le-refl (caseLength size (p .symbols)))),
     )

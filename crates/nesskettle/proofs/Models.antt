@@ -8,7 +8,7 @@ use Rattle.theory.specs.Refusals.{answer}
 use Rattle.theory.specs.Problem.{Problem, readProblem}
 use Rattle.theory.specs.CaseText.{Case, readCase}
 use Rattle.theory.specs.Operations.{judgeAnswer}
-use Rattle.theory.specs.Claims.Demand3.{ModelText}
+use Rattle.theory.specs.Claims.ReadingBack.{ModelText}
 use Rattle.theory.proofs.Answers.{bind-step}
 use Rattle.theory.proofs.CaseText.{read-exactly}
 use Rattle.theory.proofs.ModelTexts.{is-model-text}
@@ -34,7 +34,7 @@ module _ (sheet : List ℕ) (p : Problem) (read : readProblem sheet ≡ answer p
         case = m .case;
         read = m .read;
         sized = m .sized;
-        true = true-if-model p text (m .case) (m .read) (ap (λ (s : ℕ). isModel s (p .symbols) (p .clauses) (m .case .values)) (m .sized) ∙ is-model-text sheet p read size text m .model);
+        truth = true-if-model p text (m .case) (m .read) (ap (λ (s : ℕ). isModel s (p .symbols) (p .clauses) (m .case .values)) (m .sized) ∙ is-model-text sheet p read size text m .model);
       }
 
   -- the text of a model is judged one
@@ -45,5 +45,5 @@ module _ (sheet : List ℕ) (p : Problem) (read : readProblem sheet ≡ answer p
         case = m .case;
         read = m .read;
         sized = m .sized;
-        model = bind-step _ _ p (answer true) read (bind-step _ _ (m .case) (answer true) (m .read) (ap answer (model-if-true p text (m .case) (m .read) (m .true))));
+        model = bind-step _ _ p (answer true) read (bind-step _ _ (m .case) (answer true) (m .read) (ap answer (model-if-true p text (m .case) (m .read) (m .truth))));
       }

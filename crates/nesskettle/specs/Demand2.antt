@@ -48,7 +48,7 @@ pub record LeastModel (p : Problem) (low high size : ℕ) (text : List ℕ) : Ty
 -- of a call of Find that is not refused: it finds the least model at the smallest size that has one, or it says none; none exactly if no case of a searched size is a model
 pub record Finds (sheet : List ℕ) (p : Problem) (low high : ℕ) (f : FindCall sheet low high) : Type 0 where
   pub found : (size n : ℕ) → f .result ≡ Found size n → LeastModel p low high size (take n (f .output))
-  pub none : (settled : Bool) → f .result ≡ Nothing settled → NoModel p low high
+  pub saysNone : (settled : Bool) → f .result ≡ Nothing settled → NoModel p low high
   pub noneIf : NoModel p low high → ((r : Refusal) → f .result ≡ Refused r → ⊥) → (settled : Bool) × (f .result ≡ Nothing settled)
 
 -- it holds of every call

@@ -8,7 +8,7 @@ use Rattle.theory.specs.Refusals.{answer}
 use Rattle.theory.specs.Problem.{Problem}
 use Rattle.theory.specs.CaseText.{caseLength}
 use Rattle.theory.specs.Operations.{contentOf}
-use Rattle.theory.specs.Claims.Demand3.{Satisfying}
+use Rattle.theory.specs.Claims.ReadingBack.{Satisfying}
 use Rattle.writing.specs.Texts.{clausesText}
 use Rattle.nesskettle.specs.Calls.{WriteCall, ReadBackCall, Leaves}
 use Rattle.nesskettle.specs.Models.{Model}

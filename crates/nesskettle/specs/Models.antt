@@ -17,4 +17,4 @@ pub record Model (p : Problem) (size : ℕ) (text : List ℕ) : Type 0 where
   pub case : Case
   pub read : readCase (p .symbols) text ≡ answer case
   pub sized : case .size ≡ size
-  pub true : IsTrue p case
+  pub truth : IsTrue p case

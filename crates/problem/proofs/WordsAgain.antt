@@ -34,7 +34,7 @@ module _ (sheet : List ℕ) (g : Signature) (at end : ℕ) (t : ClauseThere shee
       go false h = let z : _≡_ {A = ℕ} 0 1 = cc in absurd (omega arith)
 
   module _ (c : ClauseLine) (h : ClauseRead g (part sheet at end) c) where
-    answered : clauses.clauseLineIn g 0 c ≡ answer (t .clause)
+    answered : clauses.clauseValueIn g 0 c ≡ answer (t .clause)
     answered = h .read 0 ∙ ap (clauseOf g 0) (sym same-line) ∙ t .answered 0
 
     -- it is not refused

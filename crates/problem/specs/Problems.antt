@@ -64,5 +64,5 @@ pub record Accepted (sheet : List ℕ) (p : Problem) : Type 0 where
 
 -- w are the words of clause k, which is within the limits
 pub record WordsOf (sheet : List ℕ) (p : Problem) (k : ℕ) (w : ClauseWords) : Type 0 where
-  pub accepted : clauses.Accepted (signatureIn sheet (p .signature)) w
+  pub accepted : clauses.AcceptedWords (signatureIn sheet (p .signature)) w
   pub clause : clauseIn (signatureIn sheet (p .signature)) w ≡ getD (problemIn sheet p .clauses) k []

@@ -16,7 +16,7 @@ use Rattle.text.specs.Lines.{part, LineEnd, StartsWith}
 use Rattle.text.proofs.Part.{length-part, part-cons, part-none, drop-part}
 use Rattle.program.specs.declared.digits.DigitLine.{DigitLine}
 use Rattle.program.specs.declared.digits.DigitLine.the-variants.{Digit, Fault}
-use Rattle.program.specs.Digits.{digitIn, NextWithin, DigitRead, ValueRead}
+use Rattle.program.specs.Digits.{digitIn, NextDigitWithin, DigitRead, ValueRead}
 
 pub none-bind : {A B : Type 0} (o : Option A) (k : A → Option B) → o ≡ none → (o >>? k) ≡ none
 unfolding _>>?_

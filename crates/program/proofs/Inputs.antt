@@ -12,7 +12,7 @@ use Rattle.theory.specs.Operations.{Search, findResult}
 use Rattle.theory.specs.Program.{_>>?_, digitLine, sized, answered, printed, program}
 use Rattle.program.specs.declared.digits.DigitLine.{DigitLine}
 use Rattle.program.specs.declared.digits.DigitLine.the-variants.{Digit, Fault}
-use Rattle.program.specs.Digits.{digitIn, NextWithin, DigitRead}
+use Rattle.program.specs.Digits.{digitIn, NextDigitWithin, DigitRead}
 use Rattle.program.specs.Reports.{fromHigh}
 use Rattle.program.proofs.DigitLines.{none-bind, some-bind}
 

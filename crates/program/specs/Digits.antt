@@ -15,16 +15,16 @@ digitIn input (Digit d next) = some (d, drop next input)
 digitIn input Fault = none
 
 -- the next line starts within n bytes
-abbrev pub NextWithin : ℕ → DigitLine → Type 0
-NextWithin n (Digit d next) = next ≤ n
-NextWithin n Fault = Unit {0}
+abbrev pub NextDigitWithin : ℕ → DigitLine → Type 0
+NextDigitWithin n (Digit d next) = next ≤ n
+NextDigitWithin n Fault = Unit {0}
 
 -- r is what the line from `at` on with this key is read to
 pub record DigitRead (input : List ℕ) (at : ℕ) (key : List ℕ) (r : DigitLine) : Type 0 where
   pub read : digitIn input r ≡ digitLine key (drop at input)
-  pub within : NextWithin (length input) r
+  pub within : NextDigitWithin (length input) r
 
 -- r is what the value from one place to another, which ends its line, is read to
 pub record ValueRead (input : List ℕ) (from end : ℕ) (r : DigitLine) : Type 0 where
   pub read : digitIn input r ≡ (digitOf (part input from end) >>? λ d. some (d, drop (suc end) input))
-  pub within : NextWithin (length input) r
+  pub within : NextDigitWithin (length input) r

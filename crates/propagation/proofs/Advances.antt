@@ -14,7 +14,7 @@ use Rattle.propagation.specs.Weights.{changed, less, Addresses, AtLeast}
 use Rattle.theory.specs.Lists.{elem}
 use Rattle.propagation.specs.Clauses.{weight, holders}
 use Rattle.propagation.specs.Units.{Visit, scanned, Scannable}
-use Rattle.propagation.specs.WorkArea.{trail, values, Fresh, falses, live, Held, Frame}
+use Rattle.propagation.specs.WorkArea.{trail, values, Fresh, falses, live, WorkHeld, Frame}
 use Rattle.propagation.specs.Forcing.{Quiet}
 use Rattle.propagation.specs.Advance.{sinking, sunk, advanced, Calm}
 use Rattle.propagation.proofs.Frames.{frame-trans, trail-agree, reweighed-front, reweighed-frame}
@@ -45,7 +45,7 @@ live-miss x D (y ∷ ys) h = by (live-miss x D ys) (eqb x y) refl h
     by again true e k = let z : _≡_ {A = Bool} true false = k in cc
     by again false e k = rw (ne-eqb y x (λ s. eqb-false x y e (sym s)), again k) refl
 
-module _ (v : ℕ) (cs : List (List ℕ)) (head len : ℕ) (w : List ℕ) (held : Held v cs head len w) (go : head < len) where
+module _ (v : ℕ) (cs : List (List ℕ)) (head len : ℕ) (w : List ℕ) (held : WorkHeld v cs head len w) (go : head < len) where
   abbrev x : ℕ
   x = sinking v head w
 
@@ -72,8 +72,8 @@ module _ (v : ℕ) (cs : List (List ℕ)) (head len : ℕ) (w : List ℕ) (held 
       sunk-is v cs head len w held x is not-yet
       ∙ ap (λ (l : List ℕ). take (7 * v) w ++ (map (weight (falses l)) cs ++ drop (7 * v + length cs) w)) (sym trail-next)
 
-  pub held₁ : Held v cs (head + 1) len w₁
-  held₁ = subst⁻¹ (λ (l : List ℕ). Held v cs (head + 1) len l) w₁-is (reheld v cs head len w held (head + 1) (omega arith))
+  pub held₁ : WorkHeld v cs (head + 1) len w₁
+  held₁ = subst⁻¹ (λ (l : List ℕ). WorkHeld v cs (head + 1) len l) w₁-is (reheld v cs head len w held (head + 1) (omega arith))
 
   abbrev ms : List ℕ
   ms = map (weight (falses (trail w v (head + 1)))) cs
@@ -132,9 +132,9 @@ module _ (v : ℕ) (cs : List (List ℕ)) (head len : ℕ) (w : List ℕ) (held 
   advance-frame =
       subst⁻¹ (λ (q : List ℕ). Frame v (length cs) w (scanned v q len w₁ .mem)) part (frame-trans sunk-frame (looked .frame))
 
-  pub advance-held : Held v cs (head + 1) (advanced v head len w .len) (advanced v head len w .mem)
+  pub advance-held : WorkHeld v cs (head + 1) (advanced v head len w .len) (advanced v head len w .mem)
   advance-held =
-      subst⁻¹ (λ (q : List ℕ). Held v cs (head + 1) (scanned v q len w₁ .len) (scanned v q len w₁ .mem)) part (looked .held)
+      subst⁻¹ (λ (q : List ℕ). WorkHeld v cs (head + 1) (scanned v q len w₁ .len) (scanned v q len w₁ .mem)) part (looked .held)
 
   abbrev Good : List ℕ → Type 0
   Good l = (i : ℕ) → i < length cs → Quiet (falses hs) l (getD cs i [])
@@ -165,7 +165,7 @@ module _ (v : ℕ) (cs : List (List ℕ)) (head len : ℕ) (w : List ℕ) (held 
           (calm i h)))
 
 -- the same of the numbers that the code has
-module _ (v : ℕ) (cs : List (List ℕ)) (head len : ℕ) (w : List ℕ) (held : Held v cs head len w) (go : head < len) (f p a b : ℕ) (r : Read v head w f p a b) where
+module _ (v : ℕ) (cs : List (List ℕ)) (head len : ℕ) (w : List ℕ) (held : WorkHeld v cs head len w) (go : head < len) (f p a b : ℕ) (r : Read v head w f p a b) where
   pub code-lower : Addresses (AtLeast (64 * f + 1)) a a b w
   code-lower = rw (r .literal, start-is v head w f p a b r, end-is v head w f p a b r) (sinks v cs head len w held go)
 

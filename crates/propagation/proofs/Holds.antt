@@ -10,18 +10,18 @@ use Rattle.propagation.specs.Weights.{changed, less, Addresses, AtLeast}
 use Rattle.theory.specs.Lists.{elem}
 use Rattle.propagation.specs.Clauses.{weight, holders, All, Distinct}
 use Rattle.propagation.proofs.Weighing.{lower-weights, weight-hit}
-use Rattle.propagation.specs.Units.{count, Scannable}
-use Rattle.propagation.specs.WorkArea.{trail, values, falses, Clause, Block, Held}
+use Rattle.propagation.specs.Units.{setCount, Scannable}
+use Rattle.propagation.specs.WorkArea.{trail, values, falses, ShortClause, Block, WorkHeld}
 use Rattle.propagation.proofs.Frames.{getD-slice, take-agree, trail-agree, trail-length, block-frame, reweighed, front-length, reweighed-length, reweighed-front, reweighed-weight, reweighed-frame, reweighed-take, reweighed-drop}
 use Rattle.propagation.proofs.Trails.{values-count}
 use Rattle.propagation.proofs.Lives.{one-names, all-at, all-map, Holding, holder-at, holders-rise}
 
-module _ (v : ℕ) (cs : List (List ℕ)) (head len : ℕ) (w : List ℕ) (held : Held v cs head len w) where
+module _ (v : ℕ) (cs : List (List ℕ)) (head len : ℕ) (w : List ℕ) (held : WorkHeld v cs head len w) where
   abbrev D : List ℕ
   D = falses (trail w v head)
 
   pub distinct : All Distinct cs
-  distinct = all-map (Clause v) Distinct (λ c k. k .distinct) cs (held .clauses)
+  distinct = all-map (ShortClause v) Distinct (λ c k. k .distinct) cs (held .clauses)
 
   -- the weight at a clause's address
   pub weight-at : (c : ℕ) → c < length cs → getD w (7 * v + c) 0 ≡ weight D (getD cs c [])
@@ -66,7 +66,7 @@ module _ (v : ℕ) (cs : List (List ℕ)) (head len : ℕ) (w : List ℕ) (held 
     at-entry : (i : ℕ) (h : from ≤ i) (l : i < to) → getD w (getD w i 0) 0 ≡ weight D (getD cs (entry i h l .0) [])
     at-entry i h l = ap (λ (q : ℕ). getD w q 0) (entry i h l .2) ∙ weight-at (entry i h l .0) (entry i h l .1)
 
-    pub addresses : (Right : ℕ → Type 0) → ((c : List ℕ) → Clause v c → elem x c ≡ true → Right (weight D c)) → Addresses Right from from to w
+    pub addresses : (Right : ℕ → Type 0) → ((c : List ℕ) → ShortClause v c → elem x c ≡ true → Right (weight D c)) → Addresses Right from from to w
     addresses Right good =
         record {
           based = omega arith;
@@ -74,7 +74,7 @@ module _ (v : ℕ) (cs : List (List ℕ)) (head len : ℕ) (w : List ℕ) (held 
           within = block .within;
           below = λ i h l. let k = entry i h l in omega (arith, k .1, k .2, block .after);
           rising = rise;
-          right = λ i h l. let k = entry i h l in rw (at-entry i h l) (good (getD cs (k .0) []) (all-at (Clause v) cs (k .0) (held .clauses) (k .1)) (k .3));
+          right = λ i h l. let k = entry i h l in rw (at-entry i h l) (good (getD cs (k .0) []) (all-at (ShortClause v) cs (k .0) (held .clauses) (k .1)) (k .3));
         }
 
     -- x can become false
@@ -100,13 +100,13 @@ module _ (v : ℕ) (cs : List (List ℕ)) (head len : ℕ) (w : List ℕ) (held 
           variables = omega (arith, held .small);
           after = λ i h l. let k = entry i h l in omega (arith, k .2);
           below = λ i h l. let k = entry i h l in omega (arith, k .1, k .2, block .after);
-          names = λ i h l. let k = entry i h l in rw (at-entry i h l) (one-names v D (getD cs (k .0) []) (all-at (Clause v) cs (k .0) (held .clauses) (k .1)));
+          names = λ i h l. let k = entry i h l in rw (at-entry i h l) (one-names v D (getD cs (k .0) []) (all-at (ShortClause v) cs (k .0) (held .clauses) (k .1)));
           lists = omega (arith, block .after);
-          counts = ap count (held .gives) ∙ values-count v (trail w v len) (held .fresh) ∙ trail-length v w len;
+          counts = ap setCount (held .gives) ∙ values-count v (trail w v len) (held .fresh) ∙ trail-length v w len;
         }
 
   -- the same trail, with the weights after another number of its entries
-  pub reheld : (head′ : ℕ) → head′ ≤ len → Held v cs head′ len (take (7 * v) w ++ (map (weight (falses (trail w v head′))) cs ++ drop (7 * v + length cs) w))
+  pub reheld : (head′ : ℕ) → head′ ≤ len → WorkHeld v cs head′ len (take (7 * v) w ++ (map (weight (falses (trail w v head′))) cs ++ drop (7 * v + length cs) w))
   reheld head′ h =
       let m = length cs in
       let ms = map (weight (falses (trail w v head′))) cs in

@@ -8,7 +8,7 @@ use native.Mathlib.Omega.{arith}
 use lib.ListN.{length, getD}
 use Rattle.theory.specs.Lists.{elem}
 use Rattle.propagation.specs.Clauses.{weight, holders, All}
-use Rattle.propagation.specs.WorkArea.{live, Within, Clause}
+use Rattle.propagation.specs.WorkArea.{live, Within, ShortClause}
 
 total : List ℕ → ℕ
 total [] = 0
@@ -48,7 +48,7 @@ one : (l : List ℕ) → length l ≡ 1 → (u : ℕ) × (l ≡ u ∷ [])
 one [] e = absurd (omega (arith, e))
 one (x ∷ xs) e = (x, ap (λ (r : List ℕ). x ∷ r) (none xs (omega (arith, e))))
 
-module _ (v : ℕ) (D c : List ℕ) (k : Clause v c) where
+module _ (v : ℕ) (D c : List ℕ) (k : ShortClause v c) where
   left : weight D c % 64 ≡ length (live D c)
   left = omega (arith, weight-live D c, live-short D c, k .short)
 

@@ -7,15 +7,15 @@ use native.Mathlib.Omega.{arith}
 use lib.ListN.{length, getD, set, take, drop, length-set, length-map, take-append-drop}
 use lib.Seq.{getD-take, getD-set-same, getD-set-other, take-set-lt, take-set-le, drop-set-lt, drop-at}
 use Rattle.propagation.specs.Clauses.{weight}
-use Rattle.propagation.specs.Units.{count, pushed}
+use Rattle.propagation.specs.Units.{setCount, pushed}
 use Rattle.propagation.proofs.Visited.{room}
-use Rattle.propagation.specs.WorkArea.{Frame, trail, values, falses, Held}
+use Rattle.propagation.specs.WorkArea.{Frame, trail, values, falses, WorkHeld}
 use Rattle.propagation.proofs.Frames.{trail-agree, trail-length, block-frame, front-length}
 use Rattle.propagation.proofs.Trails.{values-count}
 
-module _ (v : ℕ) (cs : List (List ℕ)) (head len : ℕ) (w : List ℕ) (held : Held v cs head len w) (u mark : ℕ) (marked : mark < 2) (named : u / 2 < v) (unset : getD w (u / 2) 0 ≡ 0) where
-  counts : count (take v w) ≡ len
-  counts = ap count (held .gives) ∙ values-count v (trail w v len) (held .fresh) ∙ trail-length v w len
+module _ (v : ℕ) (cs : List (List ℕ)) (head len : ℕ) (w : List ℕ) (held : WorkHeld v cs head len w) (u mark : ℕ) (marked : mark < 2) (named : u / 2 < v) (unset : getD w (u / 2) 0 ≡ 0) where
+  counts : setCount (take v w) ≡ len
+  counts = ap setCount (held .gives) ∙ values-count v (trail w v len) (held .fresh) ∙ trail-length v w len
 
   pub free : len < v
   free = omega (arith, counts, room v (u / 2) w (omega (arith, held .room)) named unset)
@@ -80,7 +80,7 @@ module _ (v : ℕ) (cs : List (List ℕ)) (head len : ℕ) (w : List ℕ) (held 
       ∙ drop-at (take (7 * v) w) (map (weight (falses (trail w v head))) cs ++ drop (7 * v + length cs) w) (7 * v)
       (front-length v (length cs) w (map (weight (falses (trail w v head))) cs) (length-map cs (weight (falses (trail w v head)))) (held .room))
 
-  pub pushed-held : Held v cs head (len + 1) w′
+  pub pushed-held : WorkHeld v cs head (len + 1) w′
   pushed-held =
       record {
         small = held .small;

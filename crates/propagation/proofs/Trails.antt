@@ -10,7 +10,7 @@ use lib.ListN.{length, getD, set, replicate, length-set, length-replicate}
 use lib.Seq.{getD-set-same, getD-set-other}
 use Rattle.theory.proofs.Tests.{not-true}
 use Rattle.theory.specs.Lists.{elem}
-use Rattle.propagation.specs.Units.{count}
+use Rattle.propagation.specs.Units.{setCount}
 use Rattle.propagation.proofs.Visited.{count-set}
 use Rattle.propagation.specs.WorkArea.{negated, trail, values, Fresh, falses}
 
@@ -67,12 +67,12 @@ false-set v u (t ∷ ts) f h e = by (false-set v u ts (f .2)) (eqb (negated u) (
 pub fresh-new : (v t : ℕ) (ts : List ℕ) → Fresh v (t ∷ ts) → elem (negated (t / 2)) (falses ts) ≡ false
 fresh-new v t ts f = not-true _ (λ h. false-set v (t / 2) ts (f .2) h (f .1))
 
-zeros-count : (v : ℕ) → count (replicate v 0) ≡ 0
+zeros-count : (v : ℕ) → setCount (replicate v 0) ≡ 0
 zeros-count zero = refl
 zeros-count (suc v) = omega (arith, zeros-count v)
 
 -- as many values are set as the trail has entries
-pub values-count : (v : ℕ) (ts : List ℕ) → Fresh v ts → count (values v ts) ≡ length ts
+pub values-count : (v : ℕ) (ts : List ℕ) → Fresh v ts → setCount (values v ts) ≡ length ts
 values-count v [] f = zeros-count v
 values-count v (t ∷ ts) f =
     count-set (values v ts) (t / 2 / 2) (1 + t / 2 % 2) (omega (arith, values-length v ts, f .0)) (f .1) (omega arith)

@@ -5,7 +5,7 @@ use mathlib.Core.List.{List, []}
 use Prim.Native.Nat.{ℕ, _+_, _≤_, _<_}
 use native.Mathlib.Omega.{arith}
 use lib.ListN.{length, getD}
-use Rattle.propagation.specs.WorkArea.{trail, falses, Held, Frame}
+use Rattle.propagation.specs.WorkArea.{trail, falses, WorkHeld, Frame}
 use Rattle.propagation.specs.Forcing.{Forces, none, Quiet}
 use Rattle.propagation.specs.Advance.{advanced, Calm, Propagated}
 use Rattle.propagation.proofs.Visits.{Looked, forces-trans}
@@ -14,18 +14,18 @@ use Rattle.propagation.proofs.Frames.{frame-none, frame-trans}
 
 -- what holds at the head of the loop of `propagate`, of any clauses that the work area holds
 pub record Going (v : ℕ) (cs : List (List ℕ)) (start len : ℕ) (w₀ : List ℕ) (head n : ℕ) (w : List ℕ) : Type 0 where
-  pub held : Held v cs head n w
+  pub held : WorkHeld v cs head n w
   pub frame : Frame v (length cs) w₀ w
   pub onward : start ≤ head
   pub forces : Calm v cs start len w₀ → Forces v cs (trail w₀ v len) (trail w v n)
   pub calm : Calm v cs start len w₀ → Calm v cs head n w
 
-pub going-start : (v : ℕ) (cs : List (List ℕ)) (start len : ℕ) (w₀ : List ℕ) → Held v cs start len w₀ → Going v cs start len w₀ start len w₀
+pub going-start : (v : ℕ) (cs : List (List ℕ)) (start len : ℕ) (w₀ : List ℕ) → WorkHeld v cs start len w₀ → Going v cs start len w₀ start len w₀
 going-start v cs start len w₀ h = record { held = h; frame = frame-none v (length cs) w₀; onward = omega arith; forces = λ k. none; calm = λ k. k }
 
 module _ (v : ℕ) (cs : List (List ℕ)) (start len : ℕ) (w₀ : List ℕ) (head n : ℕ) (w : List ℕ) (g : Going v cs start len w₀ head n w) where
   module _ (go : head < n) (n′ : ℕ) (clash : Bool) (w′ : List ℕ) (ne : n′ ≡ advanced v head n w .len) (ke : clash ≡ advanced v head n w .clash) (we : w′ ≡ advanced v head n w .mem) where
-    held′ : Held v cs (head + 1) n′ w′
+    held′ : WorkHeld v cs (head + 1) n′ w′
     held′ = rw (ne, we) (advance-held v cs head n w (g .held) go)
 
     frame′ : Frame v (length cs) w₀ w′

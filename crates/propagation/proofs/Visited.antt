@@ -9,36 +9,36 @@ use borrow.Author.Tests.{eq-eqb, ne-eqb}
 use lib.Dec.{eqb}
 use lib.ListN.{length, getD, set, take}
 use lib.Seq.{getD-take, length-take-le, take-set-lt, take-set-le}
-use Rattle.propagation.specs.Units.{count, pushed, Visit, visited, forced, stays}
+use Rattle.propagation.specs.Units.{setCount, pushed, Visit, visited, forced, stays}
 
 one-at-most : (b : Bool) → cond b 0 1 ≤ 1
 one-at-most true = omega arith
 one-at-most false = omega arith
 
-pub count-le : (l : List ℕ) → count l ≤ length l
+pub count-le : (l : List ℕ) → setCount l ≤ length l
 count-le [] = omega arith
 count-le (x ∷ xs) = omega (arith, count-le xs, one-at-most (eqb x 0))
 
 -- where a value is unset, not all are set
-pub count-lt : (l : List ℕ) (x : ℕ) → x < length l → getD l x 0 ≡ 0 → count l < length l
+pub count-lt : (l : List ℕ) (x : ℕ) → x < length l → getD l x 0 ≡ 0 → setCount l < length l
 count-lt [] x h e = absurd (not-suc-le-zero h)
 count-lt (y ∷ ys) zero h e = rw (eq-eqb y 0 e) (omega (arith, count-le ys))
 count-lt (y ∷ ys) (suc x) h e = omega (arith, count-lt ys x (le-of-suc-le-suc h) e, one-at-most (eqb y 0))
 
 -- a value that was unset and is set counts one more
-pub count-set : (l : List ℕ) (x z : ℕ) → x < length l → getD l x 0 ≡ 0 → 0 < z → count (set l x z) ≡ count l + 1
+pub count-set : (l : List ℕ) (x z : ℕ) → x < length l → getD l x 0 ≡ 0 → 0 < z → setCount (set l x z) ≡ setCount l + 1
 count-set [] x z h e p = absurd (not-suc-le-zero h)
 count-set (y ∷ ys) zero z h e p = rw (eq-eqb y 0 e, ne-eqb z 0 (λ q. omega (arith, q))) (omega arith)
 count-set (y ∷ ys) (suc x) z h e p = omega (arith, count-set ys x z (le-of-suc-le-suc h) e p)
 
 -- of the values, the first v numbers of a work area
-pub room : (v x : ℕ) (w : List ℕ) → v ≤ length w → x < v → getD w x 0 ≡ 0 → count (take v w) < v
+pub room : (v x : ℕ) (w : List ℕ) → v ≤ length w → x < v → getD w x 0 ≡ 0 → setCount (take v w) < v
 room v x w l h e =
     let n = length-take-le v w l in
     omega (arith, n, count-lt (take v w) x (omega (arith, n)) (getD-take v w x 0 h ∙ e))
 
 pub pushed-count : (v n u mark : ℕ) (w : List ℕ) → 2 * v ≤ length w → u / 2 < v → getD w (u / 2) 0 ≡ 0
-    → count (take v (pushed v n u mark w)) ≡ count (take v w) + 1
+    → setCount (take v (pushed v n u mark w)) ≡ setCount (take v w) + 1
 pushed-count v n u mark w l h e =
     let m = length-take-le v w (omega arith) in
     rw (take-set-le v (set w (u / 2) (1 + u % 2)) (v + n) (2 * u + mark) (omega arith), take-set-lt v w (u / 2) (1 + u % 2) h)

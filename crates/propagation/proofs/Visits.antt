@@ -12,7 +12,7 @@ use Rattle.theory.specs.Lists.{elem}
 use Rattle.propagation.specs.Clauses.{weight}
 use Rattle.propagation.specs.Units.{Visit, stays, visited, scanned}
 use Rattle.propagation.proofs.Visited.{visit-none, visit-many, visit-new, visit-true, visit-false}
-use Rattle.propagation.specs.WorkArea.{trail, values, Fresh, falses, live, Clause, Held, Frame}
+use Rattle.propagation.specs.WorkArea.{trail, values, Fresh, falses, live, ShortClause, WorkHeld, Frame}
 use Rattle.propagation.specs.Forcing.{Forces, none, more, Void, Quiet}
 use Rattle.propagation.proofs.Trails.{set-nonzero, values-length}
 use Rattle.propagation.proofs.Lives.{none-left, one-left, one-names, left-none, left-one, all-at}
@@ -23,7 +23,7 @@ use Rattle.propagation.proofs.Frames.{frame-none, frame-trans}
 
 -- The outcome r of looking, from a state whose first head entries are hs: `Good` is what holds where nothing clashes.
 pub record Looked (v : ℕ) (cs : List (List ℕ)) (w : List ℕ) (head : ℕ) (hs ts : List ℕ) (Good : List ℕ → Type 0) (r : Visit) : Type 0 where
-  pub held : Held v cs head (r .len) (r .mem)
+  pub held : WorkHeld v cs head (r .len) (r .mem)
   pub frame : Frame v (length cs) w (r .mem)
   pub first : trail (r .mem) v head ≡ hs
   pub forces : Forces v cs ts (trail (r .mem) v (r .len))
@@ -33,7 +33,7 @@ pub record Looked (v : ℕ) (cs : List (List ℕ)) (w : List ℕ) (head : ℕ) (
 cons-same : (a b : ℕ) (xs ys : List ℕ) → a ∷ xs ≡ b ∷ ys → a ≡ b
 cons-same a b xs ys e = cc
 
-module _ (v : ℕ) (cs : List (List ℕ)) (head n : ℕ) (w hs : List ℕ) (held : Held v cs head n w) (first : trail w v head ≡ hs) (i : ℕ) (is : i < length cs) where
+module _ (v : ℕ) (cs : List (List ℕ)) (head n : ℕ) (w hs : List ℕ) (held : WorkHeld v cs head n w) (first : trail w v head ≡ hs) (i : ℕ) (is : i < length cs) where
   abbrev ts : List ℕ
   ts = trail w v n
 
@@ -46,8 +46,8 @@ module _ (v : ℕ) (cs : List (List ℕ)) (head n : ℕ) (w hs : List ℕ) (held
   abbrev D : List ℕ
   D = falses (trail w v head)
 
-  clause : Clause v c
-  clause = all-at (Clause v) cs i (held .clauses) is
+  clause : ShortClause v c
+  clause = all-at (ShortClause v) cs i (held .clauses) is
 
   at : getD w q 0 ≡ weight D c
   at = weight-at v cs head n w held i is
@@ -168,7 +168,7 @@ quiet-on D c f g = (g .0, λ u l. forces-set (u / 2) f (g .1 u l))
 abbrev pub AllQuiet : ℕ → List (List ℕ) → List ℕ → List ℕ → List ℕ → Type 0
 AllQuiet v cs hs qs l = (i : ℕ) → i < length cs → elem (7 * v + i) qs ≡ true → Quiet (falses hs) l (getD cs i [])
 
-pub visit-at : (v : ℕ) (cs : List (List ℕ)) (head n : ℕ) (w hs : List ℕ) → Held v cs head n w → trail w v head ≡ hs → (q i : ℕ) → i < length cs → q ≡ 7 * v + i
+pub visit-at : (v : ℕ) (cs : List (List ℕ)) (head n : ℕ) (w hs : List ℕ) → WorkHeld v cs head n w → trail w v head ≡ hs → (q i : ℕ) → i < length cs → q ≡ 7 * v + i
     → Looked v cs w head hs (trail w v n) (λ l. Quiet (falses hs) l (getD cs i [])) (visited v q n w)
 visit-at v cs head n w hs held first q i is e = rw e (visit-meaning v cs head n w hs held first i is)
 
@@ -180,7 +180,7 @@ module _ (v : ℕ) (cs : List (List ℕ)) (head : ℕ) (hs : List ℕ) (q : ℕ)
 
   abbrev Next : Type 0
   Next =
-      Held v cs head (r .len) (r .mem) → trail (r .mem) v head ≡ hs → Looked v cs (r .mem) head hs (trail (r .mem) v (r .len)) (AllQuiet v cs hs qs) (scanned v qs (r .len) (r .mem))
+      WorkHeld v cs head (r .len) (r .mem) → trail (r .mem) v head ≡ hs → Looked v cs (r .mem) head hs (trail (r .mem) v (r .len)) (AllQuiet v cs hs qs) (scanned v qs (r .len) (r .mem))
 
   this : r .clash ≡ false → (ls : List ℕ) → Forces v cs (trail (r .mem) v (r .len)) ls → (i : ℕ)
       → ((elem (7 * v + i) qs) ≡ true → Quiet (falses hs) (values v ls) (getD cs i [])) → (b : Bool) → eqb (7 * v + i) q ≡ b → (b || elem (7 * v + i) qs) ≡ true
@@ -208,7 +208,7 @@ module _ (v : ℕ) (cs : List (List ℕ)) (head : ℕ) (hs : List ℕ) (q : ℕ)
 
 -- what looking at the clauses of a list of addresses means
 pub scan-meaning : (v : ℕ) (cs : List (List ℕ)) (head : ℕ) (hs qs : List ℕ) (n : ℕ) (w : List ℕ)
-    → ((j : ℕ) → j < length qs → (i : ℕ) × (i < length cs) × (getD qs j 0 ≡ 7 * v + i)) → Held v cs head n w → trail w v head ≡ hs
+    → ((j : ℕ) → j < length qs → (i : ℕ) × (i < length cs) × (getD qs j 0 ≡ 7 * v + i)) → WorkHeld v cs head n w → trail w v head ≡ hs
     → Looked v cs w head hs (trail w v n) (AllQuiet v cs hs qs) (scanned v qs n w)
 scan-meaning v cs head hs [] n w a held first =
     record { held = held; frame = frame-none v (length cs) w; first = first; forces = none; good = λ e i is h. absurd (false≢true h); void = λ e. absurd (false≢true e) }

@@ -7,7 +7,7 @@ use lib.ListN.{length, getD}
 use lib.Seq.{slice}
 use Rattle.propagation.specs.Weights.{changed, less}
 use Rattle.propagation.specs.Units.{Visit, scanned}
-use Rattle.propagation.specs.WorkArea.{negated, trail, values, falses, Held, Frame}
+use Rattle.propagation.specs.WorkArea.{negated, trail, values, falses, WorkHeld, Frame}
 use Rattle.propagation.specs.Forcing.{Forces, Void, Quiet}
 
 -- the literal that the entry at head makes false
@@ -29,7 +29,7 @@ advanced v head len w = sunkScanned v (sinking v head w) len w
 -- a work area that holds some clauses
 pub record Ready (v head len : ℕ) (w : List ℕ) : Type 0 where
   pub clauses : List (List ℕ)
-  pub held : Held v clauses head len w
+  pub held : WorkHeld v clauses head len w
 
 -- every clause is quiet after the first head entries
 abbrev pub Calm : ℕ → List (List ℕ) → ℕ → ℕ → List ℕ → Type 0
@@ -39,7 +39,7 @@ Calm v cs head len w =
 -- From w, a trail of len entries of which start had been made false in their clauses, to w′: only forced entries
 -- are new, and either a clause is wholly false or every entry is made false and every clause is quiet.
 pub record Propagated (v : ℕ) (cs : List (List ℕ)) (start len : ℕ) (w : List ℕ) (head′ len′ : ℕ) (clash : Bool) (w′ : List ℕ) : Type 0 where
-  pub held : Held v cs head′ len′ w′
+  pub held : WorkHeld v cs head′ len′ w′
   pub frame : Frame v (length cs) w w′
   pub forces : Forces v cs (trail w v len) (trail w′ v len′)
   pub calm : clash ≡ false → (head′ ≡ len′) × Calm v cs head′ len′ w′

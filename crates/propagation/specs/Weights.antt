@@ -28,5 +28,5 @@ abbrev pub AtLeast : ℕ → ℕ → Type 0
 AtLeast d z = d ≤ z
 
 -- a number that d can be added to
-abbrev pub Room : ℕ → ℕ → Type 0
-Room d z = z + d < 2 ^ 32
+abbrev pub RoomFor : ℕ → ℕ → Type 0
+RoomFor d z = z + d < 2 ^ 32

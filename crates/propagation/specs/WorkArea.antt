@@ -46,7 +46,7 @@ Within v [] = Unit
 Within v (x ∷ xs) = (x / 2 < v) × Within v xs
 
 -- what the search asks of a clause; so short, the number of literals left is the weight's remainder by 64
-pub record Clause (v : ℕ) (c : List ℕ) : Type 0 where
+pub record ShortClause (v : ℕ) (c : List ℕ) : Type 0 where
   pub distinct : Distinct c
   pub within : Within v c
   pub short : length c < 64
@@ -66,10 +66,10 @@ pub record Block (v : ℕ) (cs : List (List ℕ)) (w : List ℕ) (x : ℕ) : Typ
 --   [7v, 7v + length cs)   the weights of the clauses
 --   behind them            the blocks, addresses of weights, rising within a block
 -- The clauses themselves are not in memory: cs is what the weights and blocks are those of.
-pub record Held (v : ℕ) (cs : List (List ℕ)) (head len : ℕ) (w : List ℕ) : Type 0 where
+pub record WorkHeld (v : ℕ) (cs : List (List ℕ)) (head len : ℕ) (w : List ℕ) : Type 0 where
   -- a weight is below 2 ^ 31
   pub small : v < 2 ^ 18
-  pub clauses : All (Clause v) cs
+  pub clauses : All (ShortClause v) cs
   pub room : 7 * v + length cs ≤ length w
   pub head-len : head ≤ len
   pub len-v : len ≤ v
@@ -85,7 +85,7 @@ Prefers v n first w = (x : ℕ) → x < n → getD w (6 * v + x) 0 ≡ cond (fir
 -- a work area before a search: it holds the clauses and the first values, and no variable is set
 pub record Loaded (v : ℕ) (cs : List PropClause) (first : ℕ → Bool) (w : List ℕ) : Type 0 where
   pub numbered : all (all (isNumbered v)) cs ≡ true
-  pub held : Held v (coded cs) 0 0 w
+  pub held : WorkHeld v (coded cs) 0 0 w
   pub prefers : Prefers v v first w
 
 -- from w to w′, but for the values, the trail and the weights of m clauses, nothing changes

@@ -2,7 +2,7 @@
 ghost use mathlib.Core.Path.{_≡_};
 ghost use mathlib.Core.List.{List};
 ghost use Prim.Native.Nat.{ℕ, _<_};
-ghost use Rattle.propagation.specs.WorkArea.{negated as negation, Held};
+ghost use Rattle.propagation.specs.WorkArea.{negated as negation, WorkHeld};
 ghost use Rattle.propagation.specs.Advance.{advanced, Ready, Calm, Propagated};
 use units::Seen;
 
@@ -45,7 +45,7 @@ pub fn advance(work: &mut [u32], v: usize, head: usize, len: usize) -> Seen
 // Propagates from the entry at start on, until a clause is wholly false or nothing is forced.
 pub fn propagate(work: &mut [u32], v: usize, start: usize, len: usize) -> Front
     requires { ⌜ Ready v start len (now work) ⌝ }
-    ensures { λ r. ⌜ ((cs : List (List ℕ)) → Held v cs start len (now (work .entry)) → Calm v cs start len (now (work .entry)) → Propagated v cs start len (now (work .entry)) (r .head) (r .len) (r .clash) (now (work .exit))) ⌝ }
+    ensures { λ r. ⌜ ((cs : List (List ℕ)) → WorkHeld v cs start len (now (work .entry)) → Calm v cs start len (now (work .entry)) → Propagated v cs start len (now (work .entry)) (r .head) (r .len) (r .clash) (now (work .exit))) ⌝ }
 {
     let mut head = start;
     let mut entries = len;

@@ -1,7 +1,7 @@
 // The weights of clauses, one number each, and the occurrences of literals, which are addresses of weights.
 ghost use mathlib.Core.Path.{_≡_};
 ghost use lib.Seq.{slice};
-ghost use Rattle.propagation.specs.Weights.{changed, less, more, Addresses, AtLeast, Room};
+ghost use Rattle.propagation.specs.Weights.{changed, less, more, Addresses, AtLeast, RoomFor};
 
 // A 32-bit number as an index.
 pub fn wide(number: u32) -> usize
@@ -25,7 +25,7 @@ pub fn lower(work: &mut [u32], from: usize, to: usize, amount: u32)
 
 // Adds the amount to each weight whose address stands in work from `from` to `to`: what undoes `lower`.
 pub fn raise(work: &mut [u32], from: usize, to: usize, amount: u32)
-    requires { ⌜ Addresses (Room amount) from from to (now work) ⌝ }
+    requires { ⌜ Addresses (RoomFor amount) from from to (now work) ⌝ }
     ensures { λ _. ⌜ now (work .exit) ≡ changed (more amount) (slice from to (now (work .entry))) (now (work .entry)) ⌝ }
 {
     let mut place = from;

@@ -11,9 +11,8 @@ use lib.ListN.{length, take, drop, replicate, length-map, length-drop, take-appe
 use lib.Seq.{take-append-le, drop-append-le, length-take-le, take-at}
 use Rattle.theory.specs.Syntax.{Kind}
 use Rattle.theory.specs.Propositional.{width}
-use Rattle.theory.specs.Valuation.{valueOf, valuesOf}
+use Rattle.theory.specs.Valuation.{valueOf, valuesOf, settingOf}
 use Rattle.theory.proofs.Lists.{map-drop}
-use Rattle.valuations.specs.Cells.{settingOf}
 use Rattle.reading_back.specs.Bits.{bitsHeld}
 
 module _ (setting values : List ℕ) where

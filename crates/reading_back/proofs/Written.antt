@@ -27,7 +27,7 @@ use Rattle.text.specs.Put.{put, put-none, put-run}
 use Rattle.cases.specs.Writing.{headingText}
 use Rattle.valuations.specs.declared.numbering.Numbering.{Numbering}
 use Rattle.valuations.proofs.Blocks.{block-room, table-at}
-use Rattle.reading_back.specs.Bits.{tableIn, TableLent, Writable}
+use Rattle.reading_back.specs.Bits.{tableIn, TableLent, WritableBits}
 use Rattle.reading_back.proofs.CaseLines.{tableOf, tables-more, tables-within, case-parts, lines-length, table-below}
 
 module _ (sheet : List ℕ) (y : Signature) (s : ℕ) (bits : List ℕ) where
@@ -46,7 +46,7 @@ module _ (sheet : List ℕ) (y : Signature) (s : ℕ) (bits : List ℕ) where
   unfolding tablesText
   none-written out at = record { within = omega arith; held = refl; text = sym (put-none out at); cursor = omega arith }
 
-module _ (sheet : List ℕ) (y : Signature) (n : Numbering) (s : ℕ) (bits : List ℕ) (w : Writable sheet y n s bits) where
+module _ (sheet : List ℕ) (y : Signature) (n : Numbering) (s : ℕ) (bits : List ℕ) (w : WritableBits sheet y n s bits) where
   abbrev g : theory.Signature
   g = signatureIn sheet y
 

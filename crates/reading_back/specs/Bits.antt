@@ -8,14 +8,13 @@ use lib.ListN.{length, replicate, drop}
 use Rattle.theory.specs.Lists.{all}
 use Rattle.theory.specs.Vectors.{AllBelow}
 use Rattle.theory.specs.Propositional.{width}
-use Rattle.theory.specs.Valuation.{isFunctional, valuesOf}
+use Rattle.theory.specs.Valuation.{isFunctional, valuesOf, settingOf}
 use Rattle.syntax.specs.declared.signature.Symbol.{Symbol}
 use Rattle.syntax.specs.declared.signature.Signature.{Signature}
 use Rattle.syntax.specs.Signatures.{kindOf, signatureIn}
 use Rattle.clauses.specs.Names.{Readable}
 use Rattle.valuations.specs.declared.numbering.Numbering.{Numbering}
 use Rattle.valuations.specs.Numbers.{NumberingOf}
-use Rattle.valuations.specs.Cells.{settingOf}
 
 -- the bits: the setting's bytes, or, where there are values, those of a search's values
 unfoldable pub bitsHeld : List ℕ → List ℕ → List ℕ
@@ -35,7 +34,7 @@ pub record TableLent (sheet : List ℕ) (y : Symbol) (from s : ℕ) (bits : List
   pub below : AllBelow 8 (tableIn s y from bits)
 
 -- the bits are a valuation of the signature and give each function cell one result
-pub record Writable (sheet : List ℕ) (y : Signature) (n : Numbering) (s : ℕ) (bits : List ℕ) : Type 0 where
+pub record WritableBits (sheet : List ℕ) (y : Signature) (n : Numbering) (s : ℕ) (bits : List ℕ) : Type 0 where
   pub readable : Readable sheet y
   pub positive : 1 ≤ s
   pub size : s ≤ 8

@@ -10,10 +10,9 @@ ghost use Prim.Native.Nat.{_+_, _*_, _^_, _≤_};
 ghost use lib.ListN.{length, replicate, drop};
 ghost use Rattle.theory.specs.Propositional as theory;
 ghost use Rattle.theory.specs.CaseText.{tableText};
-ghost use Rattle.theory.specs.Valuation.{valuesOf};
+ghost use Rattle.theory.specs.Valuation.{valuesOf, settingOf};
 ghost use Rattle.syntax.specs.Signatures.{kindOf, symbolIn};
 ghost use Rattle.text.specs.Put.{put};
-ghost use Rattle.valuations.specs.Cells.{settingOf};
 ghost use Rattle.reading_back.specs.Bits.{TableLent, bitsHeld, tableIn};
 
 // The values of a symbol's cells, whose variables start with `from`. `bits` is room for the symbol's bits.

@@ -11,7 +11,7 @@ ghost use Rattle.theory.specs.Operations.{over};
 ghost use Rattle.theory.specs.Valuation.{readBack};
 ghost use Rattle.syntax.specs.Signatures.{signatureIn};
 ghost use Rattle.text.specs.Put.{put};
-ghost use Rattle.reading_back.specs.Bits.{Writable, bitsHeld};
+ghost use Rattle.reading_back.specs.Bits.{WritableBits, bitsHeld};
 
 // Writes the case to the front of the output and answers its length. The bits are the setting's bytes, or, where there are values, those of a
 // search's values.
@@ -24,7 +24,7 @@ pub fn write_case(
     values: &[u32],
     out: &mut [u8],
 ) -> usize
-    requires { ⌜ Writable (now sheet) signature n size (bitsHeld (now setting) (now values)) ⌝ }
+    requires { ⌜ WritableBits (now sheet) signature n size (bitsHeld (now setting) (now values)) ⌝ }
     requires { ⌜ caseLength size (signatureIn (now sheet) signature) ≤ length (now out) ⌝ }
     ensures written { λ r. ⌜ now (out .exit) ≡ over (caseText size (signatureIn (now (sheet .entry)) signature) (readBack size (signatureIn (now (sheet .entry)) signature) (bitsHeld (now (setting .entry)) (now (values .entry))))) (now (out .entry)) ⌝ }
     ensures length { λ r. ⌜ r ≡ caseLength size (signatureIn (now (sheet .entry)) signature) ⌝ }
@@ -44,7 +44,7 @@ fn put_tables(
     out: &mut [u8],
     at: usize,
 ) -> usize
-    requires { ⌜ Writable (now sheet) signature n size (bitsHeld (now setting) (now values)) ⌝ }
+    requires { ⌜ WritableBits (now sheet) signature n size (bitsHeld (now setting) (now values)) ⌝ }
     requires { ⌜ at + length (tablesText size (signatureIn (now sheet) signature) (readBack size (signatureIn (now sheet) signature) (bitsHeld (now setting) (now values)))) ≤ length (now out) ⌝ }
     ensures written { λ r. ⌜ now (out .exit) ≡ put (now (out .entry)) at (tablesText size (signatureIn (now (sheet .entry)) signature) (readBack size (signatureIn (now (sheet .entry)) signature) (bitsHeld (now (setting .entry)) (now (values .entry))))) ⌝ }
     ensures place { λ r. ⌜ r ≡ at + length (tablesText size (signatureIn (now (sheet .entry)) signature) (readBack size (signatureIn (now (sheet .entry)) signature) (bitsHeld (now (setting .entry)) (now (values .entry))))) ⌝ }

@@ -8,8 +8,8 @@ use borrow.Author.Tests.{eqb-true, eqb-false}
 use lib.Dec.{eqb}
 use lib.ListN.{length, length-map, getD}
 use Rattle.propagation.specs.Clauses.{codes, once, coded}
-use Rattle.propagation.specs.Units.{visited, Visitable, count}
-use Rattle.propagation.specs.WorkArea.{trail, values, falses, Clause, Held, Loaded, Frame}
+use Rattle.propagation.specs.Units.{visited, Visitable, setCount}
+use Rattle.propagation.specs.WorkArea.{trail, values, falses, ShortClause, WorkHeld, Loaded, Frame}
 use Rattle.propagation.specs.Forcing.{Forces, none, Void, Quiet}
 use Rattle.propagation.proofs.Frames.{trail-length, frame-none, frame-trans}
 use Rattle.propagation.proofs.Trails.{values-count}
@@ -24,12 +24,12 @@ use Rattle.search.specs.Search.{Begun}
 
 -- what holds after the clauses below address q
 pub record Beginning (v : ℕ) (cs : List (List ℕ)) (w₀ : List ℕ) (q n : ℕ) (w : List ℕ) : Type 0 where
-  pub held : Held v cs 0 n w
+  pub held : WorkHeld v cs 0 n w
   pub frame : Frame v (length cs) w₀ w
   pub forces : Forces v cs [] (trail w v n)
   pub quiet : (i : ℕ) → i < length cs → 7 * v + i < q → Quiet [] (values v (trail w v n)) (getD cs i [])
 
-pub beginning-start : (v : ℕ) (cs : List (List ℕ)) (q : ℕ) (w : List ℕ) → q ≡ 7 * v → Held v cs 0 0 w → Beginning v cs w q 0 w
+pub beginning-start : (v : ℕ) (cs : List (List ℕ)) (q : ℕ) (w : List ℕ) → q ≡ 7 * v → WorkHeld v cs 0 0 w → Beginning v cs w q 0 w
 beginning-start v cs q w e h = record { held = h; frame = frame-none v (length cs) w; forces = none; quiet = λ i is k. absurd (omega (arith, e, k)) }
 
 module _ (v : ℕ) (cs : List (List ℕ)) (w₀ : List ℕ) (to q n : ℕ) (w : List ℕ) (end : to ≡ 7 * v + length cs) (from : 7 * v ≤ q) (g : Beginning v cs w₀ q n w) where
@@ -51,8 +51,8 @@ module _ (v : ℕ) (cs : List (List ℕ)) (w₀ : List ℕ) (to q n : ℕ) (w : 
           variables = omega (arith, g .held .small);
           names =
               subst⁻¹ (λ (m : ℕ). getD w m 0 % 64 ≡ 1 → getD w m 0 / 64 / 2 < v) at
-              (subst⁻¹ (λ (m : ℕ). m % 64 ≡ 1 → m / 64 / 2 < v) (weight-at v cs 0 n w (g .held) i is) (one-names v [] (getD cs i []) (all-at (Clause v) cs i (g .held .clauses) is)));
-          counts = ap count (g .held .gives) ∙ values-count v (trail w v n) (g .held .fresh) ∙ trail-length v w n;
+              (subst⁻¹ (λ (m : ℕ). m % 64 ≡ 1 → m / 64 / 2 < v) (weight-at v cs 0 n w (g .held) i is) (one-names v [] (getD cs i []) (all-at (ShortClause v) cs i (g .held .clauses) is)));
+          counts = ap setCount (g .held .gives) ∙ values-count v (trail w v n) (g .held .fresh) ∙ trail-length v w n;
         }
 
     module _ (n′ : ℕ) (clash : Bool) (w′ : List ℕ) (ne : n′ ≡ visited v q n w .len) (ke : clash ≡ visited v q n w .clash) (we : w′ ≡ visited v q n w .mem) where
@@ -75,7 +75,7 @@ module _ (v : ℕ) (cs : List (List ℕ)) (w₀ : List ℕ) (to q n : ℕ) (w : 
           by j js k true p = subst⁻¹ (λ (m : ℕ). Quiet [] (values v (trail w′ v n′)) (getD cs m [])) (eqb-true j i p) (looked .good e)
           by j js k false p = quiet-on [] (getD cs j []) (looked .forces) (g .quiet j js (omega (arith, eqb-false j i p, k)))
 
-      stopped : clash ≡ true → Held v cs 0 n′ w′ × Frame v (length cs) w₀ w′ × Forces v cs [] (trail w′ v n′) × Void cs (falses (trail w′ v n′))
+      stopped : clash ≡ true → WorkHeld v cs 0 n′ w′ × Frame v (length cs) w₀ w′ × Forces v cs [] (trail w′ v n′) × Void cs (falses (trail w′ v n′))
       stopped e = (looked .held, frame-trans (g .frame) (looked .frame), forces′, looked .void e)
 
 -- what the weights of the clauses take is in the work area

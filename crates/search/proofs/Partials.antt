@@ -11,6 +11,7 @@ use Rattle.theory.specs.Lists.{elem}
 use Rattle.theory.specs.Propositional.{PropLiteral}
 use Rattle.theory.specs.Claims.Counts.{isNumbered}
 use Rattle.theory.specs.Walk.{Partial, lookup, isUnset, isSetTo, literalIsTrue, literalIsUnset, bytesOf}
+use Rattle.theory.specs.Valuation.{settingOf}
 use Rattle.theory.proofs.Tests.{eqb-true, eqb-false, eqb-of-≡, iff→≡, and-left, and-right, leb-true}
 use Rattle.theory.proofs.Lists.{map-at}
 use Rattle.theory.proofs.Propagation.{withLiteral}
@@ -18,7 +19,7 @@ use Rattle.propagation.specs.Clauses.{code}
 use Rattle.propagation.specs.WorkArea.{values, Fresh, falses}
 use Rattle.propagation.proofs.Trails.{values-length}
 use Rattle.propagation.proofs.Truths.{false-value, value-false, value-small}
-use Rattle.search.specs.Search.{valueOf, partialOf, settingOf}
+use Rattle.search.specs.Search.{partialValue, partialOf}
 
 -- the partial valuation that a trail gives
 abbrev pub partial : ℕ → List ℕ → Partial
@@ -33,10 +34,10 @@ map-set f [] i y = refl
 map-set f (x ∷ xs) zero y = refl
 map-set f (x ∷ xs) (suc i) y = ap (λ l. f x ∷ l) (map-set f xs i y)
 
-value-sign : (u : ℕ) → valueOf (1 + u % 2) ≡ some (eqb (u % 2) 0)
+value-sign : (u : ℕ) → partialValue (1 + u % 2) ≡ some (eqb (u % 2) 0)
 value-sign u = by (u % 2) (omega arith)
   where
-    by : (r : ℕ) → r < 2 → valueOf (1 + r) ≡ some (eqb r 0)
+    by : (r : ℕ) → r < 2 → partialValue (1 + r) ≡ some (eqb r 0)
     by zero h = refl
     by (suc zero) h = refl
     by (suc (suc r)) h = absurd (omega arith)
@@ -44,7 +45,7 @@ value-sign u = by (u % 2) (omega arith)
 -- one entry more makes its literal true
 pub partial-push : (v t : ℕ) (ts : List ℕ) → partial v (t ∷ ts) ≡ withLiteral (partial v ts) (literalOf (t / 2))
 partial-push v t ts =
-    map-set valueOf (values v ts) (t / 2 / 2) (1 + t / 2 % 2) ∙ ap (set (partial v ts) (t / 2 / 2)) (value-sign (t / 2))
+    map-set partialValue (values v ts) (t / 2 / 2) (1 + t / 2 % 2) ∙ ap (set (partial v ts) (t / 2 / 2)) (value-sign (t / 2))
 
 pub partial-none : (v : ℕ) → partial v [] ≡ replicate v none
 partial-none zero = refl
@@ -96,16 +97,16 @@ module _ (v : ℕ) (l : PropLiteral) (numbered : isNumbered v l ≡ true) where
     abbrev pub value : ℕ
     value = getD (values v ts) (code l / 2) 0
 
-    found : lookup (partial v ts) (l .number) ≡ valueOf value
+    found : lookup (partial v ts) (l .number) ≡ partialValue value
     found =
         ap (lookup (partial v ts)) (sym code-half)
-        ∙ map-at valueOf (values v ts) (code l / 2) 0 (some false) (omega (arith, values-length v ts, code-variable))
+        ∙ map-at partialValue (values v ts) (code l / 2) 0 (some false) (omega (arith, values-length v ts, code-variable))
 
     -- the literal is unset, true or false by that value
     pub unset-value : literalIsUnset (partial v ts) l ≡ eqb value 0
     unset-value = ap isUnset found ∙ by value
       where
-        by : (z : ℕ) → isUnset (valueOf z) ≡ eqb z 0
+        by : (z : ℕ) → isUnset (partialValue z) ≡ eqb z 0
         by zero = refl
         by (suc zero) = refl
         by (suc (suc z)) = sym (eqb-false (suc (suc z)) 0 (λ e. omega (arith, e)))
@@ -113,7 +114,7 @@ module _ (v : ℕ) (l : PropLiteral) (numbered : isNumbered v l ≡ true) where
     pub true-value : literalIsTrue (partial v ts) l ≡ eqb value (1 + code l % 2)
     true-value = ap (isSetTo (l .positive)) found ∙ by value (l .positive) (value-small v ts (code l / 2) fresh) ∙ ap (λ (r : ℕ). eqb value (1 + r)) (sym code-sign)
       where
-        by : (z : ℕ) (b : Bool) → z ≤ 2 → isSetTo b (valueOf z) ≡ eqb z (1 + cond b 0 1)
+        by : (z : ℕ) (b : Bool) → z ≤ 2 → isSetTo b (partialValue z) ≡ eqb z (1 + cond b 0 1)
         by zero true h = refl
         by zero false h = refl
         by (suc zero) true h = refl

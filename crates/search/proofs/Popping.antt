@@ -5,12 +5,12 @@ use Prim.Native.Nat.{ℕ, _+_, _-_, _*_, _/_, _≤_, _<_}
 use native.Mathlib.Numerals.{add-one}
 use native.Mathlib.Omega.{arith}
 use lib.ListN.{length, getD, set}
-use Rattle.propagation.specs.WorkArea.{trail, Fresh, Held, Frame}
+use Rattle.propagation.specs.WorkArea.{trail, Fresh, WorkHeld, Frame}
 use Rattle.propagation.proofs.Frames.{trail-agree, frame-trans}
 use Rattle.search.specs.Search.{floated, Popped}
 use Rattle.search.proofs.Unwinding.{floated-held, floated-frame, floated-front, same-trail, unset-held, unset-frame}
 
-module _ (v : ℕ) (cs : List (List ℕ)) (head len : ℕ) (w : List ℕ) (held : Held v cs head len w) (some : 0 < len) where
+module _ (v : ℕ) (cs : List (List ℕ)) (head len : ℕ) (w : List ℕ) (held : WorkHeld v cs head len w) (some : 0 < len) where
   abbrev n : ℕ
   n = len - 1
 
@@ -25,17 +25,17 @@ module _ (v : ℕ) (cs : List (List ℕ)) (head len : ℕ) (w : List ℕ) (held 
 
   pub popped-kept : head ≤ n → (x : ℕ) → x ≡ getD w (v + n) 0 / 2 / 2 → Popped v cs head len w head (set w x 0)
   popped-kept h x e =
-      let held′ : Held v cs head (n + 1) w = subst (λ (m : ℕ). Held v cs head m w) len-is held in
+      let held′ : WorkHeld v cs head (n + 1) w = subst (λ (m : ℕ). WorkHeld v cs head m w) len-is held in
       rw e (record { held = unset-held v cs head n w held′ h; frame = unset-frame v cs head n w held′ h; same = same-trail v cs head n w held′ h n })
 
-  pub pop-ready : n < head → Held v cs (n + 1) len w
-  pop-ready h = let e : head ≡ n + 1 = omega (arith, held .head-len) in subst (λ (m : ℕ). Held v cs m len w) e held
+  pub pop-ready : n < head → WorkHeld v cs (n + 1) len w
+  pop-ready h = let e : head ≡ n + 1 = omega (arith, held .head-len) in subst (λ (m : ℕ). WorkHeld v cs m len w) e held
 
   pub popped-down : n < head → (w₁ : List ℕ) → w₁ ≡ floated v n w → (x : ℕ) → x ≡ getD w (v + n) 0 / 2 / 2 → Popped v cs head len w n (set w₁ x 0)
   popped-down h w₁ e₁ x e =
       let h₁ = pop-ready h in
       let f : (i : ℕ) → i < 7 * v → getD w₁ i 0 ≡ getD w i 0 = λ i k. ap (λ (l : List ℕ). getD l i 0) e₁ ∙ floated-front v cs n len w h₁ i k in
-      let held′ : Held v cs n (n + 1) w₁ = subst⁻¹ (λ (l : List ℕ). Held v cs n (n + 1) l) e₁ (subst (λ (m : ℕ). Held v cs n m (floated v n w)) len-is (floated-held v cs n len w h₁)) in
+      let held′ : WorkHeld v cs n (n + 1) w₁ = subst⁻¹ (λ (l : List ℕ). WorkHeld v cs n (n + 1) l) e₁ (subst (λ (m : ℕ). WorkHeld v cs n m (floated v n w)) len-is (floated-held v cs n len w h₁)) in
       let e′ : x ≡ getD w₁ (v + n) 0 / 2 / 2 = e ∙ ap (λ (m : ℕ). m / 2 / 2) (sym (f (v + n) (omega (arith, held .len-v)))) in
       rw e′
       (record {

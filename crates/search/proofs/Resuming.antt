@@ -12,12 +12,12 @@ use Rattle.theory.specs.Lists.{all}
 use Rattle.theory.specs.Propositional.{PropClause}
 use Rattle.theory.specs.Claims.Counts.{isNumbered}
 use Rattle.theory.specs.Walk.{bytesOf, Walked, choose, walked}
+use Rattle.theory.specs.Valuation.{settingOf}
 use Rattle.propagation.specs.Clauses.{coded}
 use Rattle.propagation.specs.WorkArea.{negated, values, Fresh, falses}
 use Rattle.propagation.specs.Forcing.{Forces, none as no-more, more, Void}
-use Rattle.search.specs.Moves.{BackTo, here as back-here, pops, Closed}
+use Rattle.search.specs.Moves.{BackTo, here as back-here, pops, NoneOpen}
 use Rattle.search.proofs.Partials.{partial}
-use Rattle.search.specs.Search.{settingOf}
 use Rattle.search.proofs.Partials.{partial-bytes}
 use Rattle.search.proofs.Walks.{AllQuiet, nothing, from, from-forces, from-void, from-end, from-choice}
 
@@ -92,7 +92,7 @@ module _ (v : ℕ) (cs : List PropClause) (first : ℕ → Bool) (numbered : all
       by true p q = ap (later ts) (orElse-added k (r .answer) r o) ∙ p
       by false p q = q
 
-  later-closed : (ts : List ℕ) (r : Walked) → Closed ts → later ts r ≡ r
+  later-closed : (ts : List ℕ) (r : Walked) → NoneOpen ts → later ts r ≡ r
   later-closed [] r c = refl
   later-closed (t ∷ ts) r c = later-shut t ts r (c .0) ∙ later-closed ts r (c .1)
 
@@ -119,7 +119,7 @@ module _ (v : ℕ) (cs : List PropClause) (first : ℕ → Bool) (numbered : all
       ∙ sym (later-shut (2 * negated (t / 2) + 0) ts (go ((2 * negated (t / 2) + 0) ∷ ts)) (omega arith))
   later-back (pops {ts} t e b) = later-shut t ts nothing e ∙ later-back b
 
-  pub whole-start : (ts : List ℕ) → Closed ts → walked v cs first ≡ go ts → Whole 0 ts
+  pub whole-start : (ts : List ℕ) → NoneOpen ts → walked v cs first ≡ go ts → Whole 0 ts
   whole-start ts c e = e ∙ sym (added-none (go ts)) ∙ ap (added 0) (sym (later-closed ts (go ts) c))
 
   pub whole-forces : (k : ℕ) {ts us : List ℕ} → Forces v (coded cs) ts us → Fresh v us → Whole k ts → Whole k us
@@ -129,7 +129,7 @@ module _ (v : ℕ) (cs : List PropClause) (first : ℕ → Bool) (numbered : all
   pub whole-back : (k : ℕ) (ts us : List ℕ) → Fresh v ts → Void (coded cs) (falses ts) → BackTo ts us → Whole k ts → Whole k us
   whole-back k ts us f z b e = e ∙ ap (added k) (ap (later ts) (from-void v cs first numbered ts f z) ∙ later-back b)
 
-  pub whole-none : (k : ℕ) (ts : List ℕ) → Fresh v ts → Void (coded cs) (falses ts) → Closed ts → Whole k ts → walked v cs first .answer ≡ none
+  pub whole-none : (k : ℕ) (ts : List ℕ) → Fresh v ts → Void (coded cs) (falses ts) → NoneOpen ts → Whole k ts → walked v cs first .answer ≡ none
   whole-none k ts f z c e = ap (λ (r : Walked). r .answer) (e ∙ ap (added k) (ap (later ts) (from-void v cs first numbered ts f z) ∙ later-closed ts nothing c))
 
   module _ (k : ℕ) (ts : List ℕ) (f : Fresh v ts) (q : AllQuiet v (coded cs) ts) where

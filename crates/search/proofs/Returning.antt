@@ -10,11 +10,11 @@ use lib.Dec.{ltb}
 use lib.ListN.{length, getD}
 use lib.Seq.{getD-take}
 use Rattle.propagation.specs.Units.{pushed, Pushable}
-use Rattle.propagation.specs.WorkArea.{negated, trail, values, Fresh, Held, Frame}
+use Rattle.propagation.specs.WorkArea.{negated, trail, values, Fresh, WorkHeld, Frame}
 use Rattle.propagation.proofs.Frames.{trail-length, frame-none, frame-trans}
 use Rattle.propagation.proofs.Trails.{negated-half}
 use Rattle.propagation.proofs.Pushing.{free, pushed-held, pushed-frame, pushed-trail}
-use Rattle.search.specs.Moves.{BackTo, here, pops, Closed, OpenUnder}
+use Rattle.search.specs.Moves.{BackTo, here, pops, NoneOpen, OpenUnder}
 use Rattle.search.specs.Search.{Popped, Lowered, Returned}
 use Rattle.search.proofs.Popping.{pop-fresh}
 
@@ -33,13 +33,13 @@ level-turn head h n h′ some (a, b) l = (λ k. small k (ltb n head) refl, λ k.
     large k = let q = b (omega (arith, k)) in l .kept (omega (arith, q, k)) ∙ q
 
 pub record Backing (v : ℕ) (cs : List (List ℕ)) (head len : ℕ) (w₀ : List ℕ) (h n : ℕ) (w : List ℕ) : Type 0 where
-  pub held : Held v cs h n w
+  pub held : WorkHeld v cs h n w
   pub frame : Frame v (length cs) w₀ w
   pub back : (us : List ℕ) → BackTo (trail w v n) us → BackTo (trail w₀ v len) us
-  pub closed : Closed (trail w v n) → Closed (trail w₀ v len)
+  pub closed : NoneOpen (trail w v n) → NoneOpen (trail w₀ v len)
   pub under : OpenUnder head (trail w₀ v len) → OpenUnder head (trail w v n)
 
-pub backing-start : (v : ℕ) (cs : List (List ℕ)) (head len : ℕ) (w₀ : List ℕ) → Held v cs head len w₀ → Backing v cs head len w₀ head len w₀
+pub backing-start : (v : ℕ) (cs : List (List ℕ)) (head len : ℕ) (w₀ : List ℕ) → WorkHeld v cs head len w₀ → Backing v cs head len w₀ head len w₀
 backing-start v cs head len w₀ h = record { held = h; frame = frame-none v (length cs) w₀; back = λ us b. b; closed = λ c. c; under = λ u. u }
 
 pub level-start : (head len : ℕ) → head ≤ len → Level head head len
@@ -66,7 +66,7 @@ module _ (v : ℕ) (cs : List (List ℕ)) (head len : ℕ) (w₀ : List ℕ) (h 
           held = p .held;
           frame = frame-trans (g .frame) (p .frame);
           back = λ us b. g .back us (subst⁻¹ (λ (l : List ℕ). BackTo l us) top (pops t even (subst (λ (l : List ℕ). BackTo l us) (p .same) b)));
-          closed = λ c. g .closed (subst⁻¹ Closed top (even, subst Closed (p .same) c));
+          closed = λ c. g .closed (subst⁻¹ NoneOpen top (even, subst NoneOpen (p .same) c));
           under = λ u. subst⁻¹ (OpenUnder head) (p .same) ((subst (OpenUnder head) top (g .under u)) .1);
         }
 
@@ -110,7 +110,7 @@ module _ (v : ℕ) (cs : List (List ℕ)) (head len : ℕ) (w₀ : List ℕ) (h 
           returned : Returned v cs head len w₀ h′ (m + 1) true w₂
           returned =
               record {
-                held = subst⁻¹ (λ (l : List ℕ). Held v cs h′ (m + 1) l) e (pushed-held v cs h′ m w′ (p .held) u 0 (omega arith) named unset);
+                held = subst⁻¹ (λ (l : List ℕ). WorkHeld v cs h′ (m + 1) l) e (pushed-held v cs h′ m w′ (p .held) u 0 (omega arith) named unset);
                 frame =
                     frame-trans (frame-trans (g .frame) (p .frame))
                     (subst⁻¹ (λ (l : List ℕ). Frame v (length cs) w′ l) e (pushed-frame v cs h′ m w′ (p .held) u 0 (omega arith) named unset));
@@ -127,5 +127,5 @@ backing-done v cs head len w₀ h n w g e =
       frame = g .frame;
       back = λ z. absurd (false≢true z);
       level = λ z. absurd (false≢true z);
-      closed = λ z. g .closed (subst⁻¹ (λ (k : ℕ). Closed (trail w v k)) e tt);
+      closed = λ z. g .closed (subst⁻¹ (λ (k : ℕ). NoneOpen (trail w v k)) e tt);
     }

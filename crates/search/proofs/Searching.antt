@@ -13,14 +13,14 @@ use Rattle.theory.specs.Propositional.{PropClause}
 use Rattle.theory.specs.Claims.Counts.{isNumbered}
 use Rattle.propagation.specs.Clauses.{coded}
 use Rattle.propagation.specs.Units.{pushed, Pushable}
-use Rattle.propagation.specs.WorkArea.{negated, trail, values, Fresh, falses, Held, Prefers, Frame}
+use Rattle.propagation.specs.WorkArea.{negated, trail, values, Fresh, falses, WorkHeld, Prefers, Frame}
 use Rattle.propagation.specs.Forcing.{Forces, none as no-more, more, Quiet}
 use Rattle.propagation.specs.Advance.{Calm, Propagated}
 use Rattle.propagation.proofs.Frames.{trail-length, frame-none, frame-trans}
 use Rattle.propagation.proofs.Trails.{set-nonzero, values-length}
 use Rattle.propagation.proofs.Pushing.{free, pushed-held, pushed-frame, pushed-trail, older}
-use Rattle.search.specs.Moves.{BackTo, here, pops, Closed, OpenUnder}
-use Rattle.search.specs.Search.{LowestUnset, preferred, answered, Returned, Started, Solved}
+use Rattle.search.specs.Moves.{BackTo, here, pops, NoneOpen, OpenUnder}
+use Rattle.search.specs.Search.{LowestUnset, preferred, searchAnswer, Returned, Started, Solved}
 use Rattle.search.proofs.Kept.{frame-coded, frame-prefers}
 use Rattle.search.proofs.Walks.{AllQuiet, from-start}
 use Rattle.search.proofs.Resuming.{Whole, whole-start, whole-forces, whole-back, whole-none, whole-found, whole-choice}
@@ -34,7 +34,7 @@ Grounded v ds (t ∷ ts) = (t % 2 ≡ 1 → AllQuiet v ds ts) × Grounded v ds t
 -- What holds at the head of the loop: `whole` says that the whole walk has made so many choices, and goes on from the trail and its open choices.
 pub record Searching (v : ℕ) (cs : List PropClause) (first : ℕ → Bool) (w₀ : List ℕ) (head n : ℕ) (w : List ℕ) : Type 0 where
   pub numbered : all (all (isNumbered v)) cs ≡ true
-  pub held : Held v (coded cs) head n w
+  pub held : WorkHeld v (coded cs) head n w
   pub frame : Frame v (length (coded cs)) w₀ w
   pub prefers : Prefers v v first w
   pub calm : Calm v (coded cs) head n w
@@ -43,11 +43,11 @@ pub record Searching (v : ℕ) (cs : List PropClause) (first : ℕ → Bool) (w�
   pub choices : ℕ
   pub whole : Whole v cs first numbered choices (trail w v n)
 
-forces-closed : {v : ℕ} {ds : List (List ℕ)} {ts us : List ℕ} → Forces v ds ts us → Closed ts → Closed us
+forces-closed : {v : ℕ} {ds : List (List ℕ)} {ts us : List ℕ} → Forces v ds ts us → NoneOpen ts → NoneOpen us
 forces-closed no-more c = c
 forces-closed (more i t g is even l named unset) c = (even, forces-closed g c)
 
-under-closed : (h : ℕ) (ts : List ℕ) → Closed ts → OpenUnder h ts
+under-closed : (h : ℕ) (ts : List ℕ) → NoneOpen ts → OpenUnder h ts
 under-closed h [] c = tt
 under-closed h (t ∷ ts) c = (λ e. absurd (omega (arith, e, c .0)), under-closed h ts (c .1))
 
@@ -63,7 +63,7 @@ under-forced : {v : ℕ} {ds : List (List ℕ)} {ts us : List ℕ} (h : ℕ) →
 under-forced h no-more u = u
 under-forced h (more i t g is even l named unset) u = (λ e. absurd (omega (arith, e, even)), under-forced h g u)
 
-grounded-closed : (v : ℕ) (ds : List (List ℕ)) (ts : List ℕ) → Closed ts → Grounded v ds ts
+grounded-closed : (v : ℕ) (ds : List (List ℕ)) (ts : List ℕ) → NoneOpen ts → Grounded v ds ts
 grounded-closed v ds [] c = tt
 grounded-closed v ds (t ∷ ts) c = (λ e. absurd (omega (arith, e, c .0)), grounded-closed v ds ts (c .1))
 
@@ -73,7 +73,7 @@ grounded-forced (more i t g is even l named unset) u = (λ e. absurd (omega (ari
 
 pub searching-start : (v : ℕ) (cs : List PropClause) (first : ℕ → Bool) (len : ℕ) (w : List ℕ) → Started v cs first len w → Searching v cs first w 0 len w
 searching-start v cs first len w s =
-    let c : Closed (trail w v len) = forces-closed (s .forces) tt in
+    let c : NoneOpen (trail w v len) = forces-closed (s .forces) tt in
     record {
       numbered = s .numbered;
       held = s .held;
@@ -187,7 +187,7 @@ module _ (v : ℕ) (cs : List PropClause) (first : ℕ → Bool) (w₀ : List �
           record {
             answer =
                 whole-found v cs first (s .numbered) (s .choices) us (p .held .fresh) quiet (λ y h z. low .below y (omega (arith, h, e)) (value y h ∙ z)) whole₁
-                ∙ ap (answered true) (sym (p .held .gives));
+                ∙ ap (searchAnswer true) (sym (p .held .gives));
             frame = frame-coded cs frame₁;
           }
 
@@ -246,8 +246,8 @@ module _ (v : ℕ) (cs : List PropClause) (first : ℕ → Bool) (w₀ : List �
             trail-head : trail w₂ v head₁ ≡ trail w₁ v head₁
             trail-head = ap (λ (l : List ℕ). trail l v head₁) e₂ ∙ older v ds head₁ n₁ w₁ (p .held) u 1 (omega arith) named unset head₁ (p .held .head-len)
 
-            held₂ : Held v ds head₁ (n₁ + 1) w₂
-            held₂ = subst⁻¹ (λ (l : List ℕ). Held v ds head₁ (n₁ + 1) l) e₂ (pushed-held v ds head₁ n₁ w₁ (p .held) u 1 (omega arith) named unset)
+            held₂ : WorkHeld v ds head₁ (n₁ + 1) w₂
+            held₂ = subst⁻¹ (λ (l : List ℕ). WorkHeld v ds head₁ (n₁ + 1) l) e₂ (pushed-held v ds head₁ n₁ w₁ (p .held) u 1 (omega arith) named unset)
 
             frame₃ : Frame v (length ds) w₁ w₂
             frame₃ = subst⁻¹ (λ (l : List ℕ). Frame v (length ds) w₁ l) e₂ (pushed-frame v ds head₁ n₁ w₁ (p .held) u 1 (omega arith) named unset)

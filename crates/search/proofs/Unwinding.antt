@@ -7,11 +7,11 @@ use native.Mathlib.Numerals.{add-one}
 use native.Mathlib.Omega.{arith}
 use lib.ListN.{length, getD, set, take, drop, length-set, length-map, take-append-drop}
 use lib.Seq.{slice, getD-set-other, take-set-lt, drop-set-lt, drop-at, set-set, set-getD}
-use Rattle.propagation.specs.Weights.{changed, more, Addresses, Room}
+use Rattle.propagation.specs.Weights.{changed, more, Addresses, RoomFor}
 use Rattle.theory.specs.Lists.{elem}
 use Rattle.propagation.specs.Clauses.{weight, holders}
 use Rattle.propagation.proofs.Weighing.{raise-weights, weight-hit}
-use Rattle.propagation.specs.WorkArea.{trail, values, Fresh, falses, Held, Frame}
+use Rattle.propagation.specs.WorkArea.{trail, values, Fresh, falses, WorkHeld, Frame}
 use Rattle.propagation.specs.Advance.{sinking}
 use Rattle.propagation.proofs.Frames.{trail-agree, block-frame, front-length, reweighed-front, reweighed-frame}
 use Rattle.propagation.proofs.Lives.{weight-small}
@@ -20,7 +20,7 @@ use Rattle.propagation.proofs.Trails.{negated-half, fresh-down, fresh-new}
 use Rattle.propagation.proofs.Holds.{distinct, addresses, reheld}
 use Rattle.search.specs.Search.{floated}
 
-module _ (v : ℕ) (cs : List (List ℕ)) (n len : ℕ) (w : List ℕ) (held : Held v cs (n + 1) len w) where
+module _ (v : ℕ) (cs : List (List ℕ)) (n len : ℕ) (w : List ℕ) (held : WorkHeld v cs (n + 1) len w) where
   abbrev x : ℕ
   x = sinking v n w
 
@@ -39,9 +39,9 @@ module _ (v : ℕ) (cs : List (List ℕ)) (n len : ℕ) (w : List ℕ) (held : H
   falses-next : falses (trail w v (n + 1)) ≡ x ∷ falses (trail w v n)
   falses-next = ap falses trail-next
 
-  pub raisable : Addresses (Room (64 * x + 1)) (getD w (2 * v + 2 * x) 0) (getD w (2 * v + 2 * x) 0) (getD w (2 * v + 2 * x + 1) 0) w
+  pub raisable : Addresses (RoomFor (64 * x + 1)) (getD w (2 * v + 2 * x) 0) (getD w (2 * v + 2 * x) 0) (getD w (2 * v + 2 * x + 1) 0) w
   raisable =
-      addresses v cs (n + 1) len w held x literal (Room (64 * x + 1))
+      addresses v cs (n + 1) len w held x literal (RoomFor (64 * x + 1))
       (λ c k h.
       let e = ap (λ (D : List ℕ). weight D c) falses-next in
       omega (arith, e, weight-hit x (falses (trail w v n)) c (k .distinct) not-yet h, weight-small v (falses (trail w v n)) c (held .small) (k .within), k .short))
@@ -68,19 +68,19 @@ module _ (v : ℕ) (cs : List (List ℕ)) (n len : ℕ) (w : List ℕ) (held : H
       subst⁻¹ (λ (l : List ℕ). Frame v (length cs) w l) floated-is
       (reweighed-frame v (length cs) w (map (weight (falses (trail w v n))) cs) (length-map cs (weight (falses (trail w v n)))) (held .room))
 
-  pub floated-held : Held v cs n len (floated v n w)
-  floated-held = subst⁻¹ (λ (l : List ℕ). Held v cs n len l) floated-is (reheld v cs (n + 1) len w held n (omega (arith, held .head-len)))
+  pub floated-held : WorkHeld v cs n len (floated v n w)
+  floated-held = subst⁻¹ (λ (l : List ℕ). WorkHeld v cs n len l) floated-is (reheld v cs (n + 1) len w held n (omega (arith, held .head-len)))
 
 -- the same of the numbers that the code has
-module _ (v : ℕ) (cs : List (List ℕ)) (n len : ℕ) (w : List ℕ) (held : Held v cs (n + 1) len w) (f p a b : ℕ) (r : Read v n w f p a b) where
-  pub code-raise : Addresses (Room (64 * f + 1)) a a b w
+module _ (v : ℕ) (cs : List (List ℕ)) (n len : ℕ) (w : List ℕ) (held : WorkHeld v cs (n + 1) len w) (f p a b : ℕ) (r : Read v n w f p a b) where
+  pub code-raise : Addresses (RoomFor (64 * f + 1)) a a b w
   code-raise = rw (r .literal, start-is v n w f p a b r, end-is v n w f p a b r) (raisable v cs n len w held)
 
   pub code-floated : (w₁ : List ℕ) → w₁ ≡ changed (more (64 * f + 1)) (slice a b w) w → w₁ ≡ floated v n w
   code-floated w₁ e = e ∙ changed-is v n w f p a b r more
 
 -- the newest entry's variable is unset
-module _ (v : ℕ) (cs : List (List ℕ)) (head n : ℕ) (w : List ℕ) (held : Held v cs head (n + 1) w) (under : head ≤ n) where
+module _ (v : ℕ) (cs : List (List ℕ)) (head n : ℕ) (w : List ℕ) (held : WorkHeld v cs head (n + 1) w) (under : head ≤ n) where
   abbrev k : ℕ
   k = getD w (v + n) 0 / 2 / 2
 
@@ -125,7 +125,7 @@ module _ (v : ℕ) (cs : List (List ℕ)) (head n : ℕ) (w : List ℕ) (held : 
   pub unset-frame : Frame v (length cs) w w′
   unset-frame = record { long = long; bounds = λ i a b. other i (omega arith); rest = λ i a. other i (omega arith) }
 
-  pub unset-held : Held v cs head n w′
+  pub unset-held : WorkHeld v cs head n w′
   unset-held =
       record {
         small = held .small;

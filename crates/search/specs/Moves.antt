@@ -11,9 +11,9 @@ pub data BackTo : List ℕ → List ℕ → Type 0 where
   pops : {ts us : List ℕ} (t : ℕ) → t % 2 ≡ 0 → BackTo ts us → BackTo (t ∷ ts) us
 
 -- no choice has an untried value
-abbrev pub Closed : List ℕ → Type 0
-Closed [] = Unit
-Closed (t ∷ ts) = (t % 2 ≡ 0) × Closed ts
+abbrev pub NoneOpen : List ℕ → Type 0
+NoneOpen [] = Unit
+NoneOpen (t ∷ ts) = (t % 2 ≡ 0) × NoneOpen ts
 
 -- every open choice stands below the h-th entry
 abbrev pub OpenUnder : ℕ → List ℕ → Type 0

@@ -11,34 +11,31 @@ use Rattle.theory.specs.Lists.{all}
 use Rattle.theory.specs.Propositional.{PropClause}
 use Rattle.theory.specs.Walk.{Partial, walked}
 use Rattle.theory.specs.Claims.Counts.{isNumbered}
+use Rattle.theory.specs.Valuation.{settingOf}
 use Rattle.propagation.specs.Clauses.{coded}
 use Rattle.propagation.specs.Weights.{changed, more}
-use Rattle.propagation.specs.WorkArea.{trail, Held, Prefers, Loaded, Frame}
+use Rattle.propagation.specs.WorkArea.{trail, WorkHeld, Prefers, Loaded, Frame}
 use Rattle.propagation.specs.Forcing.{Forces}
 use Rattle.propagation.specs.Advance.{sinking, Calm}
-use Rattle.search.specs.Moves.{BackTo, Closed, OpenUnder}
+use Rattle.search.specs.Moves.{BackTo, NoneOpen, OpenUnder}
 
 -- a number of the values' region as the theory has it: 0 unset, 1 yes, else no
-abbrev pub valueOf : ℕ → Option Bool
-valueOf zero = none
-valueOf (suc zero) = some true
-valueOf (suc (suc z)) = some false
+abbrev pub partialValue : ℕ → Option Bool
+partialValue zero = none
+partialValue (suc zero) = some true
+partialValue (suc (suc z)) = some false
 
 abbrev pub partialOf : List ℕ → Partial
-partialOf zs = map valueOf zs
-
--- the bytes of a valuation, from the values' region: 1 for yes
-abbrev pub settingOf : List ℕ → List ℕ
-settingOf zs = map (λ z. cond (eqb z 1) 1 0) zs
+partialOf zs = map partialValue zs
 
 -- what the search answers, from whether it found a valuation and the values' region
-abbrev pub answered : Bool → List ℕ → Option (List ℕ)
-answered true zs = some (settingOf zs)
-answered false zs = none
+abbrev pub searchAnswer : Bool → List ℕ → Option (List ℕ)
+searchAnswer true zs = some (settingOf zs)
+searchAnswer false zs = none
 
 -- From w to w′, the search answered what the walk over the clauses answers, and changed only the values, the trail and the weights.
 pub record Solved (v : ℕ) (cs : List PropClause) (first : ℕ → Bool) (found : Bool) (w w′ : List ℕ) : Type 0 where
-  pub answer : walked v cs first .answer ≡ answered found (take v w′)
+  pub answer : walked v cs first .answer ≡ searchAnswer found (take v w′)
   pub frame : Frame v (length cs) w w′
 
 -- a work area that is loaded with m clauses
@@ -51,7 +48,7 @@ pub record Loadable (v m : ℕ) (w : List ℕ) : Type 0 where
 -- a work area from which a search starts: its trail has what the clauses force, none of it false in its clauses yet, and every clause is quiet
 pub record Started (v : ℕ) (cs : List PropClause) (first : ℕ → Bool) (len : ℕ) (w : List ℕ) : Type 0 where
   pub numbered : all (all (isNumbered v)) cs ≡ true
-  pub held : Held v (coded cs) 0 len w
+  pub held : WorkHeld v (coded cs) 0 len w
   pub prefers : Prefers v v first w
   pub calm : Calm v (coded cs) 0 len w
   pub forces : Forces v (coded cs) [] (trail w v len)
@@ -84,7 +81,7 @@ floated v n w =
 
 -- the newest of len entries is taken off
 pub record Popped (v : ℕ) (cs : List (List ℕ)) (head len : ℕ) (w : List ℕ) (head′ : ℕ) (w′ : List ℕ) : Type 0 where
-  pub held : Held v cs head′ (len - 1) w′
+  pub held : WorkHeld v cs head′ (len - 1) w′
   pub frame : Frame v (length cs) w w′
   pub same : trail w′ v (len - 1) ≡ trail w v (len - 1)
 
@@ -95,8 +92,8 @@ pub record Lowered (head len head′ : ℕ) : Type 0 where
 
 -- back to the latest open choice, or none is open
 pub record Returned (v : ℕ) (cs : List (List ℕ)) (head len : ℕ) (w : List ℕ) (head′ len′ : ℕ) (found : Bool) (w′ : List ℕ) : Type 0 where
-  pub held : Held v cs head′ len′ w′
+  pub held : WorkHeld v cs head′ len′ w′
   pub frame : Frame v (length cs) w w′
   pub back : found ≡ true → BackTo (trail w v len) (trail w′ v len′)
   pub level : found ≡ true → OpenUnder head (trail w v len) → head′ + 1 ≡ len′
-  pub closed : found ≡ false → Closed (trail w v len)
+  pub closed : found ≡ false → NoneOpen (trail w v len)

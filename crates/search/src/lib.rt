@@ -5,7 +5,7 @@ ghost use mathlib.Core.List.{List};
 ghost use Prim.Native.Nat.{ℕ, _+_, _*_, _≤_, _<_, _^_};
 ghost use lib.ListN.{length};
 ghost use Rattle.theory.specs.Propositional.{PropClause};
-ghost use Rattle.propagation.specs.WorkArea.{Held, Loaded};
+ghost use Rattle.propagation.specs.WorkArea.{WorkHeld, Loaded};
 ghost use Rattle.propagation.specs.Advance.{Ready};
 ghost use Rattle.search.specs.Search.{LowestUnset, preferred, floated, Popped, Lowered, Returned, Loadable, Begun, Startable, Started, Solved};
 use propagation::units;
@@ -66,7 +66,7 @@ pub fn pop(work: &mut [u32], v: usize, head: usize, len: usize) -> usize
     requires { ⌜ Ready v head len (now work) ⌝ }
     requires { ⌜ 0 < len ⌝ }
     ensures { λ r. ⌜ Lowered head len r ⌝ }
-    ensures { λ r. ⌜ ((cs : List (List ℕ)) → Held v cs head len (now (work .entry)) → Popped v cs head len (now (work .entry)) r (now (work .exit))) ⌝ }
+    ensures { λ r. ⌜ ((cs : List (List ℕ)) → WorkHeld v cs head len (now (work .entry)) → Popped v cs head len (now (work .entry)) r (now (work .exit))) ⌝ }
 {
     let place = len - 1;
     let variable = weights::wide(work[v + place] / 2 / 2);
@@ -82,7 +82,7 @@ pub fn pop(work: &mut [u32], v: usize, head: usize, len: usize) -> usize
 // Goes back to the latest choice whose other value is untried, and gives it that value.
 pub fn backtrack(work: &mut [u32], v: usize, head: usize, len: usize) -> Back
     requires { ⌜ Ready v head len (now work) ⌝ }
-    ensures { λ r. ⌜ ((cs : List (List ℕ)) → Held v cs head len (now (work .entry)) → Returned v cs head len (now (work .entry)) (r .head) (r .len) (r .found) (now (work .exit))) ⌝ }
+    ensures { λ r. ⌜ ((cs : List (List ℕ)) → WorkHeld v cs head len (now (work .entry)) → Returned v cs head len (now (work .entry)) (r .head) (r .len) (r .found) (now (work .exit))) ⌝ }
 {
     let mut level = head;
     let mut entries = len;

@@ -16,7 +16,7 @@ use Rattle.theory.specs.Flattening.{allFunctionTerms, addTerms, FlatVariable, n
 use Rattle.theory.proofs.Tests.{and-left, and-right}
 use Rattle.theory.proofs.Lists.{all-append}
 use Rattle.theory.proofs.Declared.{predicateOf→}
-use Rattle.syntax.specs.Codes.{codeOf, wordOf}
+use Rattle.syntax.specs.Codes.{codeOf, codeWord}
 use Rattle.syntax.proofs.Codes.{codeOf-wordOf}
 use Rattle.lifting.specs.declared.terms.AllLifted.{AllLifted}
 use Rattle.lifting.specs.Reading.{wordsFrom, TermsThere, TermsLifted}
@@ -29,7 +29,7 @@ use Rattle.shallow.specs.Shallow.{withLiteral, LiteralThere, EqualityThe
 use Rattle.shallow.proofs.Written.{three, literal-added, arguments-right}
 
 -- the code of a sign says which it is
-sign-code : (n : ℕ) (b : Bool) → wordOf n ≡ sign b → eqb n 43 ≡ b
+sign-code : (n : ℕ) (b : Bool) → codeWord n ≡ sign b → eqb n 43 ≡ b
 sign-code n true e = ap (λ (n : ℕ). eqb n 43) (sym (codeOf-wordOf n) ∙ ap codeOf e)
 sign-code n false e = ap (λ (n : ℕ). eqb n 43) (sym (codeOf-wordOf n) ∙ ap codeOf e)
 
@@ -46,7 +46,7 @@ module _ {codes place arities : List ℕ} {l : Lifting} (s : LiteralThere codes 
   xs = s .source .variables
 
   abbrev n : ℕ
-  n = s .source .length
+  n = s .source .count
 
   abbrev p : ℕ
   p = getD codes (l .next + 1) 0
@@ -57,7 +57,7 @@ module _ {codes place arities : List ℕ} {l : Lifting} (s : LiteralThere codes 
   atom-words : wordsFrom codes n (l .next + 1) ≡ atomWords (s .literal .atom) ++ s .rest
   atom-words = first-after codes n (s .source .fits) (l .next) (sign (s .literal .sign)) (atomWords (s .literal .atom) ++ s .rest) (s .words)
 
-  pub atom-before-end : l .next + 1 < s .source .length
+  pub atom-before-end : l .next + 1 < s .source .count
   atom-before-end = let w = starts (s .literal .atom) (s .rest) in first-below codes n (s .source .fits) (l .next + 1) (w .0) (w .1) (atom-words ∙ w .2)
 
   -- the atom is an equality, or a predicate followed by terms, and its first word's code says which
@@ -66,17 +66,17 @@ module _ {codes place arities : List ℕ} {l : Lifting} (s : LiteralThere codes 
     pub right : Term
     pub is : s .literal .atom ≡ equal left right
     pub coded : getD codes (l .next + 1) 0 ≡ 61
-    pub words : wordsFrom codes (s .source .length) (l .next + 2) ≡ termWords left ++ (termWords right ++ s .rest)
+    pub words : wordsFrom codes (s .source .count) (l .next + 2) ≡ termWords left ++ (termWords right ++ s .rest)
 
   pub record PredicateAtom : Type 0 where
     pub arguments : Terms
     pub is : s .literal .atom ≡ holds (getD codes (l .next + 1) 0) arguments
     pub below : getD codes (l .next + 1) 0 < length (s .source .signature)
     pub arity : count arguments ≡ symbolAt (s .source .signature) (getD codes (l .next + 1) 0) .arity
-    pub words : wordsFrom codes (s .source .length) (l .next + 2) ≡ termsWords arguments ++ s .rest
+    pub words : wordsFrom codes (s .source .count) (l .next + 2) ≡ termsWords arguments ++ s .rest
 
   -- the words behind the first
-  behind : (w : Word) (ws : List Word) → atomWords (s .literal .atom) ++ s .rest ≡ w ∷ ws → (wordOf p ≡ w) × (wordsFrom codes n (l .next + 2) ≡ ws)
+  behind : (w : Word) (ws : List Word) → atomWords (s .literal .atom) ++ s .rest ≡ w ∷ ws → (codeWord p ≡ w) × (wordsFrom codes n (l .next + 2) ≡ ws)
   behind w ws e =
       let k : l .next + 2 ≡ l .next + 1 + 1 = omega arith in (
         first-word codes n (s .source .fits) (l .next + 1) w ws (atom-words ∙ e),

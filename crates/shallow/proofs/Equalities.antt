@@ -81,7 +81,7 @@ module _ {codes place arities : List ℕ} {l : Lifting} {b : Bool} {at : ℕ} (s
           own = s .right-own;
           rest = s .rest;
           words =
-              first-after codes (s .source .length) (s .source .fits) at (letter (v .x)) (termWords (s .right) ++ s .rest)
+              first-after codes (s .source .count) (s .source .fits) at (letter (v .x)) (termWords (s .right) ++ s .rest)
               (s .words ∙ ap (λ (u : Term). termWords u ++ (termWords (s .right) ++ s .rest)) (v .is));
           found = s .found;
           lifts = s .lifts;
@@ -142,8 +142,8 @@ module _ {codes place arities : List ℕ} {l : Lifting} {b : Bool} {at : ℕ} (s
           own = s .right-own;
           rest = s .rest;
           words =
-              ap (wordsFrom codes (s .source .length)) (e .next)
-              ∙ words-after codes (s .source .length) (s .source .fits) (at + 1) (termsWords (p .arguments)) (termWords (s .right) ++ s .rest) (arguments-there left-there p .words);
+              ap (wordsFrom codes (s .source .count)) (e .next)
+              ∙ words-after codes (s .source .count) (s .source .fits) (at + 1) (termsWords (p .arguments)) (termWords (s .right) ++ s .rest) (arguments-there left-there p .words);
           found = inner;
           lifts = e .lifts;
           room = second-room;

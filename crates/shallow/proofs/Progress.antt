@@ -106,7 +106,7 @@ module _ {arities : List ℕ} {m : ClauseWords} (s : Flattenable arities m) wher
           signature = s .signature;
           table = s .table;
           small = s .small;
-          length = m .count;
+          count = m .count;
           fits = fits;
           short = s .clause .fits;
           variables = variablesIn m;

@@ -61,7 +61,7 @@ pub record LiteralThere (codes place arities : List ℕ) (l : Lifting) : Type 0 
   pub ok : atomOk (source .signature) (literal .atom) ≡ true
   pub own : within (source .variables) (atomVariables (literal .atom)) ≡ true
   pub rest : List Word
-  pub words : wordsFrom codes (source .length) (l .next) ≡ sign (literal .sign) ∷ (atomWords (literal .atom) ++ rest)
+  pub words : wordsFrom codes (source .count) (l .next) ≡ sign (literal .sign) ∷ (atomWords (literal .atom) ++ rest)
   pub found : List Term
   pub lifts : Lifts (source .signature) (source .variables) found (l .table)
   pub room : length found ≤ l .next
@@ -79,7 +79,7 @@ pub record EqualityThere (codes place arities : List ℕ) (l : Lifting) (b : Boo
   pub left-own : within (source .variables) (termVariables left) ≡ true
   pub right-own : within (source .variables) (termVariables right) ≡ true
   pub rest : List Word
-  pub words : wordsFrom codes (source .length) at ≡ termWords left ++ (termWords right ++ rest)
+  pub words : wordsFrom codes (source .count) at ≡ termWords left ++ (termWords right ++ rest)
   pub found : List Term
   pub lifts : Lifts (source .signature) (source .variables) found (l .table)
   pub room : length found ≤ at

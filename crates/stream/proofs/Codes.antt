@@ -11,7 +11,7 @@ use Rattle.theory.specs.Claims.Counts.{isNumbered}
 use Rattle.theory.proofs.Tests.{and-left, and-right, leb-true, eqb-ne}
 use Rattle.propagation.specs.Clauses.{code, codes}
 use Rattle.loading.specs.Loading.{InRange}
-use Rattle.stream.specs.Literals.{literalOf, clauseOf}
+use Rattle.stream.specs.Literals.{literalOf, propClauseOf}
 
 -- the literal of a variable counted from 0
 pub literalOf-code : (x : ℕ) (b : Bool) → literalOf (2 * x + cond b 0 1) ≡ record { positive = b; number = 1 + x }
@@ -32,14 +32,14 @@ code-literalOf u = go (eqb (u % 2) 0) refl
     go true e = let r : u % 2 ≡ 0 = eqb-true (u % 2) 0 e in omega arith
     go false e = omega (arith, eqb-ne (u % 2) 0 e)
 
-pub codes-clauseOf : (us : List ℕ) → codes (clauseOf us) ≡ us
+pub codes-clauseOf : (us : List ℕ) → codes (propClauseOf us) ≡ us
 codes-clauseOf [] = refl
 codes-clauseOf (u ∷ us) = ap₂ (λ (x : ℕ) (l : List ℕ). x ∷ l) (code-literalOf u) (codes-clauseOf us)
 
 -- numbered literals have codes in range
-pub numbered-in-range : (v : ℕ) (us : List ℕ) → all (isNumbered v) (clauseOf us) ≡ true → InRange v us
+pub numbered-in-range : (v : ℕ) (us : List ℕ) → all (isNumbered v) (propClauseOf us) ≡ true → InRange v us
 numbered-in-range v [] h i l = absurd (omega arith)
 numbered-in-range v (u ∷ us) h zero l =
-    let n = leb-true (u / 2 + 1) v (and-right (leb 1 (u / 2 + 1)) (leb (u / 2 + 1) v) (and-left (isNumbered v (literalOf u)) (all (isNumbered v) (clauseOf us)) h)) in
+    let n = leb-true (u / 2 + 1) v (and-right (leb 1 (u / 2 + 1)) (leb (u / 2 + 1) v) (and-left (isNumbered v (literalOf u)) (all (isNumbered v) (propClauseOf us)) h)) in
     omega arith
-numbered-in-range v (u ∷ us) h (suc i) l = numbered-in-range v us (and-right (isNumbered v (literalOf u)) (all (isNumbered v) (clauseOf us)) h) i (omega arith)
+numbered-in-range v (u ∷ us) h (suc i) l = numbered-in-range v us (and-right (isNumbered v (literalOf u)) (all (isNumbered v) (propClauseOf us)) h) i (omega arith)

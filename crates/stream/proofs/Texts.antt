@@ -16,7 +16,7 @@ use Rattle.theory.specs.Dimacs.{minus, literalText, clauseText, header}
 use Rattle.theory.proofs.Lists.{concatMap-append}
 use Rattle.text.specs.Put.{put, put-none, put-run, put-cursor, cursor-run, cursor-more}
 use Rattle.text.proofs.Decimal.{decimal-length-small, decimal-length-large}
-use Rattle.stream.specs.Literals.{literalOf, clauseOf, spaced}
+use Rattle.stream.specs.Literals.{literalOf, propClauseOf, literalSpaced}
 
 -- a number of at most k digits
 pub decimal-within : (k n : ℕ) → n < 10 ^ suc k → length (decimal n) ≤ suc k
@@ -28,64 +28,64 @@ decimal-within (suc k) n h = go (ltb n 10) refl (decimal-within k (n / 10) (omeg
     go false e l = omega (arith, decimal-length-large n (ltb-false n 10 e))
 
 -- an odd code says no
-pub spaced-no : (u : ℕ) → u % 2 ≡ 1 → spaced (literalOf u) ≡ minus ∷ (decimal (u / 2 + 1) ++ (space ∷ []))
+pub spaced-no : (u : ℕ) → u % 2 ≡ 1 → literalSpaced (literalOf u) ≡ minus ∷ (decimal (u / 2 + 1) ++ (space ∷ []))
 unfolding literalText
 spaced-no u e = rw (ne-eqb (u % 2) 0 (λ z. absurd (omega arith)))
 
 -- an even one yes
-pub spaced-yes : (u : ℕ) → (u % 2 ≡ 1 → ⊥) → spaced (literalOf u) ≡ decimal (u / 2 + 1) ++ (space ∷ [])
+pub spaced-yes : (u : ℕ) → (u % 2 ≡ 1 → ⊥) → literalSpaced (literalOf u) ≡ decimal (u / 2 + 1) ++ (space ∷ [])
 unfolding literalText
 spaced-yes u n = let e : u % 2 ≡ 0 = omega (arith, n) in rw (eq-eqb (u % 2) 0 e)
 
-pub length-spaced : (u : ℕ) → length (spaced (literalOf u)) ≡ length (decimal (u / 2 + 1)) + 1 + u % 2
+pub length-spaced : (u : ℕ) → length (literalSpaced (literalOf u)) ≡ length (decimal (u / 2 + 1)) + 1 + u % 2
 length-spaced u = go (ltb (u % 2) 1) refl
   where
     plain : length (decimal (u / 2 + 1) ++ (space ∷ [])) ≡ length (decimal (u / 2 + 1)) + 1
     plain = length-append (decimal (u / 2 + 1)) (space ∷ [])
 
-    go : (b : Bool) → ltb (u % 2) 1 ≡ b → length (spaced (literalOf u)) ≡ length (decimal (u / 2 + 1)) + 1 + u % 2
+    go : (b : Bool) → ltb (u % 2) 1 ≡ b → length (literalSpaced (literalOf u)) ≡ length (decimal (u / 2 + 1)) + 1 + u % 2
     go true e = let lt : u % 2 < 1 = ltb-true (u % 2) 1 e in omega (arith, ap length (spaced-yes u (λ z. absurd (omega arith))), plain)
     go false e = let ge : 1 ≤ u % 2 = ltb-false (u % 2) 1 e in omega (arith, ap length (spaced-no u (omega arith)), plain)
 
 -- the literals of a clause's line
 abbrev pub body : PropClause → List ℕ
-body c = concatMap spaced c
+body c = concatMap literalSpaced c
 
 pub clauseText-body : (c : PropClause) → clauseText c ≡ body c ++ (48 ∷ 10 ∷ [])
 unfolding clauseText
 clauseText-body c = refl
 
 -- one literal more
-pub body-more : (us : List ℕ) (i : ℕ) → i < length us → body (clauseOf (take (suc i) us)) ≡ body (clauseOf (take i us)) ++ spaced (literalOf (getD us i 0))
+pub body-more : (us : List ℕ) (i : ℕ) → i < length us → body (propClauseOf (take (suc i) us)) ≡ body (propClauseOf (take i us)) ++ literalSpaced (literalOf (getD us i 0))
 body-more us i h =
-    ap (λ (l : List ℕ). body (clauseOf l)) (take-suc us i 0 h)
+    ap (λ (l : List ℕ). body (propClauseOf l)) (take-suc us i 0 h)
     ∙ ap body (map-append literalOf (take i us) (getD us i 0 ∷ []))
-    ∙ concatMap-append spaced (clauseOf (take i us)) (literalOf (getD us i 0) ∷ [])
-    ∙ ap (λ (l : List ℕ). body (clauseOf (take i us)) ++ l) (append-nil (spaced (literalOf (getD us i 0))))
+    ∙ concatMap-append literalSpaced (propClauseOf (take i us)) (literalOf (getD us i 0) ∷ [])
+    ∙ ap (λ (l : List ℕ). body (propClauseOf (take i us)) ++ l) (append-nil (literalSpaced (literalOf (getD us i 0))))
 
 -- the literals so far and the next one are within the line
 pub body-fits : (us : List ℕ) (i : ℕ) → i < length us
-    → length (body (clauseOf (take i us))) + length (spaced (literalOf (getD us i 0))) + 2 ≤ length (clauseText (clauseOf us))
+    → length (body (propClauseOf (take i us))) + length (literalSpaced (literalOf (getD us i 0))) + 2 ≤ length (clauseText (propClauseOf us))
 body-fits us i h =
     omega (
       arith,
-      ap length (clauseText-body (clauseOf us)),
-      length-append (body (clauseOf us)) (48 ∷ 10 ∷ []),
+      ap length (clauseText-body (propClauseOf us)),
+      length-append (body (propClauseOf us)) (48 ∷ 10 ∷ []),
       ap length whole,
-      length-append (body (clauseOf (take (suc i) us))) (body (clauseOf (drop (suc i) us))),
+      length-append (body (propClauseOf (take (suc i) us))) (body (propClauseOf (drop (suc i) us))),
       ap length (body-more us i h),
-      length-append (body (clauseOf (take i us))) (spaced (literalOf (getD us i 0))),
+      length-append (body (propClauseOf (take i us))) (literalSpaced (literalOf (getD us i 0))),
     )
   where
-    whole : body (clauseOf us) ≡ body (clauseOf (take (suc i) us)) ++ body (clauseOf (drop (suc i) us))
+    whole : body (propClauseOf us) ≡ body (propClauseOf (take (suc i) us)) ++ body (propClauseOf (drop (suc i) us))
     whole =
-        ap (λ (l : List ℕ). body (clauseOf l)) (sym (take-append-drop (suc i) us))
+        ap (λ (l : List ℕ). body (propClauseOf l)) (sym (take-append-drop (suc i) us))
         ∙ ap body (map-append literalOf (take (suc i) us) (drop (suc i) us))
-        ∙ concatMap-append spaced (clauseOf (take (suc i) us)) (clauseOf (drop (suc i) us))
+        ∙ concatMap-append literalSpaced (propClauseOf (take (suc i) us)) (propClauseOf (drop (suc i) us))
 
 -- all literals, and the line's end
-pub body-all : (us : List ℕ) (i : ℕ) → i ≡ length us → body (clauseOf (take i us)) ++ (48 ∷ 10 ∷ []) ≡ clauseText (clauseOf us)
-body-all us i e = ap (λ (j : ℕ). body (clauseOf (take j us)) ++ (48 ∷ 10 ∷ [])) e ∙ ap (λ (l : List ℕ). body (clauseOf l) ++ (48 ∷ 10 ∷ [])) (take-length us) ∙ sym (clauseText-body (clauseOf us))
+pub body-all : (us : List ℕ) (i : ℕ) → i ≡ length us → body (propClauseOf (take i us)) ++ (48 ∷ 10 ∷ []) ≡ clauseText (propClauseOf us)
+body-all us i e = ap (λ (j : ℕ). body (propClauseOf (take j us)) ++ (48 ∷ 10 ∷ [])) e ∙ ap (λ (l : List ℕ). body (propClauseOf l) ++ (48 ∷ 10 ∷ [])) (take-length us) ∙ sym (clauseText-body (propClauseOf us))
 
 -- A run of stores that writes a header: the first word, a number and a space, a number, the line's end.
 module _ (v m : ℕ) where
@@ -123,9 +123,9 @@ module _ (v m : ℕ) where
       )
 
 -- a literal that says no
-pub no-written : (l l′ : List ℕ) (at e u : ℕ) → u % 2 ≡ 1 → at < length l → at + length (spaced (literalOf u)) ≤ length l
+pub no-written : (l l′ : List ℕ) (at e u : ℕ) → u % 2 ≡ 1 → at < length l → at + length (literalSpaced (literalOf u)) ≤ length l
     → l′ ≡ put (set l at minus) (at + 1) (decimal (u / 2 + 1) ++ (space ∷ [])) → e ≡ at + 1 + length (decimal (u / 2 + 1) ++ (space ∷ []))
-    → (l′ ≡ put l at (spaced (literalOf u))) × (e ≡ at + length (spaced (literalOf u)))
+    → (l′ ≡ put l at (literalSpaced (literalOf u))) × (e ≡ at + length (literalSpaced (literalOf u)))
 no-written l l′ at e u odd h room p n =
     let s = spaced-no u odd in
     let d = decimal (u / 2 + 1) ++ (space ∷ []) in
@@ -135,19 +135,19 @@ no-written l l′ at e u odd h room p n =
     )
 
 -- the end of a clause's line
-pub line-ended : (l l′ : List ℕ) (at e : ℕ) (us : List ℕ) (i : ℕ) → i ≡ length us → at + length (clauseText (clauseOf us)) ≤ length l
-    → l′ ≡ put l at (body (clauseOf (take i us))) → e ≡ at + length (body (clauseOf (take i us)))
-    → (set (set l′ e 48) (e + 1) 10 ≡ put l at (clauseText (clauseOf us))) × (e + 2 ≡ at + length (clauseText (clauseOf us)))
+pub line-ended : (l l′ : List ℕ) (at e : ℕ) (us : List ℕ) (i : ℕ) → i ≡ length us → at + length (clauseText (propClauseOf us)) ≤ length l
+    → l′ ≡ put l at (body (propClauseOf (take i us))) → e ≡ at + length (body (propClauseOf (take i us)))
+    → (set (set l′ e 48) (e + 1) 10 ≡ put l at (clauseText (propClauseOf us))) × (e + 2 ≡ at + length (clauseText (propClauseOf us)))
 line-ended l l′ at e us i z room p n =
-    let b = body (clauseOf (take i us)) in
+    let b = body (propClauseOf (take i us)) in
     let long = length-append b (48 ∷ 10 ∷ []) in
     let whole = body-all us i z in
     let one = put-cursor l l′ at e b (b ++ (48 ∷ [])) 48 p n (omega (arith, ap length whole)) refl in
     let on = cursor-more at e b (b ++ (48 ∷ [])) 48 n refl in (
-      put-cursor l (set l′ e 48) at (e + 1) (b ++ (48 ∷ [])) (clauseText (clauseOf us)) 10 one on (omega (arith, ap length whole)) (append-assoc b (48 ∷ []) (10 ∷ []) ∙ whole),
+      put-cursor l (set l′ e 48) at (e + 1) (b ++ (48 ∷ [])) (clauseText (propClauseOf us)) 10 one on (omega (arith, ap length whole)) (append-assoc b (48 ∷ []) (10 ∷ []) ∙ whole),
       omega (arith, ap length whole),
     )
 
 -- the room for the line's end
-pub end-fits : (us : List ℕ) (i : ℕ) → i ≡ length us → length (body (clauseOf (take i us))) + 2 ≡ length (clauseText (clauseOf us))
-end-fits us i e = sym (length-append (body (clauseOf (take i us))) (48 ∷ 10 ∷ [])) ∙ ap length (body-all us i e)
+pub end-fits : (us : List ℕ) (i : ℕ) → i ≡ length us → length (body (propClauseOf (take i us))) + 2 ≡ length (clauseText (propClauseOf us))
+end-fits us i e = sym (length-append (body (propClauseOf (take i us))) (48 ∷ 10 ∷ [])) ∙ ap length (body-all us i e)

@@ -47,11 +47,11 @@ textLength Tally cs = 0
 textLength Enter cs = 0
 
 -- the output after them
-abbrev pub outputAfter : Mode → Stream → List PropClause → List ℕ
-outputAfter Measure s cs = s .output
-outputAfter Write s cs = put (s .output) (s .start) (texts cs)
-outputAfter Tally s cs = s .output
-outputAfter Enter s cs = s .output
+abbrev pub streamOutput : Mode → Stream → List PropClause → List ℕ
+streamOutput Measure s cs = s .output
+streamOutput Write s cs = put (s .output) (s .start) (texts cs)
+streamOutput Tally s cs = s .output
+streamOutput Enter s cs = s .output
 
 -- what holds of the work after them
 abbrev pub WorkAfter : Mode → Stream → List PropClause → List ℕ → Type 0
@@ -64,7 +64,7 @@ WorkAfter Enter s cs work = Entered (s .variables) (allCodes (s .clauses)) (allC
 pub record After (mode : Mode) (s : Stream) (cs : List PropClause) (x : State) : Type 0 where
   pub at : x .progress .at ≡ s .start + textLength mode cs
   pub count : x .progress .count ≡ length cs
-  pub output : x .output ≡ outputAfter mode s cs
+  pub output : x .output ≡ streamOutput mode s cs
   pub work : WorkAfter mode s cs (x .work)
   pub long : length (x .work) ≡ length (s .work)
 

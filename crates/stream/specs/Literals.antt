@@ -12,13 +12,13 @@ abbrev pub literalOf : ℕ → PropLiteral
 literalOf u = record { positive = eqb (u % 2) 0; number = u / 2 + 1 }
 
 -- the clause of codes
-abbrev pub clauseOf : List ℕ → PropClause
-clauseOf us = map literalOf us
+abbrev pub propClauseOf : List ℕ → PropClause
+propClauseOf us = map literalOf us
 
 -- the codes of clauses
 abbrev pub allCodes : List PropClause → List (List ℕ)
 allCodes cs = map codes cs
 
 -- a literal's text and the space after it
-abbrev pub spaced : PropLiteral → List ℕ
-spaced l = literalText l ++ (space ∷ [])
+abbrev pub literalSpaced : PropLiteral → List ℕ
+literalSpaced l = literalText l ++ (space ∷ [])

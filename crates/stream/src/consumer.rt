@@ -4,7 +4,7 @@ use crate::dimacs::put_clause;
 use loading::enter;
 use loading::tally;
 ghost use mathlib.Core.List.{[], _∷_};
-ghost use Rattle.stream.specs.Literals.{clauseOf};
+ghost use Rattle.stream.specs.Literals.{propClauseOf};
 ghost use Rattle.stream.specs.Consuming.{Consumes, Consumed, state};
 
 pub enum Mode {
@@ -29,8 +29,8 @@ pub fn take_clause(
     work: &mut [u32],
     p: Progress,
 ) -> Progress
-    requires { ⌜ Consumes mode v (clauseOf (now clause) ∷ []) (state p (now out) (now work)) ⌝ }
-    ensures { λ r. ⌜ Consumed mode v (clauseOf (now (clause .entry)) ∷ []) (state p (now (out .entry)) (now (work .entry))) (state r (now (out .exit)) (now (work .exit))) ⌝ }
+    requires { ⌜ Consumes mode v (propClauseOf (now clause) ∷ []) (state p (now out) (now work)) ⌝ }
+    ensures { λ r. ⌜ Consumed mode v (propClauseOf (now (clause .entry)) ∷ []) (state p (now (out .entry)) (now (work .entry))) (state r (now (out .exit)) (now (work .exit))) ⌝ }
 {
     match mode {
         Mode::Measure => Progress {

@@ -9,12 +9,12 @@ ghost use lib.ListN.{length};
 ghost use Rattle.theory.specs.Bytes.{decimal, space};
 ghost use Rattle.theory.specs.Dimacs.{clauseText, header};
 ghost use Rattle.text.specs.Put.{put};
-ghost use Rattle.stream.specs.Literals.{clauseOf, literalOf, spaced};
+ghost use Rattle.stream.specs.Literals.{propClauseOf, literalOf, literalSpaced};
 
 // The length of a clause's line.
 pub fn clause_length(clause: &[u32]) -> usize
-    requires { ⌜ length (clauseText (clauseOf (now clause))) < 2 ^ 64 ⌝ }
-    ensures { λ r. ⌜ r ≡ length (clauseText (clauseOf (now (clause .entry)))) ⌝ }
+    requires { ⌜ length (clauseText (propClauseOf (now clause))) < 2 ^ 64 ⌝ }
+    ensures { λ r. ⌜ r ≡ length (clauseText (propClauseOf (now (clause .entry)))) ⌝ }
 {
     let mut n: usize = 2;
     let mut i: usize = 0;
@@ -27,16 +27,16 @@ pub fn clause_length(clause: &[u32]) -> usize
 
 // The length of a literal's number and the space after it.
 fn literal_length(l: u32) -> usize
-    ensures { λ r. ⌜ r ≡ length (spaced (literalOf l)) ⌝ }
+    ensures { λ r. ⌜ r ≡ length (literalSpaced (literalOf l)) ⌝ }
 {
     decimal_length(l / 2 + 1) + 1 + (l % 2) as usize
 }
 
 // A clause's line from `at` on, and the place after it.
 pub fn put_clause(out: &mut [u8], at: usize, clause: &[u32]) -> usize
-    requires { ⌜ at + length (clauseText (clauseOf (now clause))) ≤ length (now out) ⌝ }
-    ensures written { λ r. ⌜ now (out .exit) ≡ put (now (out .entry)) at (clauseText (clauseOf (now (clause .entry)))) ⌝ }
-    ensures place { λ r. ⌜ r ≡ at + length (clauseText (clauseOf (now (clause .entry)))) ⌝ }
+    requires { ⌜ at + length (clauseText (propClauseOf (now clause))) ≤ length (now out) ⌝ }
+    ensures written { λ r. ⌜ now (out .exit) ≡ put (now (out .entry)) at (clauseText (propClauseOf (now (clause .entry)))) ⌝ }
+    ensures place { λ r. ⌜ r ≡ at + length (clauseText (propClauseOf (now (clause .entry)))) ⌝ }
 {
     let mut e = at;
     let mut i: usize = 0;
@@ -51,9 +51,9 @@ pub fn put_clause(out: &mut [u8], at: usize, clause: &[u32]) -> usize
 
 // A literal's number and the space after it.
 fn put_literal(out: &mut [u8], at: usize, l: u32) -> usize
-    requires { ⌜ at + length (spaced (literalOf l)) ≤ length (now out) ⌝ }
-    ensures written { λ r. ⌜ now (out .exit) ≡ put (now (out .entry)) at (spaced (literalOf l)) ⌝ }
-    ensures place { λ r. ⌜ r ≡ at + length (spaced (literalOf l)) ⌝ }
+    requires { ⌜ at + length (literalSpaced (literalOf l)) ≤ length (now out) ⌝ }
+    ensures written { λ r. ⌜ now (out .exit) ≡ put (now (out .entry)) at (literalSpaced (literalOf l)) ⌝ }
+    ensures place { λ r. ⌜ r ≡ at + length (literalSpaced (literalOf l)) ⌝ }
 {
     if l % 2 == 1 {
         out[at] = 45;

@@ -15,10 +15,10 @@ use Rattle.theory.specs.Claims.Grammar.{isDeclared}
 use Rattle.theory.proofs.Tests.{ltb-true, ltb-false, eqb-true}
 use Rattle.theory.proofs.Lists.{all-imply, all-at, map-at}
 use Rattle.syntax.specs.declared.words.ClauseWords.{ClauseWords}
-use Rattle.syntax.specs.Codes.{codeOf, wordOf, wordsIn, isKnown}
+use Rattle.syntax.specs.Codes.{codeOf, codeWord, wordsIn, isKnown}
 
 -- a code that is no sign and no = is a symbol's below 65 and a letter's from there on
-pub wordOf-symbol : (n : ℕ) → n < 43 → wordOf n ≡ symbol n
+pub wordOf-symbol : (n : ℕ) → n < 43 → codeWord n ≡ symbol n
 wordOf-symbol n h =
     let a : eqb n 43 ≡ false = ne-eqb n 43 (λ e. omega arith) in
     let b : eqb n 45 ≡ false = ne-eqb n 45 (λ e. omega arith) in
@@ -26,7 +26,7 @@ wordOf-symbol n h =
     let d : ltb n 65 ≡ true = lt-ltb n 65 (omega arith) in
     simp (a, b, c, d)
 
-pub wordOf-letter : (n : ℕ) → 65 ≤ n → wordOf n ≡ letter (n - 65)
+pub wordOf-letter : (n : ℕ) → 65 ≤ n → codeWord n ≡ letter (n - 65)
 wordOf-letter n h =
     let a : eqb n 43 ≡ false = ne-eqb n 43 (λ e. omega arith) in
     let b : eqb n 45 ≡ false = ne-eqb n 45 (λ e. omega arith) in
@@ -35,7 +35,7 @@ wordOf-letter n h =
     simp (a, b, c, d)
 
 -- the code of the word that a code stands for
-pub codeOf-wordOf : (n : ℕ) → codeOf (wordOf n) ≡ n
+pub codeOf-wordOf : (n : ℕ) → codeOf (codeWord n) ≡ n
 codeOf-wordOf n = a (eqb n 43) refl
   where
     d : (b : Bool) → ltb n 65 ≡ b → codeOf (cond b (symbol n) (letter (n - 65))) ≡ n
@@ -56,7 +56,7 @@ codeOf-wordOf n = a (eqb n 43) refl
 
 module _ (g : Signature) (small : length g ≤ 24) where
   -- the word that the code of a known word stands for
-  pub wordOf-codeOf : (w : Word) → isKnown g w ≡ true → wordOf (codeOf w) ≡ w
+  pub wordOf-codeOf : (w : Word) → isKnown g w ≡ true → codeWord (codeOf w) ≡ w
   wordOf-codeOf (sign true) h = refl
   wordOf-codeOf (sign false) h = refl
   wordOf-codeOf equals h = refl
@@ -71,8 +71,8 @@ module _ (g : Signature) (small : length g ≤ 24) where
   codeOf-below (symbol i) h = omega (arith, ltb-true i (length g) h)
   codeOf-below (letter x) h = omega (arith, ltb-true x 8 h)
 
-  pub known-below : (n : ℕ) → isKnown g (wordOf n) ≡ true → n < 73
-  known-below n h = omega (arith, codeOf-below (wordOf n) h, codeOf-wordOf n)
+  pub known-below : (n : ℕ) → isKnown g (codeWord n) ≡ true → n < 73
+  known-below n h = omega (arith, codeOf-below (codeWord n) h, codeOf-wordOf n)
 
 -- a known word's symbol is declared
 pub known-declared : (g : Signature) (ws : List Word) → all (isKnown g) ws ≡ true → all (isDeclared g) ws ≡ true
@@ -86,13 +86,13 @@ known-declared g ws h = all-imply (isKnown g) (isDeclared g) ws one h
 
 module _ (w : ClauseWords) (fits : w .count ≤ length (w .words)) where
   pub length-wordsIn : length (wordsIn w) ≡ w .count
-  length-wordsIn = length-map (take (w .count) (w .words)) wordOf ∙ length-take-le (w .count) (w .words) fits
+  length-wordsIn = length-map (take (w .count) (w .words)) codeWord ∙ length-take-le (w .count) (w .words) fits
 
   -- the word at a place
-  pub wordsIn-at : (i : ℕ) (d : Word) → i < w .count → getD (wordsIn w) i d ≡ wordOf (getD (w .words) i 0)
+  pub wordsIn-at : (i : ℕ) (d : Word) → i < w .count → getD (wordsIn w) i d ≡ codeWord (getD (w .words) i 0)
   wordsIn-at i d h =
-      map-at wordOf (take (w .count) (w .words)) i 0 d (omega (arith, length-take-le (w .count) (w .words) fits)) ∙ ap wordOf (getD-take (w .count) (w .words) i 0 h)
+      map-at codeWord (take (w .count) (w .words)) i 0 d (omega (arith, length-take-le (w .count) (w .words) fits)) ∙ ap codeWord (getD-take (w .count) (w .words) i 0 h)
 
   -- is known where all are
-  pub known-at : (g : Signature) (i : ℕ) → all (isKnown g) (wordsIn w) ≡ true → i < w .count → isKnown g (wordOf (getD (w .words) i 0)) ≡ true
+  pub known-at : (g : Signature) (i : ℕ) → all (isKnown g) (wordsIn w) ≡ true → i < w .count → isKnown g (codeWord (getD (w .words) i 0)) ≡ true
   known-at g i k h = ap (isKnown g) (sym (wordsIn-at i equals h)) ∙ all-at (isKnown g) equals (wordsIn w) i k (omega (arith, length-wordsIn))

@@ -18,13 +18,13 @@ use Rattle.theory.proofs.Finding.{placeThat-some, any→placeThat, any→placeT
 use Rattle.theory.proofs.Distinct.{elem-any, distinct-new, distinct-old, distinct-elem, length-distinct}
 use Rattle.syntax.specs.declared.words.ClauseWords.{ClauseWords}
 use Rattle.syntax.specs.declared.variables.Variables.{Variables}
-use Rattle.syntax.specs.Codes.{wordOf, codeOf, wordsIn}
+use Rattle.syntax.specs.Codes.{codeWord, codeOf, wordsIn}
 use Rattle.syntax.specs.Variables.{letterOf, lettersOf, isLetter, placeOr8, Places, variablesIn}
 use Rattle.syntax.proofs.Codes.{wordOf-letter, codeOf-wordOf}
 
 -- a code below that of A is of no letter
-no-letter : (n : ℕ) → n < 65 → letterOf (wordOf n) ≡ []
-no-letter n h = go (wordOf n) (codeOf-wordOf n)
+no-letter : (n : ℕ) → n < 65 → letterOf (codeWord n) ≡ []
+no-letter n h = go (codeWord n) (codeOf-wordOf n)
   where
     go : (w : Word) → codeOf w ≡ n → letterOf w ≡ []
     go (sign b) e = refl
@@ -38,7 +38,7 @@ module _ (xs : List ℕ) (letters : all isLetter xs ≡ true) (v : Variables) (h
   few = length-distinct 8 xs letters
 
   -- a word that is no letter adds none
-  pub none-added : (n : ℕ) → n < 65 → Places (distinct (xs ++ letterOf (wordOf n))) v
+  pub none-added : (n : ℕ) → n < 65 → Places (distinct (xs ++ letterOf (codeWord n))) v
   none-added n l = subst (λ (ys : List ℕ). Places (distinct ys) v) (sym (ap (λ (ys : List ℕ). xs ++ ys) (no-letter n l) ∙ append-nil xs)) h
 
   unplaced-none : (x : ℕ) → elem x xs ≡ false → placeThat (eqb x) (distinct xs) ≡ none
@@ -58,7 +58,7 @@ module _ (xs : List ℕ) (letters : all isLetter xs ≡ true) (v : Variables) (h
       omega (arith, h .places x l, ap placeOr8 (r .1), s .0, few))
 
   -- nor does a letter that has a place
-  pub old-added : (n : ℕ) → 65 ≤ n → n < 73 → getD (v .place) (n - 65) 0 < 8 → Places (distinct (xs ++ letterOf (wordOf n))) v
+  pub old-added : (n : ℕ) → 65 ≤ n → n < 73 → getD (v .place) (n - 65) 0 < 8 → Places (distinct (xs ++ letterOf (codeWord n))) v
   old-added n l k p =
       subst (λ (ys : List ℕ). Places ys v) (sym (ap (λ (w : Word). distinct (xs ++ letterOf w)) (wordOf-letter n l) ∙ distinct-old xs (n - 65) (placed-elem (n - 65) (omega arith) p))) h
 
@@ -83,7 +83,7 @@ module _ (xs : List ℕ) (letters : all isLetter xs ≡ true) (v : Variables) (h
           getD-set-other (v .place) x z (v .count) 0 (eqb-ne z x e) ∙ h .places z m ∙ ap placeOr8 (sym (other z e (placeThat (eqb z) (distinct xs)) refl))
 
   pub new-added : (n : ℕ) → 65 ≤ n → n < 73 → 8 ≤ getD (v .place) (n - 65) 0 → length (v .place) ≡ 8
-      → Places (distinct (xs ++ letterOf (wordOf n))) (record { place = set (v .place) (n - 65) (v .count); count = v .count + 1 })
+      → Places (distinct (xs ++ letterOf (codeWord n))) (record { place = set (v .place) (n - 65) (v .count); count = v .count + 1 })
   new-added n l k p q =
       let new : elem (n - 65) xs ≡ false = unplaced (n - 65) (omega arith) p in
       subst (λ (ys : List ℕ). Places ys (record { place = set (v .place) (n - 65) (v .count); count = v .count + 1 }))
@@ -94,8 +94,8 @@ pub none-placed : Places [] (record { place = replicate 8 8; count = 0 })
 none-placed = record { count = refl; places = λ x l. getD-replicate 8 x 8 0 l }
 
 -- the letters of codes below 73
-letter-below : (n : ℕ) → n < 73 → all isLetter (letterOf (wordOf n)) ≡ true
-letter-below n h = go (wordOf n) (codeOf-wordOf n)
+letter-below : (n : ℕ) → n < 73 → all isLetter (letterOf (codeWord n)) ≡ true
+letter-below n h = go (codeWord n) (codeOf-wordOf n)
   where
     go : (w : Word) → codeOf w ≡ n → all isLetter (letterOf w) ≡ true
     go (sign b) e = refl
@@ -103,21 +103,21 @@ letter-below n h = go (wordOf n) (codeOf-wordOf n)
     go (symbol i) e = refl
     go (letter x) e = and-join (ltb x 8) true (ltb-of-< x 8 (omega arith)) refl
 
-pub letters-below : (ns : List ℕ) (i : ℕ) → ((j : ℕ) → j < i → getD ns j 0 < 73) → all isLetter (lettersOf (map wordOf (take i ns))) ≡ true
+pub letters-below : (ns : List ℕ) (i : ℕ) → ((j : ℕ) → j < i → getD ns j 0 < 73) → all isLetter (lettersOf (map codeWord (take i ns))) ≡ true
 letters-below [] zero h = refl
 letters-below [] (suc i) h = refl
 letters-below (n ∷ ns) zero h = refl
 letters-below (n ∷ ns) (suc i) h =
-    all-append isLetter (letterOf (wordOf n)) (lettersOf (map wordOf (take i ns)))
-    ∙ and-join (all isLetter (letterOf (wordOf n))) (all isLetter (lettersOf (map wordOf (take i ns)))) (letter-below n (h 0 (omega arith))) (letters-below ns i (λ j l. h (suc j) (omega arith)))
+    all-append isLetter (letterOf (codeWord n)) (lettersOf (map codeWord (take i ns)))
+    ∙ and-join (all isLetter (letterOf (codeWord n))) (all isLetter (lettersOf (map codeWord (take i ns)))) (letter-below n (h 0 (omega arith))) (letters-below ns i (λ j l. h (suc j) (omega arith)))
 
 -- the letters with those of one more code
-pub letters-more : (ns : List ℕ) (i : ℕ) → i < length ns → lettersOf (map wordOf (take (suc i) ns)) ≡ lettersOf (map wordOf (take i ns)) ++ letterOf (wordOf (getD ns i 0))
+pub letters-more : (ns : List ℕ) (i : ℕ) → i < length ns → lettersOf (map codeWord (take (suc i) ns)) ≡ lettersOf (map codeWord (take i ns)) ++ letterOf (codeWord (getD ns i 0))
 letters-more ns i h =
-    ap (λ (l : List ℕ). lettersOf (map wordOf l)) (take-suc ns i 0 h)
-    ∙ ap lettersOf (map-append wordOf (take i ns) (getD ns i 0 ∷ []))
-    ∙ concatMap-append letterOf (map wordOf (take i ns)) (wordOf (getD ns i 0) ∷ [])
-    ∙ ap (λ (l : List ℕ). lettersOf (map wordOf (take i ns)) ++ l) (append-nil (letterOf (wordOf (getD ns i 0))))
+    ap (λ (l : List ℕ). lettersOf (map codeWord l)) (take-suc ns i 0 h)
+    ∙ ap lettersOf (map-append codeWord (take i ns) (getD ns i 0 ∷ []))
+    ∙ concatMap-append letterOf (map codeWord (take i ns)) (codeWord (getD ns i 0) ∷ [])
+    ∙ ap (λ (l : List ℕ). lettersOf (map codeWord (take i ns)) ++ l) (append-nil (letterOf (codeWord (getD ns i 0))))
 
 -- a letter that occurs has its place among the variables, and the value assigned to it is the one there
 module _ (xs : List ℕ) (v : Variables) (h : Places xs v) (x : ℕ) (l : x < 8) (e : elem x xs ≡ true) where

@@ -19,12 +19,12 @@ codeOf (symbol i) = i
 codeOf (letter x) = 65 + x
 
 -- the word that a code stands for
-abbrev pub wordOf : ℕ → Word
-wordOf n = cond (eqb n 43) (sign true) (cond (eqb n 45) (sign false) (cond (eqb n 61) equals (cond (ltb n 65) (symbol n) (letter (n - 65)))))
+abbrev pub codeWord : ℕ → Word
+codeWord n = cond (eqb n 43) (sign true) (cond (eqb n 45) (sign false) (cond (eqb n 61) equals (cond (ltb n 65) (symbol n) (letter (n - 65)))))
 
 -- the words that clause words stand for
 abbrev pub wordsIn : ClauseWords → List Word
-wordsIn w = map wordOf (take (w .count) (w .words))
+wordsIn w = map codeWord (take (w .count) (w .words))
 
 -- the clause that they are
 unfoldable pub clauseIn : Signature → ClauseWords → Clause

@@ -1,9 +1,9 @@
--- Counts: what is written is within I and L, numbers of variables within V, and texts have the lengths that document 01 gives.
-use Rattle.theory.specs.Claims.Counts.{Counts}
+-- CountsSuffice: what is written is within I and L, numbers of variables within V, and texts have the lengths that document 01 gives.
+use Rattle.theory.specs.Claims.Counts.{CountsSuffice}
 use Rattle.theory.proofs.ClauseCounts.{clauses-within, literals-within, numbers-within}
 use Rattle.theory.proofs.CaseLengths.{case-lengths, longest-case}
 
-pub counts : Counts
+pub counts : CountsSuffice
 counts =
     record {
       clauses = clauses-within;

@@ -305,7 +305,7 @@ module _ (g : Signature) where
   unfolding readClause grammar
   readClause-complete c h = ap (λ (t : Grammar). clauseIf t (readWords g (clauseWords c) .clause)) (clause-passed c 0 h) ∙ ap some (clause-read c h)
 
-pub grammar-exact : claims.Grammar
+pub grammar-exact : claims.GrammarExact
 grammar-exact =
     record {
       exact = λ g ws c k. (readClause-sound g ws c k, λ p. ap (readClause g) (sym (p .1)) ∙ readClause-complete g c (p .0));

@@ -12,7 +12,7 @@ use Rattle.theory.specs.Cells.{cellKinds, valueCount, inRange, isInterpr
 use Rattle.theory.specs.Problem.{Problem}
 use Rattle.theory.specs.CaseText.{Case}
 use Rattle.theory.specs.Least.{candidates, leastModel, withSize, smallestModel}
-use Rattle.theory.specs.Claims.Least.{NotAfter, Model, LeastHolds}
+use Rattle.theory.specs.Claims.Least.{NotAfter, ModelCells, LeastHolds}
 use Rattle.theory.proofs.Tests.{both-false, and-left, and-right, and-join, ltb-true, ltb-of-<}
 use Rattle.theory.proofs.Lists.{elem-upFrom, upFrom-elem}
 use Rattle.theory.proofs.First.{In, Ordered, none-firstOf, firstOf-least, first-some, none-first, first-least}
@@ -43,22 +43,22 @@ ordered s [] = tt
 ordered s (k ∷ ks) = ((valueCount s k, refl), ordered s ks)
 
 module _ (p : Problem) where
-  model-in : (s : ℕ) (u : List ℕ) → Model p s u → In u (candidates s (p .symbols))
+  model-in : (s : ℕ) (u : List ℕ) → ModelCells p s u → In u (candidates s (p .symbols))
   unfolding isInterpretation
   model-in s u m = inRange-in s (cellKinds s (p .symbols)) u (m .interpretation)
 
-  in-model : (s : ℕ) (u : List ℕ) → In u (candidates s (p .symbols)) → isModel s (p .symbols) (p .clauses) u ≡ true → Model p s u
+  in-model : (s : ℕ) (u : List ℕ) → In u (candidates s (p .symbols)) → isModel s (p .symbols) (p .clauses) u ≡ true → ModelCells p s u
   unfolding isInterpretation
   in-model s u i m = record { interpretation = in-inRange s (cellKinds s (p .symbols)) u i; model = m }
 
-  least-is : (s : ℕ) (v : List ℕ) → leastModel s p ≡ some v → Model p s v × ((u : List ℕ) → Model p s u → NotAfter v u)
+  least-is : (s : ℕ) (v : List ℕ) → leastModel s p ≡ some v → ModelCells p s v × ((u : List ℕ) → ModelCells p s u → NotAfter v u)
   unfolding leastModel
   least-is s v e =
       let test : List ℕ → Bool = isModel s (p .symbols) (p .clauses) in
       let r = first-some (candidates s (p .symbols)) test v e in
       (in-model s v (r .0) (r .1), λ u m. first-least (candidates s (p .symbols)) test v (ordered s (cellKinds s (p .symbols))) e u (model-in s u m) (m .model))
 
-  no-least : (s : ℕ) → leastModel s p ≡ none → (u : List ℕ) → Model p s u → ⊥
+  no-least : (s : ℕ) → leastModel s p ≡ none → (u : List ℕ) → ModelCells p s u → ⊥
   unfolding leastModel
   no-least s e u m = both-false (m .model) (none-first (candidates s (p .symbols)) (isModel s (p .symbols) (p .clauses)) e u (model-in s u m))
 
@@ -76,7 +76,7 @@ module _ (p : Problem) where
   atSize s = withSize s (leastModel s p)
 
   smallest-is : (low high : ℕ) (k : Case) → smallestModel p low high ≡ some k
-      → (low ≤ k .size) × (k .size ≤ high) × (leastModel (k .size) p ≡ some (k .values)) × ((s : ℕ) (u : List ℕ) → low ≤ s → s < k .size → Model p s u → ⊥)
+      → (low ≤ k .size) × (k .size ≤ high) × (leastModel (k .size) p ≡ some (k .values)) × ((s : ℕ) (u : List ℕ) → low ≤ s → s < k .size → ModelCells p s u → ⊥)
   unfolding smallestModel
   smallest-is low high k e =
       let r = firstOf-least atSize low (suc high - low) k e in
@@ -88,12 +88,32 @@ module _ (p : Problem) where
         λ s u lo hi m. no-least s (withSize-none s (leastModel s p) (r .4 s lo (omega arith))) u m,
       )
 
-  no-smallest : (low high : ℕ) → smallestModel p low high ≡ none → (s : ℕ) (u : List ℕ) → low ≤ s → s ≤ high → Model p s u → ⊥
+  no-smallest : (low high : ℕ) → smallestModel p low high ≡ none → (s : ℕ) (u : List ℕ) → low ≤ s → s ≤ high → ModelCells p s u → ⊥
   unfolding smallestModel
   no-smallest low high e s u lo hi m =
       let i : elem s (upFrom low (suc high - low)) ≡ true = upFrom-elem s low (suc high - low) lo (omega arith) in
       no-least s (withSize-none s (leastModel s p) (none-firstOf atSize (upFrom low (suc high - low)) e s i)) u m
 
+  if-no-model : (s : ℕ) → ((u : List ℕ) → ModelCells p s u → ⊥) → leastModel s p ≡ none
+  if-no-model s h = go (leastModel s p) refl
+    where
+      go : (o : Option (List ℕ)) → leastModel s p ≡ o → leastModel s p ≡ none
+      go none e = e
+      go (some v) e = absurd (h v (least-is s v e .0))
+
+  if-no-size : (low high : ℕ) → ((s : ℕ) (u : List ℕ) → low ≤ s → s ≤ high → ModelCells p s u → ⊥) → smallestModel p low high ≡ none
+  if-no-size low high h = go (smallestModel p low high) refl
+    where
+      go : (o : Option Case) → smallestModel p low high ≡ o → smallestModel p low high ≡ none
+      go none e = e
+      go (some k) e = let m = smallest-is low high k e in absurd (h (k .size) (k .values) (m .0) (m .1) (least-is (k .size) (k .values) (m .2) .0))
+
 -- the theorem
 pub least : LeastHolds
-least p = record { isLeast = least-is p; noLeast = no-least p; smallest = smallest-is p; noSmallest = no-smallest p }
+least p =
+    record {
+      isLeast = least-is p;
+      noLeast = λ s. (no-least p s, if-no-model p s);
+      smallest = smallest-is p;
+      noSmallest = λ low high. (no-smallest p low high, if-no-size p low high);
+    }

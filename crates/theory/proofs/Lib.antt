@@ -40,12 +40,12 @@ pub mod Tables
 pub mod CaseText
 pub mod CaseLengths
 pub mod ClauseCounts
-pub mod Demand3
+pub mod ReadingBack
 pub mod Counts
 pub mod Letters
 pub mod Limits
 pub mod Monotone
 pub mod ModelTexts
-pub mod Demand2
+pub mod FindsLeast
 pub mod SheetRefusals
 pub mod Program

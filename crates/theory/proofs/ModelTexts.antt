@@ -9,7 +9,7 @@ use Rattle.theory.specs.Refusals.{answer}
 use Rattle.theory.specs.Problem.{Problem, readProblem}
 use Rattle.theory.specs.CaseText.{Case, caseText, readCase}
 use Rattle.theory.specs.Operations.{judgeAnswer}
-use Rattle.theory.specs.Claims.Demand3.{ModelText}
+use Rattle.theory.specs.Claims.ReadingBack.{ModelText}
 use Rattle.theory.proofs.Answers.{unbind, bind-step, answer-inj}
 use Rattle.theory.proofs.Parsing.{WellFormed, readProblem-wellFormed}
 use Rattle.theory.proofs.CaseText.{OnlyText, read-own-case, read-exactly}

@@ -154,7 +154,7 @@ reads-enough none (some i) input e f =
 
 -- a refusal with another number
 other : (r : Refusal) → OfSheet r → r .number ≡ 11 → ⊥
-other r h n = let z : leb 11 7 ≡ true = ap (λ (k : ℕ). leb k 7) (sym n) ∙ h .number in false≢true z
+other r h n = let z : leb 11 7 ≡ true = ap (λ (k : ℕ). leb 1 k && leb k 7) (sym n) ∙ h .number in false≢true z
 
 -- a check that refuses with another number, and what follows it
 passed : {B C : Type 0} (b : Bool) (q : Refusal) (k : Unit {0} → Answer B) (r : Refusal) → (check b q >>= k) ≡ refused r → eqb (q .number) 11 ≡ false → r .number ≡ 11

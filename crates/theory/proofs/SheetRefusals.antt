@@ -19,10 +19,10 @@ use Rattle.theory.proofs.Parsing.{countLine-limit}
 
 -- a refusal's number is one of 1 to 7, and a sheet has no more than 93 lines
 pub record OfSheet (r : Refusal) : Type 0 where
-  pub number : leb (r .number) 7 ≡ true
+  pub number : (leb 1 (r .number) && leb (r .number) 7) ≡ true
   pub line : r .place .line ≤ 93
 
-of-line : (n l : ℕ) → leb n 7 ≡ true → l ≤ 93 → OfSheet (atLine n l)
+of-line : (n l : ℕ) → (leb 1 n && leb n 7) ≡ true → l ≤ 93 → OfSheet (atLine n l)
 of-line n l e h = record { number = e; line = h }
 
 -- every refusal of the answer is

@@ -4,9 +4,9 @@ pub mod Numbering
 pub mod Grammar
 pub mod Flattening
 pub mod Encoding
-pub mod Demand3
+pub mod ReadingBack
 pub mod Least
-pub mod Demand2
+pub mod FindsLeast
 pub mod Walk
 pub mod Counts
 pub mod Program

@@ -20,7 +20,7 @@ use Rattle.theory.specs.Grammar.{grammar, readClause}
 use Rattle.theory.specs.Problem.{countLine, isName, symbolLines, wordOf, withinLimits, clauseOf, clauseLines, Problem, readProblem}
 use Rattle.theory.specs.CaseText.{tableText, tablesText, caseText, caseLength, readTable, readTables, readCase}
 use Rattle.theory.specs.Least.{leastModel, smallestModel, settled}
-use Rattle.theory.specs.Operations.{lengthAnswer, contentOf, writtenText, readBackText, judgeAnswer, Search, found, nothing, findResult, findOutput, findWork}
+use Rattle.theory.specs.Operations.{lengthAnswer, contentOf, writtenText, readBackText, judgeAnswer, Search, found, nothing, foundCase, findResult, findAnswer, findOutput, findWork}
 use Rattle.theory.specs.Program.{_>>?_, digitLine, printed, program}
 
 -- document 01's sheet: two constants that differ
@@ -48,8 +48,8 @@ pub onlyA : List ℕ
 onlyA = bytes "sheet=1\nfuns=1\nfun=a/0\npreds=1\npred=p/1\nclauses=2\nclause=+ p a\nclause=- p A + = A a\n"
 
 -- the sizes, work and output of a search, and what it finds
-pub findIn : List ℕ → ℕ → ℕ → Answer Search
-findIn sheet low high = findResult sheet low high 16000 100
+pub findWithin : List ℕ → ℕ → ℕ → Answer Search
+findWithin sheet low high = findResult sheet low high 16000 100
 
 -- the text that Write leaves in a hundred bytes
 pub writeIn : List ℕ → ℕ → Answer (List ℕ)
@@ -80,30 +80,31 @@ nestedFlat =
 
 -- the table
 pub record Examples : Type 0 where
-  pub two-constants-1 : findIn twoConstants 1 1 ≡ answer (nothing false)
-  pub two-constants-2 : findIn twoConstants 2 2 ≡ answer (found 2 (bytes "case=1\nsize=2\na=1\nb=2\n"))
+  pub two-constants-1 : findWithin twoConstants 1 1 ≡ answer (nothing false)
+  pub two-constants-2 : findWithin twoConstants 2 2 ≡ answer (found 2 (bytes "case=1\nsize=2\na=1\nb=2\n"))
   pub two-constants-text : writeIn twoConstants 2 ≡ answer (bytes "p cnf 4 6\n1 2 0\n-1 -2 0\n3 4 0\n-3 -4 0\n-3 -1 0\n-4 -2 0\n")
   pub two-constants-back : readBackIn twoConstants 2 (0 ∷ 1 ∷ 1 ∷ 0 ∷ []) ≡ answer (bytes "case=1\nsize=2\na=2\nb=1\n")
   pub two-constants-length : lengthAnswer (writeIn twoConstants 2) ≡ answer 54
   pub two-constants-short : writtenText twoConstants 2 53 ≡ refused (needing 11 54)
   pub two-constants-14 : readBackIn twoConstants 2 (1 ∷ 1 ∷ 0 ∷ 0 ∷ []) ≡ refused (unplaced 14)
-  pub two-constants-output : findOutput (findIn twoConstants 1 3) (bytes "a lent buffer of thirty bytes.") ≡ bytes "case=1\nsize=2\na=1\nb=2\ny bytes."
-  pub two-constants-work : findWork (findIn twoConstants 1 3) (7 ∷ 7 ∷ []) ≡ 0 ∷ 0 ∷ []
+  pub two-constants-output : findOutput (findWithin twoConstants 1 3) (bytes "a lent buffer of thirty bytes.") ≡ bytes "case=1\nsize=2\na=1\nb=2\ny bytes."
+  pub two-constants-work : findWork (findWithin twoConstants 1 3) (7 ∷ 7 ∷ []) ≡ 0 ∷ 0 ∷ []
   pub two-constants-program : program (bytes "low=1\nhigh=3\n" ++ twoConstants) ≡ bytes "answer=found\ncase=1\nsize=2\na=1\nb=2\n"
   pub nested-flat : flatClauses (readProblem nestedTerms) ≡ nestedFlat ∷ []
   pub equal-1 : judgeAnswer (oneClause "+ = A B") (bytes "case=1\nsize=1\n") ≡ answer true
   pub equal-2 : writeIn (oneClause "+ = A B") 2 ≡ answer (bytes "p cnf 0 2\n0\n0\n")
   pub unequal-each : map (writeIn (oneClause "- = A B")) (upFrom 1 8) ≡ replicate 8 (answer (bytes "p cnf 0 1\n0\n"))
-  pub empty-clause : findIn (oneClause "") 1 8 ≡ answer (nothing true)
-  pub no-clause : findIn nothingAtAll 3 5 ≡ answer (found 3 (bytes "case=1\nsize=3\n"))
-  pub no-fixed-point-1 : findIn noFixedPoint 1 1 ≡ answer (nothing false)
-  pub no-fixed-point-2 : findIn noFixedPoint 1 3 ≡ answer (found 2 (bytes "case=1\nsize=2\nf=2 1\n"))
-  pub no-fixed-point-3 : findIn noFixedPoint 3 3 ≡ answer (found 3 (bytes "case=1\nsize=3\nf=2 1 1\n"))
-  pub only-a : findIn onlyA 2 2 ≡ answer (found 2 (bytes "case=1\nsize=2\na=1\np=1 0\n"))
+  pub empty-clause : findWithin (oneClause "") 1 8 ≡ answer (nothing true)
+  pub no-clause : findWithin nothingAtAll 3 5 ≡ answer (found 3 (bytes "case=1\nsize=3\n"))
+  pub no-clause-length : findAnswer (findWithin nothingAtAll 3 5) ≡ answer (foundCase 3 14)
+  pub no-fixed-point-1 : findWithin noFixedPoint 1 1 ≡ answer (nothing false)
+  pub no-fixed-point-2 : findWithin noFixedPoint 1 3 ≡ answer (found 2 (bytes "case=1\nsize=2\nf=2 1\n"))
+  pub no-fixed-point-3 : findWithin noFixedPoint 3 3 ≡ answer (found 3 (bytes "case=1\nsize=3\nf=2 1 1\n"))
+  pub only-a : findWithin onlyA 2 2 ≡ answer (found 2 (bytes "case=1\nsize=2\na=1\np=1 0\n"))
 
 -- every line of the table holds by computation
 pub examples : Examples
-unfolding twoConstants oneClause nothingAtAll nestedTerms noFixedPoint onlyA findIn writeIn readBackIn flatClauses nestedFlat decimal cellKinds judged isModel merged liftedTerms flatten variableCount propBase propCount instances functionPart clausePart parts propClauses instanceCount literalCount workNeeded literalText clauseText header dimacs isValuation isFunctional readBack _>>=_ grammar readClause countLine isName symbolLines wordOf withinLimits clauseOf clauseLines readProblem tableText tablesText caseText caseLength readTable readTables readCase leastModel smallestModel settled contentOf writtenText readBackText judgeAnswer findResult _>>?_ digitLine printed program
+unfolding twoConstants oneClause nothingAtAll nestedTerms noFixedPoint onlyA findWithin writeIn readBackIn flatClauses nestedFlat decimal cellKinds judged isModel merged liftedTerms flatten variableCount propBase propCount instances functionPart clausePart parts propClauses instanceCount literalCount workNeeded literalText clauseText header dimacs isValuation isFunctional readBack _>>=_ grammar readClause countLine isName symbolLines wordOf withinLimits clauseOf clauseLines readProblem tableText tablesText caseText caseLength readTable readTables readCase leastModel smallestModel settled contentOf writtenText readBackText judgeAnswer findResult _>>?_ digitLine printed program
 examples =
     record {
       two-constants-1 = refl;
@@ -122,6 +123,7 @@ examples =
       unequal-each = refl;
       empty-clause = refl;
       no-clause = refl;
+      no-clause-length = refl;
       no-fixed-point-1 = refl;
       no-fixed-point-2 = refl;
       no-fixed-point-3 = refl;

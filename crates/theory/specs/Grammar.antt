@@ -1,4 +1,5 @@
 -- The words of a clause, what may follow what, and the clause that they are.
+-- Words are read backwards, so that a symbol finds its terms already read; that this reads exactly the words of clauses is the claim GrammarExact (Claims/Grammar).
 use Prim.Native.Nat.{ℕ, zero, suc, _+_}
 use mathlib.Core.Bool.{Bool, true, false, cond}
 use mathlib.Core.Option.{Option, none, some}

@@ -66,3 +66,7 @@ valuesOf s (k ∷ ks) σ = valueOf k (take (width s k) σ) ∷ valuesOf s ks (dr
 -- the interpretation that a valuation is read back as: its cell values
 unfoldable pub readBack : ℕ → Signature → List ℕ → List ℕ
 readBack s g σ = valuesOf s (cellKinds s g) σ
+
+-- the bytes of a search's values: 1 for yes
+abbrev pub settingOf : List ℕ → List ℕ
+settingOf zs = map (λ z. cond (eqb z 1) 1 0) zs

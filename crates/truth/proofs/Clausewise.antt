@@ -14,12 +14,12 @@ use Rattle.theory.specs.Grammar.{Word, sign, equals, symbol, letter, atom, clau
 use Rattle.theory.proofs.Tests.{and-right, or-right}
 use Rattle.theory.proofs.Lists.{all-append, all-drop, map-at}
 use Rattle.theory.proofs.DueWords.{DueAt, due-at}
-use Rattle.syntax.specs.Codes.{wordOf, isKnown}
+use Rattle.syntax.specs.Codes.{codeWord, isKnown}
 use Rattle.syntax.specs.Variables.{letterOf, lettersOf}
 use Rattle.syntax.proofs.Codes.{known-declared}
 use Rattle.interpretation.specs.declared.tables.Tables.{Tables}
 use Rattle.truth.specs.declared.values.Machine.{Machine}
-use Rattle.truth.specs.Values.{Chosen, Held, WordLent, ClauseLent, lettersAmong}
+use Rattle.truth.specs.Values.{Chosen, ValuesHeld, WordLent, ClauseLent, lettersAmong}
 
 -- a clause true of the words behind is true of all
 pub clause-grows : (g : Signature) (I : Interpretation) (ρ : Assignment) (ws : List Word) (i : ℕ) → clauseTrue I ρ (readWords g (drop i ws) .clause) ≡ true
@@ -49,10 +49,10 @@ letters-drop xs (w ∷ ws) (suc i) h =
 
 module _ {words place : List ℕ} {t : Tables} {cells : List ℕ} {s : ℕ} (c : ClauseLent words place t cells s) {choice : List ℕ} (chosen : Chosen (c .variables) s choice) where
   -- no word is read at first
-  pub none-held : Held (c .signature) (interpretation s (c .signature) cells) (assign (c .variables) choice) s (drop (length words) (map wordOf words)) (replicate 64 0)
+  pub none-held : ValuesHeld (c .signature) (interpretation s (c .signature) cells) (assign (c .variables) choice) s (drop (length words) (map codeWord words)) (replicate 64 0)
       (record { top = 64; atom = false; holds = false })
   none-held =
-      let e : drop (length words) (map wordOf words) ≡ [] = ap (λ (n : ℕ). drop n (map wordOf words)) (sym (length-map words wordOf)) ∙ drop-length (map wordOf words) in
+      let e : drop (length words) (map codeWord words) ≡ [] = ap (λ (n : ℕ). drop n (map codeWord words)) (sym (length-map words codeWord)) ∙ drop-length (map codeWord words) in
       rw e
       (record {
         within = omega arith;
@@ -63,19 +63,19 @@ module _ {words place : List ℕ} {t : Tables} {cells : List ℕ} {s : ℕ} (c :
       })
 
   module _ (i : ℕ) (h : 0 < i) (k : i ≤ length words) where
-    pub words-at : drop (i - 1) (map wordOf words) ≡ wordOf (getD words (i - 1) 0) ∷ drop i (map wordOf words)
+    pub words-at : drop (i - 1) (map codeWord words) ≡ codeWord (getD words (i - 1) 0) ∷ drop i (map codeWord words)
     words-at =
         let e : suc (i - 1) ≡ i = omega arith in
-        drop-cons (map wordOf words) (i - 1) equals (omega (arith, length-map words wordOf))
-        ∙ ap (λ (w : Word). w ∷ drop (suc (i - 1)) (map wordOf words)) (map-at wordOf words (i - 1) 0 equals (omega arith))
-        ∙ ap (λ (n : ℕ). wordOf (getD words (i - 1) 0) ∷ drop n (map wordOf words)) e
+        drop-cons (map codeWord words) (i - 1) equals (omega (arith, length-map words codeWord))
+        ∙ ap (λ (w : Word). w ∷ drop (suc (i - 1)) (map codeWord words)) (map-at codeWord words (i - 1) 0 equals (omega arith))
+        ∙ ap (λ (n : ℕ). codeWord (getD words (i - 1) 0) ∷ drop n (map codeWord words)) e
 
-    pub due : DueAt (c .signature) (map wordOf words) (i - 1)
-    due = due-at (c .signature) (map wordOf words) (known-declared (c .signature) (map wordOf words) (c .known)) (c .good) (i - 1) (omega (arith, length-map words wordOf))
+    pub due : DueAt (c .signature) (map codeWord words) (i - 1)
+    due = due-at (c .signature) (map codeWord words) (known-declared (c .signature) (map codeWord words) (c .known)) (c .good) (i - 1) (omega (arith, length-map words codeWord))
 
     -- what the word before place i is lent
     abbrev pub word-lent : (stack : List ℕ) (m : Machine) → length stack ≡ 64
-        → Held (c .signature) (interpretation s (c .signature) cells) (assign (c .variables) choice) s (drop i (map wordOf words)) stack m
+        → ValuesHeld (c .signature) (interpretation s (c .signature) cells) (assign (c .variables) choice) s (drop i (map codeWord words)) stack m
         → WordLent (getD words (i - 1) 0) place t cells s choice stack m
     word-lent stack m n held =
         record {
@@ -83,17 +83,17 @@ module _ {words place : List ℕ} {t : Tables} {cells : List ℕ} {s : ℕ} (c :
           variables = c .variables;
           lent = c .lent;
           chosen = chosen;
-          behind = drop i (map wordOf words);
-          known = rw words-at at (all-drop (isKnown (c .signature)) (i - 1) (map wordOf words) (c .known));
-          letters = rw words-at at (letters-drop (c .variables) (map wordOf words) (i - 1) (c .letters));
+          behind = drop i (map codeWord words);
+          known = rw words-at at (all-drop (isKnown (c .signature)) (i - 1) (map codeWord words) (c .known));
+          letters = rw words-at at (letters-drop (c .variables) (map codeWord words) (i - 1) (c .letters));
           index = i - 1;
           due = due .due;
           good = rw words-at at (due .rest);
-          room = omega (arith, length-drop i (map wordOf words), length-map words wordOf, c .fits);
+          room = omega (arith, length-drop i (map codeWord words), length-map words codeWord, c .fits);
           held = held;
         }
 
     pub word-held : (stack : List ℕ) (m : Machine)
-        → Held (c .signature) (interpretation s (c .signature) cells) (assign (c .variables) choice) s (wordOf (getD words (i - 1) 0) ∷ drop i (map wordOf words)) stack m
-        → Held (c .signature) (interpretation s (c .signature) cells) (assign (c .variables) choice) s (drop (i - 1) (map wordOf words)) stack m
+        → ValuesHeld (c .signature) (interpretation s (c .signature) cells) (assign (c .variables) choice) s (codeWord (getD words (i - 1) 0) ∷ drop i (map codeWord words)) stack m
+        → ValuesHeld (c .signature) (interpretation s (c .signature) cells) (assign (c .variables) choice) s (drop (i - 1) (map codeWord words)) stack m
     word-held stack m held = rw words-at held

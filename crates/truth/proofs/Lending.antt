@@ -18,13 +18,13 @@ use Rattle.theory.proofs.DueWords.{taken, terms-words, word-passed, taken-due}
 use Rattle.theory.proofs.Numbering.{cell-below, kind-at-cell}
 use Rattle.theory.proofs.Interpretations.{length-interpretation, value-below}
 use Rattle.syntax.specs.Signatures.{kindOf}
-use Rattle.syntax.specs.Codes.{codeOf, wordOf, isKnown}
+use Rattle.syntax.specs.Codes.{codeOf, codeWord, isKnown}
 use Rattle.syntax.specs.Variables.{letterOf, lettersOf}
 use Rattle.syntax.proofs.Codes.{codeOf-wordOf, wordOf-symbol, wordOf-letter, known-declared, known-below}
 use Rattle.syntax.proofs.Places.{place-below, assign-placed}
 use Rattle.interpretation.specs.declared.tables.Tables.{Tables}
 use Rattle.truth.specs.declared.values.Machine.{Machine}
-use Rattle.truth.specs.Values.{Held, WordLent, lettersAmong}
+use Rattle.truth.specs.Values.{ValuesHeld, WordLent, lettersAmong}
 use Rattle.interpretation.proofs.Ranks.{allBelow-at, allBelow-take}
 use Rattle.interpretation.proofs.Tabling.{base-within}
 use Rattle.truth.proofs.Stack.{held-count, held-take, letter-held, equality-held, sign-held, function-held, predicate-held}
@@ -35,10 +35,10 @@ arguments word t stack m = take (m .top + getD (t .arities) word 0 - m .top) (dr
 
 module _ {word : ℕ} {place : List ℕ} {t : Tables} {cells : List ℕ} {s : ℕ} {choice stack : List ℕ} {m : Machine} (w : WordLent word place t cells s choice stack m) where
   known-behind : all (isKnown (w .signature)) (w .behind) ≡ true
-  known-behind = and-right (isKnown (w .signature) (wordOf word)) (all (isKnown (w .signature)) (w .behind)) (w .known)
+  known-behind = and-right (isKnown (w .signature) (codeWord word)) (all (isKnown (w .signature)) (w .behind)) (w .known)
 
-  known-word : isKnown (w .signature) (wordOf word) ≡ true
-  known-word = and-left (isKnown (w .signature) (wordOf word)) (all (isKnown (w .signature)) (w .behind)) (w .known)
+  known-word : isKnown (w .signature) (codeWord word) ≡ true
+  known-word = and-left (isKnown (w .signature) (codeWord word)) (all (isKnown (w .signature)) (w .behind)) (w .known)
 
   pub word-below : word < 73
   word-below = known-below (w .signature) (w .lent .small .symbols) word known-word
@@ -51,15 +51,15 @@ module _ {word : ℕ} {place : List ℕ} {t : Tables} {cells : List ℕ} {s : �
   roomy = omega (arith, stack-count, terms-words (w .signature) (w .behind), w .room)
 
   -- the stack has as many values as the word takes
-  pub enough : taken (w .signature) (wordOf word) ≤ count (readWords (w .signature) (w .behind) .terms)
+  pub enough : taken (w .signature) (codeWord word) ≤ count (readWords (w .signature) (w .behind) .terms)
   enough =
       let g : Signature = w .signature in
-      let p = word-passed g (wordOf word) (w .behind) (w .index) (w .due) (w .good) in
-      taken-due g (w .due) (p .0) (wordOf word) (w .behind) (p .1) (words-read g (w .behind) (suc (w .index)) (p .0) (known-declared g (w .behind) known-behind) (p .2))
+      let p = word-passed g (codeWord word) (w .behind) (w .index) (w .due) (w .good) in
+      taken-due g (w .due) (p .0) (codeWord word) (w .behind) (p .1) (words-read g (w .behind) (suc (w .index)) (p .0) (known-declared g (w .behind) known-behind) (p .2))
 
   -- a letter
   module _ (letters : 65 ≤ word) where
-    pub is-letter : wordOf word ≡ letter (word - 65)
+    pub is-letter : codeWord word ≡ letter (word - 65)
     is-letter = wordOf-letter word letters
 
     pub letter-occurs : elem (word - 65) (w .variables) ≡ true
@@ -78,14 +78,14 @@ module _ {word : ℕ} {place : List ℕ} {t : Tables} {cells : List ℕ} {s : �
         rw (assign-placed (w .variables) _ (w .lent .places) (word - 65) letter-below letter-occurs choice) (allBelow-at s choice (getD place (word - 65) 0) letter-placed (w .chosen .below))
 
     pub letter-read : (v : ℕ) → v ≡ assign (w .variables) choice (word - 65)
-        → Held (w .signature) (interpretation s (w .signature) cells) (assign (w .variables) choice) s (wordOf word ∷ w .behind) (set stack (m .top - 1) v)
+        → ValuesHeld (w .signature) (interpretation s (w .signature) cells) (assign (w .variables) choice) s (codeWord word ∷ w .behind) (set stack (m .top - 1) v)
         (record { top = m .top - 1; atom = m .atom; holds = m .holds })
     letter-read v e = rw is-letter (letter-held (w .signature) _ _ s (w .behind) stack m (w .held) (word - 65) v e (rw e letter-value-below) roomy)
 
   -- an equality
   module _ (equality : word ≡ 61) where
-    is-equals : wordOf word ≡ equals
-    is-equals = ap wordOf equality
+    is-equals : codeWord word ≡ equals
+    is-equals = ap codeWord equality
 
     pub equality-enough : 2 ≤ count (readWords (w .signature) (w .behind) .terms)
     equality-enough = rw is-equals at enough
@@ -94,33 +94,33 @@ module _ {word : ℕ} {place : List ℕ} {t : Tables} {cells : List ℕ} {s : �
         → ((t u : Term) → getD stack (m .top) 0 ≡ value (interpretation s (w .signature) cells) (assign (w .variables) choice) t
         → getD stack (m .top + 1) 0 ≡ value (interpretation s (w .signature) cells) (assign (w .variables) choice) u
         → b ≡ atomTrue (interpretation s (w .signature) cells) (assign (w .variables) choice) (equal t u))
-        → Held (w .signature) (interpretation s (w .signature) cells) (assign (w .variables) choice) s (wordOf word ∷ w .behind) stack (record { top = m .top + 2; atom = b; holds = m .holds })
+        → ValuesHeld (w .signature) (interpretation s (w .signature) cells) (assign (w .variables) choice) s (codeWord word ∷ w .behind) stack (record { top = m .top + 2; atom = b; holds = m .holds })
     equality-read b e = rw is-equals (equality-held (w .signature) _ _ s (w .behind) stack m (w .held) b equality-enough e)
 
   -- a sign
   module _ (no-symbol : 43 ≤ word) (no-letter : word < 65) (no-equality : word ≡ 61 → ⊥) where
-    is-sign : (c : Bool) × (wordOf word ≡ sign c)
-    is-sign = go (wordOf word) refl (codeOf-wordOf word) known-word
+    is-sign : (c : Bool) × (codeWord word ≡ sign c)
+    is-sign = go (codeWord word) refl (codeOf-wordOf word) known-word
       where
-        go : (v : Word) → wordOf word ≡ v → codeOf v ≡ word → isKnown (w .signature) v ≡ true → (c : Bool) × (wordOf word ≡ sign c)
+        go : (v : Word) → codeWord word ≡ v → codeOf v ≡ word → isKnown (w .signature) v ≡ true → (c : Bool) × (codeWord word ≡ sign c)
         go (sign c) e k d = (c, e)
         go equals e k d = absurd (no-equality (sym k))
         go (symbol i) e k d = absurd (omega (arith, ltb-true i (length (w .signature)) d, w .lent .small .symbols))
         go (letter x) e k d = absurd (omega arith)
 
     pub sign-read : (b : Bool)
-        → ((l : Literal) → wordOf word ≡ sign (l .sign) → m .atom ≡ atomTrue (interpretation s (w .signature) cells) (assign (w .variables) choice) (l .atom)
+        → ((l : Literal) → codeWord word ≡ sign (l .sign) → m .atom ≡ atomTrue (interpretation s (w .signature) cells) (assign (w .variables) choice) (l .atom)
         → b ≡ literalTrue (interpretation s (w .signature) cells) (assign (w .variables) choice) l)
-        → Held (w .signature) (interpretation s (w .signature) cells) (assign (w .variables) choice) s (wordOf word ∷ w .behind) stack (record { top = m .top; atom = m .atom; holds = b || m .holds })
+        → ValuesHeld (w .signature) (interpretation s (w .signature) cells) (assign (w .variables) choice) s (codeWord word ∷ w .behind) stack (record { top = m .top; atom = m .atom; holds = b || m .holds })
     sign-read b e =
         let c : Bool = is-sign .0 in
-        let z : wordOf word ≡ sign c = is-sign .1 in
+        let z : codeWord word ≡ sign c = is-sign .1 in
         rw z
         (sign-held (w .signature) _ _ s (w .behind) stack m (w .held) c b (w .index) (w .due) (rw z at (w .good)) (λ q. e (record { sign = c; atom = readWords (w .signature) (w .behind) .atom }) z q))
 
   -- a symbol
   module _ (symbols : word < 43) where
-    pub is-symbol : wordOf word ≡ symbol word
+    pub is-symbol : codeWord word ≡ symbol word
     is-symbol = wordOf-symbol word symbols
 
     pub symbol-declared : word < length (w .signature)
@@ -177,7 +177,7 @@ module _ {word : ℕ} {place : List ℕ} {t : Tables} {cells : List ℕ} {s : �
       -- a function leaves its value
       pub function-read : (v : ℕ) → getD (t .functions) word false ≡ true
           → ((ts : Terms) → c ≡ cell s (w .signature) word (values (interpretation s (w .signature) cells) (assign (w .variables) choice) ts) → v ≡ value (interpretation s (w .signature) cells) (assign (w .variables) choice) (apply word ts))
-          → Held (w .signature) (interpretation s (w .signature) cells) (assign (w .variables) choice) s (wordOf word ∷ w .behind) (set stack (m .top + getD (t .arities) word 0 - 1) v)
+          → ValuesHeld (w .signature) (interpretation s (w .signature) cells) (assign (w .variables) choice) s (codeWord word ∷ w .behind) (set stack (m .top + getD (t .arities) word 0 - 1) v)
           (record { top = m .top + getD (t .arities) word 0 - 1; atom = m .atom; holds = m .holds })
       function-read v k q =
           let e = q (takeTerms (getD (t .arities) word 0) (readWords (w .signature) (w .behind) .terms)) cell-is in
@@ -188,7 +188,7 @@ module _ {word : ℕ} {place : List ℕ} {t : Tables} {cells : List ℕ} {s : �
       -- a predicate leaves its atom's truth
       pub predicate-read : (b : Bool) → getD (t .functions) word false ≡ false
           → ((ts : Terms) → c ≡ cell s (w .signature) word (values (interpretation s (w .signature) cells) (assign (w .variables) choice) ts) → b ≡ atomTrue (interpretation s (w .signature) cells) (assign (w .variables) choice) (holds word ts))
-          → Held (w .signature) (interpretation s (w .signature) cells) (assign (w .variables) choice) s (wordOf word ∷ w .behind) stack
+          → ValuesHeld (w .signature) (interpretation s (w .signature) cells) (assign (w .variables) choice) s (codeWord word ∷ w .behind) stack
           (record { top = m .top + getD (t .arities) word 0; atom = b; holds = m .holds })
       predicate-read b k q =
           let e = q (takeTerms (getD (t .arities) word 0) (readWords (w .signature) (w .behind) .terms)) cell-is in

@@ -5,10 +5,10 @@ use mathlib.Core.Bool.{Bool, true, false, not, Bool·beq}
 use native.Mathlib.Omega.{arith}
 use Rattle.theory.specs.Grammar.{sign}
 use Rattle.theory.proofs.Tests.{beq-true, beq-not}
-use Rattle.syntax.specs.Codes.{codeOf, wordOf}
+use Rattle.syntax.specs.Codes.{codeOf, codeWord}
 use Rattle.syntax.proofs.Codes.{codeOf-wordOf}
 
-module _ (code : ℕ) (b : Bool) (e : wordOf code ≡ sign b) where
+module _ (code : ℕ) (b : Bool) (e : codeWord code ≡ sign b) where
   code-of : codeOf (sign b) ≡ code
   code-of = ap codeOf (sym e) ∙ codeOf-wordOf code
 

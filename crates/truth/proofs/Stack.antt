@@ -15,7 +15,7 @@ use Rattle.theory.specs.Grammar.{Word, sign, equals, symbol, letter, Due, terms
 use Rattle.theory.proofs.Vectors.{allBelow-drop}
 use Rattle.theory.proofs.DueWords.{word-passed}
 use Rattle.truth.specs.declared.values.Machine.{Machine}
-use Rattle.truth.specs.Values.{Held}
+use Rattle.truth.specs.Values.{ValuesHeld}
 
 module _ (I : Interpretation) (ρ : Assignment) where
   pub values-take : (n : ℕ) (ts : Terms) → take n (values I ρ ts) ≡ values I ρ (takeTerms n ts)
@@ -43,7 +43,7 @@ drop-push l k x h =
 no-atom : (g : Signature) (w : Word) (ws : List Word) (i : ℕ) → ((e : Due) → dueAfter g atom w ≡ some e → ⊥) → grammarFrom g i atom (w ∷ ws) ≡ clause → ⊥
 no-atom g w ws i h q = let p = word-passed g w ws i atom q in h (p .0) (p .1)
 
-module _ (g : Signature) (I : Interpretation) (ρ : Assignment) (s : ℕ) (ws : List Word) (stack : List ℕ) (m : Machine) (h : Held g I ρ s ws stack m) where
+module _ (g : Signature) (I : Interpretation) (ρ : Assignment) (s : ℕ) (ws : List Word) (stack : List ℕ) (m : Machine) (h : ValuesHeld g I ρ s ws stack m) where
   -- as many values as terms were read
   pub held-count : length stack ≡ m .top + count (readWords g ws .terms)
   held-count = omega (arith, h .within, length-drop (m .top) stack, ap length (h .terms), length-values I ρ (readWords g ws .terms))
@@ -61,7 +61,7 @@ module _ (g : Signature) (I : Interpretation) (ρ : Assignment) (s : ℕ) (ws : 
 
   -- a letter leaves its value
   pub letter-held : (x v : ℕ) → v ≡ ρ x → v < s → 0 < m .top
-      → Held g I ρ s (letter x ∷ ws) (set stack (m .top - 1) v) (record { top = m .top - 1; atom = m .atom; holds = m .holds })
+      → ValuesHeld g I ρ s (letter x ∷ ws) (set stack (m .top - 1) v) (record { top = m .top - 1; atom = m .atom; holds = m .holds })
   letter-held x v e b r =
       let k : m .top - 1 < length stack = omega (arith, h .within) in
       let n : suc (m .top - 1) ≡ m .top = omega arith in
@@ -76,7 +76,7 @@ module _ (g : Signature) (I : Interpretation) (ρ : Assignment) (s : ℕ) (ws : 
 
   -- a function takes as many as its arity and leaves its value
   pub function-held : (f a v : ℕ) → symbolAt g f .kind ≡ function → a ≡ symbolAt g f .arity → a ≤ count (readWords g ws .terms) → v ≡ I .function f (values I ρ (takeTerms a (readWords g ws .terms)))
-      → v < s → 0 < m .top → Held g I ρ s (symbol f ∷ ws) (set stack (m .top + a - 1) v) (record { top = m .top + a - 1; atom = m .atom; holds = m .holds })
+      → v < s → 0 < m .top → ValuesHeld g I ρ s (symbol f ∷ ws) (set stack (m .top + a - 1) v) (record { top = m .top + a - 1; atom = m .atom; holds = m .holds })
   function-held f a v kind ar enough e b r =
       let k : m .top + a - 1 < length stack = omega (arith, held-count) in
       let n : suc (m .top + a - 1) ≡ m .top + a = omega arith in
@@ -101,7 +101,7 @@ module _ (g : Signature) (I : Interpretation) (ρ : Assignment) (s : ℕ) (ws : 
 
   -- a predicate takes them, and its atom is read
   pub predicate-held : (p a : ℕ) (b : Bool) → symbolAt g p .kind ≡ predicate → a ≡ symbolAt g p .arity → a ≤ count (readWords g ws .terms)
-      → b ≡ atomTrue I ρ (holds p (takeTerms a (readWords g ws .terms))) → Held g I ρ s (symbol p ∷ ws) stack (record { top = m .top + a; atom = b; holds = m .holds })
+      → b ≡ atomTrue I ρ (holds p (takeTerms a (readWords g ws .terms))) → ValuesHeld g I ρ s (symbol p ∷ ws) stack (record { top = m .top + a; atom = b; holds = m .holds })
   predicate-held p a b kind ar enough e =
       let read : readWords g (symbol p ∷ ws) ≡ readSymbol predicate p a (readWords g ws) =
       ap (λ (k : Kind). readSymbol k p (symbolAt g p .arity) (readWords g ws)) kind ∙ ap (λ (j : ℕ). readSymbol predicate p j (readWords g ws)) (sym ar) in
@@ -116,7 +116,7 @@ module _ (g : Signature) (I : Interpretation) (ρ : Assignment) (s : ℕ) (ws : 
   -- an equality takes two
   pub equality-held : (b : Bool) → 2 ≤ count (readWords g ws .terms)
       → ((t u : Term) → getD stack (m .top) 0 ≡ value I ρ t → getD stack (m .top + 1) 0 ≡ value I ρ u → b ≡ atomTrue I ρ (equal t u))
-      → Held g I ρ s (equals ∷ ws) stack (record { top = m .top + 2; atom = b; holds = m .holds })
+      → ValuesHeld g I ρ s (equals ∷ ws) stack (record { top = m .top + 2; atom = b; holds = m .holds })
   equality-held b enough e =
       record {
         within = omega (arith, held-count);
@@ -136,7 +136,7 @@ module _ (g : Signature) (I : Interpretation) (ρ : Assignment) (s : ℕ) (ws : 
   -- a sign makes a literal of the atom
   pub sign-held : (c b : Bool) (i : ℕ) (d : Due) → grammarFrom g i d (sign c ∷ ws) ≡ clause
       → (m .atom ≡ atomTrue I ρ (readWords g ws .atom) → b ≡ literalTrue I ρ (record { sign = c; atom = readWords g ws .atom }))
-      → Held g I ρ s (sign c ∷ ws) stack (record { top = m .top; atom = m .atom; holds = b || m .holds })
+      → ValuesHeld g I ρ s (sign c ∷ ws) stack (record { top = m .top; atom = m .atom; holds = b || m .holds })
   sign-held c b i d q e =
       let a : m .atom ≡ atomTrue I ρ (readWords g ws .atom) = sign-atom d (word-passed g (sign c) ws i d q .0) (word-passed g (sign c) ws i d q .1) (word-passed g (sign c) ws i d q .2) in
       record {

@@ -11,7 +11,7 @@ use Rattle.theory.specs.Truth.{Interpretation, Assignment, values, atomTrue, cl
 use Rattle.theory.specs.Cells.{interpretation, isInterpretation}
 use Rattle.theory.specs.Grammar.{Word, Due, atom, clause, grammarFrom, grammar, readWords}
 use Rattle.syntax.specs.Signatures.{Small}
-use Rattle.syntax.specs.Codes.{wordOf, isKnown}
+use Rattle.syntax.specs.Codes.{codeWord, isKnown}
 use Rattle.syntax.specs.Variables.{lettersOf, Places}
 use Rattle.interpretation.specs.declared.tables.Tables.{Tables}
 use Rattle.truth.specs.declared.values.Machine.{Machine}
@@ -44,7 +44,7 @@ abbrev pub lettersAmong : List ℕ → List Word → Bool
 lettersAmong xs ws = all (λ x. elem x xs) (lettersOf ws)
 
 -- after the words ws the stack has the values of the terms read, m the truth of the atom and of the clause
-pub record Held (g : Signature) (I : Interpretation) (ρ : Assignment) (s : ℕ) (ws : List Word) (stack : List ℕ) (m : Machine) : Type 0 where
+pub record ValuesHeld (g : Signature) (I : Interpretation) (ρ : Assignment) (s : ℕ) (ws : List Word) (stack : List ℕ) (m : Machine) : Type 0 where
   pub within : m .top ≤ length stack
   pub terms : drop (m .top) stack ≡ values I ρ (readWords g ws .terms)
   pub below : AllBelow s (drop (m .top) stack)
@@ -58,19 +58,19 @@ pub record WordLent (word : ℕ) (place : List ℕ) (t : Tables) (cells : List �
   pub lent : Lent signature variables place t cells s
   pub chosen : Chosen variables s choice
   pub behind : List Word
-  pub known : all (isKnown signature) (wordOf word ∷ behind) ≡ true
-  pub letters : lettersAmong variables (wordOf word ∷ behind) ≡ true
+  pub known : all (isKnown signature) (codeWord word ∷ behind) ≡ true
+  pub letters : lettersAmong variables (codeWord word ∷ behind) ≡ true
   pub index : ℕ
   pub due : Due
-  pub good : grammarFrom signature index due (wordOf word ∷ behind) ≡ clause
+  pub good : grammarFrom signature index due (codeWord word ∷ behind) ≡ clause
   pub room : length behind < length stack
-  pub held : Held signature (interpretation s signature cells) (assign variables choice) s behind stack m
+  pub held : ValuesHeld signature (interpretation s signature cells) (assign variables choice) s behind stack m
 
 -- with the word read as well the stack and m have what they should
-abbrev pub WordRead : ℕ → List ℕ → Tables → List ℕ → ℕ → List ℕ → List ℕ → Machine → List ℕ → Machine → Type 0
-WordRead word place t cells s choice stack m stack′ m′ =
+abbrev pub WordTaken : ℕ → List ℕ → Tables → List ℕ → ℕ → List ℕ → List ℕ → Machine → List ℕ → Machine → Type 0
+WordTaken word place t cells s choice stack m stack′ m′ =
     (w : WordLent word place t cells s choice stack m)
-    → Held (w .signature) (interpretation s (w .signature) cells) (assign (w .variables) choice) s (wordOf word ∷ w .behind) stack′ m′
+    → ValuesHeld (w .signature) (interpretation s (w .signature) cells) (assign (w .variables) choice) s (codeWord word ∷ w .behind) stack′ m′
 
 -- the words of a clause
 pub record ClauseLent (words place : List ℕ) (t : Tables) (cells : List ℕ) (s : ℕ) : Type 0 where
@@ -78,10 +78,10 @@ pub record ClauseLent (words place : List ℕ) (t : Tables) (cells : List ℕ) (
   pub variables : List ℕ
   pub lent : Lent signature variables place t cells s
   pub fits : length words ≤ 64
-  pub known : all (isKnown signature) (map wordOf words) ≡ true
-  pub letters : lettersAmong variables (map wordOf words) ≡ true
-  pub good : grammar signature (map wordOf words) ≡ clause
+  pub known : all (isKnown signature) (map codeWord words) ≡ true
+  pub letters : lettersAmong variables (map codeWord words) ≡ true
+  pub good : grammar signature (map codeWord words) ≡ clause
 
 -- the clause that they are
-abbrev pub clauseOf : {words place : List ℕ} {t : Tables} {cells : List ℕ} {s : ℕ} → ClauseLent words place t cells s → Clause
-clauseOf {words = words} c = readWords (c .signature) (map wordOf words) .clause
+abbrev pub lentClause : {words place : List ℕ} {t : Tables} {cells : List ℕ} {s : ℕ} → ClauseLent words place t cells s → Clause
+lentClause {words = words} c = readWords (c .signature) (map codeWord words) .clause

@@ -1,7 +1,7 @@
 // The truth of a clause under a choice of values, in the order of source 004: variables, terms from inside out, atoms, signs, the clause.
 // The words are read from the last to the first. The values of the terms read stand in a stack, the first term's on top.
-use interpretation::numbers::Cell;
-use interpretation::numbers::Element;
+use indices::Cell;
+use indices::Element;
 use syntax::limits::Problem;
 use syntax::words::ClauseWords;
 ghost use mathlib.Core.Path.{_≡_};
@@ -15,8 +15,8 @@ ghost use Rattle.theory.specs.Syntax.{Literal, Signature, Term, Terms, apply, e
 ghost use Rattle.theory.specs.Truth.{Assignment, Interpretation, assign, atomTrue, clauseTrue, literalTrue, value, values};
 ghost use Rattle.theory.specs.Cells.{cell, interpretation};
 ghost use Rattle.theory.specs.Grammar as words;
-ghost use Rattle.syntax.specs.Codes.{wordOf};
-ghost use Rattle.truth.specs.Values.{Chosen, ClauseLent, PlacesIn, WordLent, WordRead, clauseOf, tablesIn};
+ghost use Rattle.syntax.specs.Codes.{codeWord};
+ghost use Rattle.truth.specs.Values.{Chosen, ClauseLent, PlacesIn, WordLent, WordTaken, lentClause, tablesIn};
 
 // The top of the stack, and the truth of the atom read last.
 pub struct Machine {
@@ -77,7 +77,7 @@ pub fn equality_value(left: Element, right: Element) -> bool
 
 // Signs: a literal is true if its sign agrees with its atom.
 pub fn literal_value(code: u8, atom: bool) -> bool
-    ensures { λ r. ⌜ ((I : Interpretation) (ρ : Assignment) (l : Literal) → wordOf code ≡ words.sign (l .sign) → atom ≡ atomTrue I ρ (l .atom) → r ≡ literalTrue I ρ l) ⌝ }
+    ensures { λ r. ⌜ ((I : Interpretation) (ρ : Assignment) (l : Literal) → codeWord code ≡ words.sign (l .sign) → atom ≡ atomTrue I ρ (l .atom) → r ≡ literalTrue I ρ l) ⌝ }
 {
     if code == ClauseWords::PLUS {
         return atom;
@@ -99,7 +99,7 @@ fn read_symbol(
     m: Machine,
 ) -> Machine
     requires { ⌜ (word < 43) × WordLent word (now place) (tablesIn (now arities) (now functions) (now bases) (now cells)) (now cells) size (now choice) (now stack) m ⌝ }
-    ensures { λ r. ⌜ WordRead word (now (place .entry)) (tablesIn (now (arities .entry)) (now (functions .entry)) (now (bases .entry)) (now (cells .entry))) (now (cells .entry)) size (now (choice .entry)) (now (stack .entry)) m (now (stack .exit)) r ⌝ }
+    ensures { λ r. ⌜ WordTaken word (now (place .entry)) (tablesIn (now (arities .entry)) (now (functions .entry)) (now (bases .entry)) (now (cells .entry))) (now (cells .entry)) size (now (choice .entry)) (now (stack .entry)) m (now (stack .exit)) r ⌝ }
 {
     let f = word as usize;
     let top = m.top;
@@ -135,7 +135,7 @@ fn read_word(
     m: Machine,
 ) -> Machine
     requires { ⌜ WordLent word (now place) (tablesIn (now arities) (now functions) (now bases) (now cells)) (now cells) size (now choice) (now stack) m ⌝ }
-    ensures { λ r. ⌜ WordRead word (now (place .entry)) (tablesIn (now (arities .entry)) (now (functions .entry)) (now (bases .entry)) (now (cells .entry))) (now (cells .entry)) size (now (choice .entry)) (now (stack .entry)) m (now (stack .exit)) r ⌝ }
+    ensures { λ r. ⌜ WordTaken word (now (place .entry)) (tablesIn (now (arities .entry)) (now (functions .entry)) (now (bases .entry)) (now (cells .entry))) (now (cells .entry)) size (now (choice .entry)) (now (stack .entry)) m (now (stack .exit)) r ⌝ }
 {
     if word < ClauseWords::PLUS {
         return read_symbol(
@@ -193,7 +193,7 @@ pub fn clause_value(
     choice: &[u8],
 ) -> bool
     requires { ⌜ ((c : ClauseLent (now words) (now place) (tablesIn (now arities) (now functions) (now bases) (now cells)) (now cells) size) × Chosen (c .variables) size (now choice)) ⌝ }
-    ensures { λ r. ⌜ ((c : ClauseLent (now (words .entry)) (now (place .entry)) (tablesIn (now (arities .entry)) (now (functions .entry)) (now (bases .entry)) (now (cells .entry))) (now (cells .entry)) size) → Chosen (c .variables) size (now (choice .entry)) → r ≡ clauseTrue (interpretation size (c .signature) (now (cells .entry))) (assign (c .variables) (now (choice .entry))) (clauseOf c)) ⌝ }
+    ensures { λ r. ⌜ ((c : ClauseLent (now (words .entry)) (now (place .entry)) (tablesIn (now (arities .entry)) (now (functions .entry)) (now (bases .entry)) (now (cells .entry))) (now (cells .entry)) size) → Chosen (c .variables) size (now (choice .entry)) → r ≡ clauseTrue (interpretation size (c .signature) (now (cells .entry))) (assign (c .variables) (now (choice .entry))) (lentClause c)) ⌝ }
 {
     let mut stack = [0; Problem::MAX_WORDS];
     let mut m = Machine {

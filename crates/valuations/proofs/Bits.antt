@@ -12,9 +12,9 @@ use lib.Seq.{take-suc, drop-cons, getD-drop, drop-drop, take-suc-set}
 use Rattle.theory.specs.Lists.{all, select}
 use Rattle.theory.specs.Syntax.{Kind, function, predicate}
 use Rattle.theory.specs.Propositional.{width}
-use Rattle.theory.specs.Valuation.{hasValue, firstOne, valueOf, allHaveValues, valuesOf}
+use Rattle.theory.specs.Valuation.{hasValue, firstOne, valueOf, allHaveValues, valuesOf, settingOf}
 use Rattle.theory.proofs.Lists.{select-append}
-use Rattle.valuations.specs.Cells.{bitsAt, ones, settingOf}
+use Rattle.valuations.specs.Cells.{bitsAt, ones}
 
 -- every byte is 0 or 1, of those from place i on
 pub binary-on : (σ : List ℕ) (i : ℕ) → i < length σ → getD σ i 0 ≤ 1 → all (λ b. ltb b 2) (drop i σ) ≡ all (λ b. ltb b 2) (drop (suc i) σ)

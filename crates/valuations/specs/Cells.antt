@@ -1,7 +1,6 @@
--- The bytes of a cell's variables, and the bytes of a search's values.
+-- The bytes of the variables of a cell.
 use Prim.Native.Nat.{ℕ}
-use mathlib.Core.Bool.{cond}
-use mathlib.Core.List.{List, map}
+use mathlib.Core.List.{List}
 use lib.Dec.{eqb}
 use lib.ListN.{length, take, drop}
 use Rattle.theory.specs.Lists.{select}
@@ -13,7 +12,3 @@ bitsAt σ from n = take n (drop from σ)
 -- how many bytes are 1
 abbrev pub ones : List ℕ → ℕ
 ones bits = length (select (eqb 1) bits)
-
--- the bytes of a search's values: 1 for yes
-abbrev pub settingOf : List ℕ → List ℕ
-settingOf zs = map (λ z. cond (eqb z 1) 1 0) zs

@@ -1,4 +1,5 @@
 // Propositional variables and their numbering: symbol by symbol, the last argument fastest, a function's cell one for each result.
+use indices::PropVar;
 use interpretation::vector::power;
 use syntax::limits::Problem;
 use syntax::signature::Signature;
@@ -11,9 +12,6 @@ ghost use Rattle.theory.specs.Propositional as theory;
 ghost use Rattle.syntax.specs.Signatures.{kindOf, signatureIn};
 ghost use Rattle.clauses.specs.Names.{Limited};
 ghost use Rattle.valuations.specs.Numbers.{NumberingOf};
-
-// A propositional variable, counted from 0 here; the texts count from 1.
-pub struct PropVar(pub u32);
 
 // A propositional literal as one number: 2x says yes to variable x, 2x + 1 says no.
 pub fn literal(x: PropVar, positive: bool) -> u32

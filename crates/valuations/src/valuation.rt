@@ -12,11 +12,11 @@ ghost use lib.ListN.{length, replicate, drop};
 ghost use Rattle.theory.specs.Lists.{all};
 ghost use Rattle.theory.specs.Syntax as syntax;
 ghost use Rattle.theory.specs.Propositional.{width};
-ghost use Rattle.theory.specs.Valuation.{allHaveValues, firstOne, isFunctional, valuesOf};
+ghost use Rattle.theory.specs.Valuation.{allHaveValues, firstOne, isFunctional, valuesOf, settingOf};
 ghost use Rattle.syntax.specs.Signatures.{kindOf, signatureIn};
 ghost use Rattle.clauses.specs.Names.{Limited};
 ghost use Rattle.valuations.specs.Numbers.{NumberingOf};
-ghost use Rattle.valuations.specs.Cells.{bitsAt, ones, settingOf};
+ghost use Rattle.valuations.specs.Cells.{bitsAt, ones};
 
 // Every byte is 0 or 1; otherwise refusal 13.
 pub fn is_binary(setting: &[u8]) -> bool

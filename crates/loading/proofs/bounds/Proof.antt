@@ -4,7 +4,7 @@ use Prim.Native.Nat.{ℕ, _+_, _-_, _*_, _≤_}
 use native.Mathlib.Omega.{arith}
 use borrow.Author.Needs.{needs}
 use lib.ListN.{length, length-set}
-use Rattle.loading.specs.Filling.{Bounded}
+use Rattle.loading.specs.Filling.{EmptyBlocks}
 use Rattle.loading.proofs.Bounding.{Bounding, bounding-turn, bounding-done, sum-fits, tallied-sum, bounded-filling}
 use Rattle.loading.proofs.bounds.Statement.{statement}
 use Rattle.loading.proofs.bounds.Tie as tie
@@ -101,7 +101,7 @@ returns c =
     λ cs t n.
     let e : 7 * a .v + a .m ≡ 7 * a .v + length cs = omega (arith, n) in
     let b = bounding-done (a .v) (7 * a .v + a .m) (a .work .now) (l .work) (l .start) (l .literal) (l .inv .2) (c .loop-test .left) in
-    bounded-filling (a .v) cs (a .work .now) (l .work) t (subst (λ (k : ℕ). Bounded (a .v) k (a .work .now) (l .work)) e b) (s .pre .small)
+    bounded-filling (a .v) cs (a .work .now) (l .work) t (subst (λ (k : ℕ). EmptyBlocks (a .v) k (a .work .now) (l .work)) e b) (s .pre .small)
     (omega (arith, n, tallied-sum (a .v) (s .pre .clauses) (a .work .now) (s .pre .tallied), s .pre .room, s .pre .number))
 
 pub bounds-spec : {M : Type 1} → statement M

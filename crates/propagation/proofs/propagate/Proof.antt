@@ -4,14 +4,14 @@ use mathlib.Core.List.{List}
 use Prim.Native.Nat.{ℕ, _-_}
 use native.Mathlib.Omega.{arith}
 use lib.ListN.{length}
-use Rattle.propagation.specs.WorkArea.{Held}
+use Rattle.propagation.specs.WorkArea.{WorkHeld}
 use Rattle.propagation.proofs.Turns.{Going, going-start, going-turn, going-stop, going-done}
 use Rattle.propagation.proofs.propagate.Statement.{statement}
 use Rattle.propagation.proofs.propagate.Tie as tie
 
 abbrev Inv-loop : tie.InvT-loop
 Inv-loop w₀ v start len head₀ n₀ w head n =
-    ((cs : List (List ℕ)) → Held v cs start len w₀ → Going v cs start len w₀ head n w) × (length w ≡ length w₀)
+    ((cs : List (List ℕ)) → WorkHeld v cs start len w₀ → Going v cs start len w₀ head n w) × (length w ≡ length w₀)
 
 abbrev μ-loop : tie.MeasureT-loop
 μ-loop w₀ v start len head₀ n₀ w head n = v - head
@@ -23,7 +23,7 @@ loop-holds c =
 
 -- in a turn the work area holds the clauses that it held at the start
 holds : (t : tie.In-loop Inv-loop μ-loop)
-    → Held (t .before .before .before .args .v) (t .before .before .before .pre .clauses) (t .before .loop .head) (t .before .loop .entries) (t .before .loop .work)
+    → WorkHeld (t .before .before .before .args .v) (t .before .before .before .pre .clauses) (t .before .loop .head) (t .before .loop .entries) (t .before .loop .work)
 holds t = t .before .loop .inv .0 (t .before .before .before .pre .clauses) (t .before .before .before .pre .held) .held
 
 advance-requires : tie.Need-advance-requires Inv-loop μ-loop

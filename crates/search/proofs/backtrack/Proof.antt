@@ -4,7 +4,7 @@ use mathlib.Core.List.{List}
 use Prim.Native.Nat.{ℕ, _-_}
 use native.Mathlib.Omega.{arith}
 use lib.ListN.{length}
-use Rattle.propagation.specs.WorkArea.{Held}
+use Rattle.propagation.specs.WorkArea.{WorkHeld}
 use Rattle.search.specs.Search.{Popped}
 use Rattle.search.proofs.Returning.{Level, level-turn, level-start, Backing, backing-start, backing-turn, back-pushable, backing-stop, backing-done}
 use Rattle.search.proofs.backtrack.Statement.{statement}
@@ -12,7 +12,7 @@ use Rattle.search.proofs.backtrack.Tie as tie
 
 abbrev Inv-loop : tie.InvT-loop
 Inv-loop w₀ v head len h₀ n₀ w h n =
-    ((cs : List (List ℕ)) → Held v cs head len w₀ → Backing v cs head len w₀ h n w) × (length w ≡ length w₀) × Level head h n
+    ((cs : List (List ℕ)) → WorkHeld v cs head len w₀ → Backing v cs head len w₀ h n w) × (length w ≡ length w₀) × Level head h n
 
 abbrev μ-loop : tie.MeasureT-loop
 μ-loop w₀ v head len h₀ n₀ w h n = n
@@ -25,7 +25,7 @@ loop-holds c =
 
 -- in a turn the work area holds the clauses that it held at the start
 holds : (t : tie.In-loop Inv-loop μ-loop)
-    → Held (t .before .before .before .args .v) (t .before .before .before .pre .clauses) (t .before .loop .level) (t .before .loop .entries) (t .before .loop .work)
+    → WorkHeld (t .before .before .before .args .v) (t .before .before .before .pre .clauses) (t .before .loop .level) (t .before .loop .entries) (t .before .loop .work)
 holds t = t .before .loop .inv .0 (t .before .before .before .pre .clauses) (t .before .before .before .pre .held) .held
 
 sub-place : tie.Need-sub-place Inv-loop μ-loop
@@ -49,7 +49,7 @@ pop-requires c κs =
 popped : (p : tie.After-pop Inv-loop μ-loop) → (cs : List (List ℕ))
     → let l = p .before .before .before .before in
     let a = l .before .before .args in
-    Held (a .v) cs (a .head) (a .len) (a .work .now) → Popped (a .v) cs (l .loop .level) (l .loop .entries) (l .loop .work) (p .pop .result) (p .pop .last .0)
+    WorkHeld (a .v) cs (a .head) (a .len) (a .work .now) → Popped (a .v) cs (l .loop .level) (l .loop .entries) (l .loop .work) (p .pop .result) (p .pop .last .0)
 popped p cs k = p .pop .ensures .1 cs (p .before .before .before .before .loop .inv .0 cs k .held)
 
 levelled : (p : tie.After-pop Inv-loop μ-loop)

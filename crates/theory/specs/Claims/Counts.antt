@@ -1,4 +1,4 @@
--- Counts: what is written is within I and L, numbers of variables within V, and texts have the lengths that document 01 gives.
+-- CountsSuffice: what is written is within I and L, numbers of variables within V, and texts have the lengths that document 01 gives.
 use Prim.Native.Nat.{ℕ, zero, _≤_, _<_}
 use mathlib.Core.Path.{_≡_}
 use mathlib.Core.Bool.{Bool, true, _&&_}
@@ -19,7 +19,7 @@ abbrev pub isNumbered : ℕ → PropLiteral → Bool
 isNumbered v l = leb 1 (l .number) && leb (l .number) v
 
 -- the theorem
-pub record Counts : Type 0 where
+pub record CountsSuffice : Type 0 where
   -- at most I clauses are written
   pub clauses : (s : ℕ) (g : Signature) (cs : List Clause) → length (propClauses s g cs) ≤ instanceCount s g cs
   -- and at most L literals

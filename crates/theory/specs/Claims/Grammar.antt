@@ -1,4 +1,4 @@
--- Grammar: the words that are read as a clause are exactly the words of that clause.
+-- GrammarExact: the words that are read as a clause are exactly the words of that clause.
 use Prim.Native.Nat.{ℕ}
 use mathlib.Core.Path.{_≡_}
 use mathlib.Core.Logic.{_↔_}
@@ -19,7 +19,7 @@ isDeclared g (symbol i) = ltb i (length g)
 isDeclared g (letter x) = true
 
 -- the theorem
-pub record Grammar : Type 0 where
+pub record GrammarExact : Type 0 where
   -- words of declared symbols are read as c exactly if c is a clause over the signature and they are its words
   pub exact : (g : Signature) (ws : List Word) (c : Clause) → all (isDeclared g) ws ≡ true
       → (readClause g ws ≡ some c) ↔ ((clauseOk g c ≡ true) × (clauseWords c ≡ ws))

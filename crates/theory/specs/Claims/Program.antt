@@ -7,7 +7,7 @@ use Rattle.theory.specs.Refusals.{Refusal, refused}
 use Rattle.theory.specs.Operations.{findResult}
 use Rattle.theory.specs.Program.{programWork, programOutput, program}
 
--- two lines of 13 bytes, the largest sheet, and one byte more
+-- two lines, 13 bytes together, the largest sheet, and one byte more
 abbrev pub inputBytes : ℕ
 inputBytes = 16398
 

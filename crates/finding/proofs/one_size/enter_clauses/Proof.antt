@@ -4,7 +4,7 @@ use mathlib.Core.List.{[], _∷_}
 use lib.ListN.{length, length-map}
 use Rattle.propagation.specs.Clauses.{codes}
 use Rattle.stream.specs.Literals.{allCodes}
-use Rattle.finding.specs.Searching.{clausesAt}
+use Rattle.finding.specs.Searching.{sheetClauses}
 use Rattle.finding.proofs.Fitting.{boundable, enter-begins, enter-ends}
 use borrow.Author.Needs.{needs}
 use Rattle.finding.proofs.one_size.enter_clauses.Statement.{statement}
@@ -39,7 +39,7 @@ all-clauses-requires c κs =
     let s = c .before .before .before .before .before .before .before .before .before in
     let a = s .args in
     let b = c .before .before .before .before .bounds in
-    let cs = clausesAt (a .size) (a .sheet .now) (a .p) in (
+    let cs = sheetClauses (a .size) (a .sheet .now) (a .p) in (
       (s .pre .0 .accepted, s .pre .0 .within),
       (s .pre .1 .0, enter-begins (a .sheet .now) (a .p) (a .size) (length (a .work .now)) (a .n .count) (s .pre .0) (s .pre .1 .0 .count) (0 ∷ []) (b .last .0) (b .ensures (allCodes cs) (s .pre .1 .1 .1) (length-map cs codes ∙ s .pre .1 .1 .0))),
     )
@@ -55,7 +55,7 @@ returns c =
     let a = s .args in
     let b = c .before .before .before .before .before .before .before .before .bounds in
     let t = c .before .before .before .all-clauses in
-    let cs = clausesAt (a .size) (a .sheet .now) (a .p) in
+    let cs = sheetClauses (a .size) (a .sheet .now) (a .p) in
     enter-ends (a .sheet .now) (a .p) (a .size) (length (a .work .now)) (a .n .count) (s .pre .0) (s .pre .1 .0 .count) (0 ∷ []) (b .last .0) (b .ensures (allCodes cs) (s .pre .1 .1 .1) (length-map cs codes ∙ s .pre .1 .1 .0)) (t .result) (t .last .1 .1 .1 .1 .1 .0) (t .last .1 .1 .1 .1 .1 .1 .0) (t .ensures)
 
 pub enter-clauses-spec : {M : Type 1} → statement M

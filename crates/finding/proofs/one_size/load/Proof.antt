@@ -6,7 +6,7 @@ use Rattle.theory.specs.Walk.{yesFirst}
 use Rattle.syntax.specs.Signatures.{signatureIn}
 use Rattle.loading.proofs.Ready.{entered-loaded}
 use Rattle.stream.specs.Literals.{allCodes}
-use Rattle.finding.specs.Searching.{Searchable, clausesAt}
+use Rattle.finding.specs.Searching.{Searchable, sheetClauses}
 use Rattle.finding.proofs.Fitting.{numbered, area-room}
 use borrow.Author.Needs.{needs}
 use Rattle.finding.proofs.one_size.load.Statement.{statement}
@@ -56,7 +56,7 @@ returns c =
     let k = c .before .before .before .before .before .before .before .before .before .before .before .before .count-clauses in
     let e = c .before .before .before .before .before .before .before .before .enter-clauses in
     let f = c .before .before .prefer-all in
-    let cs = clausesAt (a .size) (a .sheet .now) (a .p) in (
+    let cs = sheetClauses (a .size) (a .sheet .now) (a .p) in (
       k .ensures .0,
       entered-loaded (a .n .count) cs (yesFirst (a .size) (signatureIn (a .sheet .now) (a .p .signature))) (f .last .1 .1 .1 .0)
           (numbered (a .sheet .now) (a .p) (a .size) (length (a .work .now)) (a .n .count) (s .pre .0) (s .pre .1 (a .sheet .now) .count)) (f .ensures .0 (allCodes cs) (allCodes cs) (e .ensures)) (f .ensures .1 (a .sheet .now)),

@@ -2,7 +2,7 @@
 use mathlib.Core.Path.{_∙_}
 use Rattle.theory.specs.Walk.{yesFirst}
 use Rattle.syntax.specs.Signatures.{signatureIn}
-use Rattle.finding.specs.Searching.{clausesAt}
+use Rattle.finding.specs.Searching.{sheetClauses}
 use Rattle.finding.proofs.Searched.{searched-walked}
 use borrow.Author.Needs.{needs}
 use Rattle.finding.proofs.one_size.search_size.Statement.{statement}
@@ -36,7 +36,7 @@ returns c =
     let l = c .before .before .before .before .before .before .before .load in
     let t = c .before .before .solve in
     searched-walked (a .sheet .now) (a .p) (a .size) (a .n .count) (s .pre .1 (a .sheet .now) .count)
-    ∙ t .ensures (clausesAt (a .size) (a .sheet .now) (a .p)) (yesFirst (a .size) (signatureIn (a .sheet .now) (a .p .signature))) (l .ensures .1) (l .ensures .0) .answer
+    ∙ t .ensures (sheetClauses (a .size) (a .sheet .now) (a .p)) (yesFirst (a .size) (signatureIn (a .sheet .now) (a .p .signature))) (l .ensures .1) (l .ensures .0) .answer
 
 pub search-size-spec : {M : Type 1} → statement M
 search-size-spec = tie.close (tie.spec load-requires cast-solve solve-requires same-length returns)

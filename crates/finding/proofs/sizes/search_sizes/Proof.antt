@@ -6,12 +6,13 @@ use native.Mathlib.Omega.{arith}
 use native.Mathlib.Numerals.{add-one}
 use lib.ListN.{length}
 use Rattle.theory.specs.Least.{smallestModel}
+use Rattle.theory.specs.Valuation.{settingOf}
 use Rattle.problem.specs.Problems.{problemIn}
 use Rattle.finding.proofs.SizeBySize.{size-searchable, size-case, remaining, remaining-all, remaining-found, remaining-missed, remaining-none, missed, clauses-over}
 use Rattle.finding.proofs.Found.{found-at}
 use mathlib.Core.Bool.{Bool}
 use lib.ListN.{take, replicate}
-use Rattle.search.specs.Search.{settingOf, answered}
+use Rattle.search.specs.Search.{searchAnswer}
 use Rattle.finding.specs.Searching.{Searchable}
 use Rattle.finding.proofs.Endings.{ends-none, ends-whole}
 use Rattle.finding.proofs.sizes.search_sizes.Statement.{statement}
@@ -79,7 +80,7 @@ put-found-requires c κs =
       (
         n .ensures (a .sheet .now),
         (
-          t .ensures ∙ ap (λ (b : Bool). answered b (take (n .result .count) (t .last .1 .1 .1 .1 .0))) (c .before .before .if1 .taken),
+          t .ensures ∙ ap (λ (b : Bool). searchAnswer b (take (n .result .count) (t .last .1 .1 .1 .1 .0))) (c .before .before .if1 .taken),
           omega (arith, size-case (a .sheet .now) (a .p) (a .low) (a .high) W R (s .pre) (l .size) (l .inv .0) le, l .inv .4),
         ),
       ),
@@ -108,7 +109,7 @@ returns c =
     let le = c .before .before .before .before .before .before .before .before .before .before .before .before .before .loop-test .taken in
     let h = size-searchable (a .sheet .now) (a .p) (a .low) (a .high) W R (s .pre) (l .size) (l .inv .0) le in
     let least = found-at (l .size) q (h .positive) (clauses-over (a .sheet .now) (a .p) (l .size) W h) (settingOf (take (n .result .count) (t .last .1 .1 .1 .1 .0)))
-    (t .ensures ∙ ap (λ (b : Bool). answered b (take (n .result .count) (t .last .1 .1 .1 .1 .0))) (c .before .before .before .before .before .before .before .if1 .taken)) .least in
+    (t .ensures ∙ ap (λ (b : Bool). searchAnswer b (take (n .result .count) (t .last .1 .1 .1 .1 .0))) (c .before .before .before .before .before .before .before .if1 .taken)) .least in
     ends-whole q (a .low) (a .high) _ _ (f .result) (a .work .now) (t .last .1 .1 .1 .1 .0) (f .last .1 .1 .1 .1 .0) (a .output .now) (l .output) (f .last .1 .1 .1 .1 .1 .0)
     (l .inv .5 ∙ remaining-found q (a .high) (l .size) _ le least) (t .kept .1 .1 .1 .1 .0 ∙ l .inv .2) (l .inv .3) (f .ensures (a .low) (a .high))
 
@@ -133,7 +134,7 @@ loop-again c =
     let t = c .before .before .before .search-size in
     let le = c .before .before .before .before .before .before .loop-test .taken in
     let h = size-searchable (a .sheet .now) (a .p) (a .low) (a .high) W R (s .pre) (l .size) (l .inv .0) le in
-    let none = missed (a .sheet .now) (a .p) (l .size) W h (t .ensures ∙ ap (λ (b : Bool). answered b (take (n .result .count) (t .last .1 .1 .1 .1 .0))) (c .if1 .left)) in (
+    let none = missed (a .sheet .now) (a .p) (l .size) W h (t .ensures ∙ ap (λ (b : Bool). searchAnswer b (take (n .result .count) (t .last .1 .1 .1 .1 .0))) (c .if1 .left)) in (
       omega (arith, l .inv .0),
       omega (arith, le),
       t .kept .1 .1 .1 .1 .0 ∙ l .inv .2,

@@ -4,7 +4,7 @@ use mathlib.Core.Path.{_≡_, sym, _∙_}
 use native.Mathlib.Omega.{arith}
 use Rattle.interpretation.proofs.Ranks.{table-within}
 use Rattle.forms.proofs.Weights.{weight-within, weight-past, weight-small}
-use Rattle.forms.specs.LinearForms.{weight}
+use Rattle.forms.specs.LinearForms.{rankWeight}
 use Prim.Native.Nat.{_-_}
 use Rattle.forms.proofs.linear.weight_of.Statement.{statement}
 use Rattle.forms.proofs.linear.weight_of.Tie as tie
@@ -29,7 +29,7 @@ cast-result c =
 returns : tie.Need-returns
 returns c =
     let s = c .before .before in
-    let e : c .power .result ≡ weight (s .args .size) (s .args .arity) (s .args .j) = c .power .ensures ∙ sym (weight-within (s .args .size) (s .args .arity) (s .args .j) (c .before .if1 .taken)) in
+    let e : c .power .result ≡ rankWeight (s .args .size) (s .args .arity) (s .args .j) = c .power .ensures ∙ sym (weight-within (s .args .size) (s .args .arity) (s .args .j) (c .before .if1 .taken)) in
     (e, omega (arith, e, weight-small (s .args .size) (s .args .arity) (s .args .j) (s .pre .1) (s .pre .0)))
 
 returns-2 : tie.Need-returns-2

@@ -8,7 +8,7 @@ use Rattle.stream.proofs.Streams.{consumes-same, consumed-same}
 use lib.ListN.{take}
 use Rattle.theory.specs.Propositional.{PropClause}
 use Rattle.theory.specs.PropClauses.{someResult, notTwo}
-use Rattle.stream.specs.Literals.{clauseOf}
+use Rattle.stream.specs.Literals.{propClauseOf}
 use Rattle.stream.proofs.Streams.{first-consumes, rest-consumes, both-consumed}
 use borrow.Author.Needs.{needs}
 use Rattle.grounding.proofs.cell_clauses.cell.Statement.{statement}
@@ -30,7 +30,7 @@ take-clause-requires c κs =
     let x = state (a .start) (a .out .now) (a .work .now) in
     let some = someResult (a .size) (1 + a .x) in
     let two = notTwo (a .size) (1 + a .x) in
-    let c₁ = clauseOf (take (a .size) (c .before .before .before .some-result .result)) in
+    let c₁ = propClauseOf (take (a .size) (c .before .before .before .some-result .result)) in
     let e = ap (λ (c : PropClause). c ∷ []) (c .before .before .before .some-result .ensures) in
     consumes-same (a .mode) (a .v) (some ∷ []) (c₁ ∷ []) x (sym e) (first-consumes (a .mode) (a .v) (some ∷ []) two x (s .pre .1))
 
@@ -41,7 +41,7 @@ not-two-requires c κs =
     let x = state (a .start) (a .out .now) (a .work .now) in
     let some = someResult (a .size) (1 + a .x) in
     let two = notTwo (a .size) (1 + a .x) in
-    let c₁ = clauseOf (take (a .size) (c .before .before .before .before .before .before .before .before .before .before .some-result .result)) in
+    let c₁ = propClauseOf (take (a .size) (c .before .before .before .before .before .before .before .before .before .before .some-result .result)) in
     let e = ap (λ (c : PropClause). c ∷ []) (c .before .before .before .before .before .before .before .before .before .before .some-result .ensures) in
     let t = c .before .before .before .before .before .before .take-clause in
     let z = state (t .result) (t .last .1 .1 .1 .0) (t .last .1 .1 .1 .1 .0) in
@@ -60,7 +60,7 @@ returns c =
     let x = state (a .start) (a .out .now) (a .work .now) in
     let some = someResult (a .size) (1 + a .x) in
     let two = notTwo (a .size) (1 + a .x) in
-    let c₁ = clauseOf (take (a .size) (c .before .before .before .before .before .before .before .before .before .before .before .before .before .before .before .some-result .result)) in
+    let c₁ = propClauseOf (take (a .size) (c .before .before .before .before .before .before .before .before .before .before .before .before .before .before .before .some-result .result)) in
     let e = ap (λ (c : PropClause). c ∷ []) (c .before .before .before .before .before .before .before .before .before .before .before .before .before .before .before .some-result .ensures) in
     let t = c .before .before .before .before .before .before .before .before .before .before .before .take-clause in
     let z = state (t .result) (t .last .1 .1 .1 .0) (t .last .1 .1 .1 .1 .0) in

@@ -4,7 +4,7 @@ use mathlib.Core.Path.{sym, ap}
 use mathlib.Core.List.{[], _∷_}
 use Rattle.theory.specs.Propositional.{PropClause}
 use Rattle.theory.specs.PropClauses.{notBoth}
-use Rattle.stream.specs.Literals.{clauseOf}
+use Rattle.stream.specs.Literals.{propClauseOf}
 use Rattle.stream.specs.Consuming.{state}
 use Rattle.stream.proofs.Streams.{consumes-same, consumed-same}
 use Rattle.grounding.proofs.CellWalk.{pair-clause}
@@ -35,7 +35,7 @@ take-clause-requires c κs =
     let u = c .before .before .before .before .literal .result in
     let w = c .before .before .before .literal2 .result in
     let e = pair-clause (a .x) (a .d) (a .e) u w (c .before .before .before .before .literal .ensures) (c .before .before .before .literal2 .ensures) in
-    consumes-same (a .mode) (a .v) (notBoth (1 + a .x) (a .d) (a .e) ∷ []) (clauseOf (u ∷ w ∷ []) ∷ []) x (ap (λ (c : PropClause). c ∷ []) (sym e)) (s .pre .1)
+    consumes-same (a .mode) (a .v) (notBoth (1 + a .x) (a .d) (a .e) ∷ []) (propClauseOf (u ∷ w ∷ []) ∷ []) x (ap (λ (c : PropClause). c ∷ []) (sym e)) (s .pre .1)
 
 same-length : tie.Need-same-length
 same-length c = search needs
@@ -52,7 +52,7 @@ returns c =
     let w = c .before .before .before .before .before .before .before .before .literal2 .result in
     let e = pair-clause (a .x) (a .d) (a .e) u w (c .before .before .before .before .before .before .before .before .before .literal .ensures) (c .before .before .before .before .before .before .before .before .literal2 .ensures) in
     let t = c .before .before .before .before .take-clause in
-    consumed-same (a .mode) (a .v) (clauseOf (u ∷ w ∷ []) ∷ []) (notBoth (1 + a .x) (a .d) (a .e) ∷ []) x (state (t .result) (t .last .1 .1 .1 .0) (t .last .1 .1 .1 .1 .0)) (ap (λ (c : PropClause). c ∷ []) e) (t .ensures)
+    consumed-same (a .mode) (a .v) (propClauseOf (u ∷ w ∷ []) ∷ []) (notBoth (1 + a .x) (a .d) (a .e) ∷ []) x (state (t .result) (t .last .1 .1 .1 .0) (t .last .1 .1 .1 .1 .0)) (ap (λ (c : PropClause). c ∷ []) e) (t .ensures)
 
 pub not-both-spec : {M : Type 1} → statement M
 not-both-spec =

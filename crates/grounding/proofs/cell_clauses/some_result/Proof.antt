@@ -6,13 +6,13 @@ use native.Mathlib.Numerals.{add-one}
 use native.Mathlib.Omega.{arith}
 use lib.ListN.{length, take, length-set}
 use Rattle.theory.specs.PropClauses.{someResult}
-use Rattle.stream.specs.Literals.{clauseOf}
+use Rattle.stream.specs.Literals.{propClauseOf}
 use Rattle.grounding.proofs.CellWalk.{result-more}
 use Rattle.grounding.proofs.cell_clauses.some_result.Statement.{statement}
 use Rattle.grounding.proofs.cell_clauses.some_result.Tie as tie
 
 abbrev Inv-loop : tie.InvT-loop
-Inv-loop x size some₀ d₀ some d = (d ≤ size) × (length some ≡ 8) × (clauseOf (take d some) ≡ someResult d (1 + x))
+Inv-loop x size some₀ d₀ some d = (d ≤ size) × (length some ≡ 8) × (propClauseOf (take d some) ≡ someResult d (1 + x))
 
 abbrev μ-loop : tie.MeasureT-loop
 μ-loop x size some₀ d₀ some d = size - d

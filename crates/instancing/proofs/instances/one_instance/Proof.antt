@@ -6,7 +6,7 @@ use native.Mathlib.Omega.{arith}
 use lib.ListN.{take}
 use lib.Seq.{length-take-le}
 use Rattle.theory.specs.Instances.{kept}
-use Rattle.stream.specs.Literals.{clauseOf}
+use Rattle.stream.specs.Literals.{propClauseOf}
 use Rattle.stream.specs.Consuming.{state}
 use Rattle.stream.proofs.Streams.{consumes-same, consumed-same}
 use Rattle.forms.specs.LinearForms.{formInstance}
@@ -24,7 +24,7 @@ returns : tie.Need-returns
 returns c =
     let a = c .before .before .before .before .before .before .before .before .before .args in
     let r = c .before .before .before .instance-at in
-    dropped-consumed (a .mode) (a .v) (state (a .start) (a .out .now) (a .work .now)) (r .result .kept) (kept (formInstance (a .values .now) (a .count) (a .forms .now))) (clauseOf (take (r .result .count) (r .last .1 .1 .1 .0))) (c .if1 .taken) (r .ensures .1)
+    dropped-consumed (a .mode) (a .v) (state (a .start) (a .out .now) (a .work .now)) (r .result .kept) (kept (formInstance (a .values .now) (a .count) (a .forms .now))) (propClauseOf (take (r .result .count) (r .last .1 .1 .1 .0))) (c .if1 .taken) (r .ensures .1)
 
 array-share-prefix-codes : tie.Need-array-share-prefix-codes
 array-share-prefix-codes c = search needs
@@ -39,7 +39,7 @@ take-clause-requires c κs =
     let s = c .before .before .before .before .before .before .before .before .before .before .before .before in
     let a = s .args in
     let r = c .before .before .before .before .before .before .instance-at in
-    let c₁ = clauseOf (take (r .result .count) (r .last .1 .1 .1 .0)) in
+    let c₁ = propClauseOf (take (r .result .count) (r .last .1 .1 .1 .0)) in
     let cs = kept (formInstance (a .values .now) (a .count) (a .forms .now)) in
     consumes-same (a .mode) (a .v) cs (c₁ ∷ []) (state (a .start) (a .out .now) (a .work .now)) (taken (r .result .kept) cs c₁ (c .before .before .before .if1 .left) (r .ensures .1)) (s .pre .1)
 
@@ -54,7 +54,7 @@ returns-2 c =
     let a = c .before .before .before .before .before .before .before .before .before .before .before .before .before .before .before .before .before .args in
     let r = c .before .before .before .before .before .before .before .before .before .before .before .instance-at in
     let t = c .before .before .before .before .take-clause in
-    let c₁ = clauseOf (take (r .result .count) (r .last .1 .1 .1 .0)) in
+    let c₁ = propClauseOf (take (r .result .count) (r .last .1 .1 .1 .0)) in
     let cs = kept (formInstance (a .values .now) (a .count) (a .forms .now)) in
     consumed-same (a .mode) (a .v) (c₁ ∷ []) cs (state (a .start) (a .out .now) (a .work .now)) (state (t .result) (t .last .1 .1 .1 .0) (t .last .1 .1 .1 .1 .0)) (sym (taken (r .result .kept) cs c₁ (c .before .before .before .before .before .before .before .before .if1 .left) (r .ensures .1))) (t .ensures)
 

@@ -3,14 +3,14 @@ use mathlib.Core.Path.{refl}
 use Prim.Native.Nat.{_-_, _<_}
 use native.Mathlib.Omega.{arith}
 use lib.ListN.{length, getD}
-use Rattle.propagation.specs.Weights.{more, Room}
+use Rattle.propagation.specs.Weights.{more, RoomFor}
 use Rattle.propagation.proofs.Addresses.{Changing, first-within, changing-turn, changing-done}
 use Rattle.propagation.proofs.weights.raise.Statement.{statement}
 use Rattle.propagation.proofs.weights.raise.Tie as tie
 
 abbrev Inv-loop : tie.InvT-loop
 Inv-loop w₀ from to d k₀ w k =
-    Changing (Room d) (more d) from to w₀ w k
+    Changing (RoomFor d) (more d) from to w₀ w k
 
 abbrev μ-loop : tie.MeasureT-loop
 μ-loop w₀ from to d k₀ w k = to - k
@@ -22,7 +22,7 @@ loop-holds c = (c .before .pre, refl, refl)
 at-place : (c : tie.In-loop Inv-loop μ-loop) → getD (c .before .loop .work) (c .before .loop .place) 0 < length (c .before .loop .work)
 at-place c =
     let at = c .before .loop in
-    first-within (Room (c .before .before .before .args .amount)) (c .before .before .before .args .from) (at .place) (c .before .before .before .args .to) (at .work) (at .inv .0) (c .loop-test .taken)
+    first-within (RoomFor (c .before .before .before .args .amount)) (c .before .before .before .args .from) (at .place) (c .before .before .before .args .to) (at .work) (at .inv .0) (c .loop-test .taken)
 
 mul-wide : tie.Need-mul-wide Inv-loop μ-loop
 mul-wide c = omega arith
@@ -60,7 +60,7 @@ loop-again : tie.Need-loop-again Inv-loop μ-loop
 loop-again c =
     let at = c .before .before .before .before .loop in
     let args = c .before .before .before .before .before .before .args in
-    changing-turn (Room (args .amount)) (more (args .amount)) (args .from) (args .to) (args .work .now) (at .work) (at .place) (at .inv) (c .before .wide .result)
+    changing-turn (RoomFor (args .amount)) (more (args .amount)) (args .from) (args .to) (args .work .now) (at .work) (at .place) (at .inv) (c .before .wide .result)
     (c .before .before .before .loop-test .taken) (c .before .wide .ensures)
 
 same-length : tie.Need-same-length Inv-loop μ-loop
@@ -69,7 +69,7 @@ same-length c = c .before .loop .inv .1
 returns : tie.Need-returns Inv-loop μ-loop
 returns c =
     let args = c .before .before .before .args in
-    changing-done (Room (args .amount)) (more (args .amount)) (args .from) (args .to) (args .work .now) (c .before .loop .work) (c .before .loop .place) (c .before .loop .inv) (c .loop-test .left)
+    changing-done (RoomFor (args .amount)) (more (args .amount)) (args .from) (args .to) (args .work .now) (c .before .loop .work) (c .before .loop .place) (c .before .loop .inv) (c .loop-test .left)
 
 pub raise-spec : {M : Type 1} → statement M
 raise-spec =

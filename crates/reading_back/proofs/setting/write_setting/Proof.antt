@@ -11,7 +11,7 @@ use Rattle.theory.specs.CaseText.{caseText, caseLength}
 use Rattle.theory.specs.Operations.{over}
 use Rattle.theory.specs.Valuation.{readBack}
 use Rattle.syntax.specs.Signatures.{signatureIn}
-use Rattle.reading_back.specs.Bits.{Writable}
+use Rattle.reading_back.specs.Bits.{WritableBits}
 use Rattle.reading_back.proofs.Bits.{setting-held}
 use Rattle.reading_back.proofs.Written.{text-length}
 use Rattle.reading_back.proofs.Answered.{refused-so, written-so, other-length, other-bytes, not-functional, no-room, text-said}
@@ -100,7 +100,7 @@ write-case-requires c κs =
     let binary = sym (c .before .before .before .before .before .before .before .is-binary .ensures) ∙ not-false (c .before .before .before .before .before .before .before .is-binary .result) (c .before .before .before .before .before .before .if2 .left) in
     let functional = sym (c .before .before .before .before .before .is-functional .ensures (a .sheet .now)) ∙ not-false (c .before .before .before .before .before .is-functional .result) (c .before .before .before .before .if3 .left) in
     let m = c .before .before .before .case-length .ensures (a .sheet .now) (s .pre .0) in
-    let w : Writable (a .sheet .now) (a .signature) (n .result) (a .size .0) (a .setting .now) =
+    let w : WritableBits (a .sheet .now) (a .signature) (n .result) (a .size .0) (a .setting .now) =
     record {
       readable = s .pre .0;
       positive = s .pre .1 .1 .0;
@@ -110,7 +110,7 @@ write-case-requires c κs =
       binary = binary;
       functional = functional;
     } in
-    (subst (Writable (a .sheet .now) (a .signature) (n .result) (a .size .0)) (sym (setting-held (a .setting .now))) w, omega (arith, c .before .before .if4 .left, m))
+    (subst (WritableBits (a .sheet .now) (a .signature) (n .result) (a .size .0)) (sym (setting-held (a .setting .now))) w, omega (arith, c .before .before .if4 .left, m))
 
 same-length : tie.Need-same-length
 same-length c = search needs
@@ -125,7 +125,7 @@ returns-5 c =
     let binary = sym (c .before .before .before .before .before .before .before .before .before .before .is-binary .ensures) ∙ not-false (c .before .before .before .before .before .before .before .before .before .before .is-binary .result) (c .before .before .before .before .before .before .before .before .before .if2 .left) in
     let functional = sym (c .before .before .before .before .before .before .before .before .is-functional .ensures (a .sheet .now)) ∙ not-false (c .before .before .before .before .before .before .before .before .is-functional .result) (c .before .before .before .before .before .before .before .if3 .left) in
     let m = c .before .before .before .before .before .before .case-length .ensures (a .sheet .now) (s .pre .0) in
-    let w : Writable (a .sheet .now) (a .signature) (n .result) (a .size .0) (a .setting .now) =
+    let w : WritableBits (a .sheet .now) (a .signature) (n .result) (a .size .0) (a .setting .now) =
     record {
       readable = s .pre .0;
       positive = s .pre .1 .1 .0;

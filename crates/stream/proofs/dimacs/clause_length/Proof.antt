@@ -6,13 +6,13 @@ use native.Mathlib.Omega.{arith}
 use native.Mathlib.Numerals.{add-one}
 use lib.ListN.{length, getD, take, length-append}
 use mathlib.Core.List.{_∷_, []}
-use Rattle.stream.specs.Literals.{clauseOf, literalOf, spaced}
+use Rattle.stream.specs.Literals.{propClauseOf, literalOf, literalSpaced}
 use Rattle.stream.proofs.Texts.{body, body-more, body-fits, body-all}
 use Rattle.stream.proofs.dimacs.clause_length.Statement.{statement}
 use Rattle.stream.proofs.dimacs.clause_length.Tie as tie
 
 abbrev Inv-loop : tie.InvT-loop
-Inv-loop clause n₀ i₀ n i = (i ≤ length clause) × (n ≡ length (body (clauseOf (take i clause))) + 2)
+Inv-loop clause n₀ i₀ n i = (i ≤ length clause) × (n ≡ length (body (propClauseOf (take i clause))) + 2)
 
 abbrev μ-loop : tie.MeasureT-loop
 μ-loop clause n₀ i₀ n i = length clause - i
@@ -50,7 +50,7 @@ loop-again c =
         arith,
         c .literal-length .ensures,
         ap length (body-more us (l .i) (omega arith)),
-        length-append (body (clauseOf (take (l .i) us))) (spaced (literalOf (getD us (l .i) 0))),
+        length-append (body (propClauseOf (take (l .i) us))) (literalSpaced (literalOf (getD us (l .i) 0))),
       )),
     )
 
@@ -59,7 +59,7 @@ returns c =
     let l = c .before .loop in
     let us = c .before .before .before .args .clause .now in
     let e : l .i ≡ length us = omega arith in
-    omega (arith, ap length (body-all us (l .i) e), length-append (body (clauseOf (take (l .i) us))) (48 ∷ 10 ∷ []))
+    omega (arith, ap length (body-all us (l .i) e), length-append (body (propClauseOf (take (l .i) us))) (48 ∷ 10 ∷ []))
 
 pub clause-length-spec : {M : Type 1} → statement M
 clause-length-spec =

@@ -6,13 +6,13 @@ use native.Mathlib.Omega.{arith}
 use native.Mathlib.Numerals.{add-one}
 use lib.ListN.{length, getD, take, length-set}
 use Rattle.text.specs.Put.{put, put-none, put-run, cursor-run}
-use Rattle.stream.specs.Literals.{clauseOf, literalOf, spaced}
+use Rattle.stream.specs.Literals.{propClauseOf, literalOf, literalSpaced}
 use Rattle.stream.proofs.Texts.{body, body-more, body-fits, line-ended, end-fits}
 use Rattle.stream.proofs.dimacs.put_clause.Statement.{statement}
 use Rattle.stream.proofs.dimacs.put_clause.Tie as tie
 
 abbrev Inv-loop : tie.InvT-loop
-Inv-loop out₀ at clause e₀ i₀ out e i = (i ≤ length clause) × (length out ≡ length out₀) × (out ≡ put out₀ at (body (clauseOf (take i clause)))) × (e ≡ at + length (body (clauseOf (take i clause))))
+Inv-loop out₀ at clause e₀ i₀ out e i = (i ≤ length clause) × (length out ≡ length out₀) × (out ≡ put out₀ at (body (propClauseOf (take i clause)))) × (e ≡ at + length (body (propClauseOf (take i clause))))
 
 abbrev μ-loop : tie.MeasureT-loop
 μ-loop out₀ at clause e₀ i₀ out e i = length clause - i
@@ -47,9 +47,9 @@ loop-again c =
     let more = body-more us (l .i) (omega arith) in (
       omega arith,
       p .kept .0 ∙ l .inv .1,
-      rw (add-one, more) (put-run (s .args .out .now) (l .out) (p .last .0) (s .args .at) (l .e) (body (clauseOf (take (l .i) us))) (spaced (literalOf (getD us (l .i) 0))) (l .inv .2) (l .inv .3) (p .ensures .0)
+      rw (add-one, more) (put-run (s .args .out .now) (l .out) (p .last .0) (s .args .at) (l .e) (body (propClauseOf (take (l .i) us))) (literalSpaced (literalOf (getD us (l .i) 0))) (l .inv .2) (l .inv .3) (p .ensures .0)
           (omega (arith, s .pre, body-fits us (l .i) (omega arith)))),
-      rw (add-one, more) (cursor-run (s .args .at) (l .e) (p .result) (body (clauseOf (take (l .i) us))) (spaced (literalOf (getD us (l .i) 0))) (l .inv .3) (p .ensures .1)),
+      rw (add-one, more) (cursor-run (s .args .at) (l .e) (p .result) (body (propClauseOf (take (l .i) us))) (literalSpaced (literalOf (getD us (l .i) 0))) (l .inv .3) (p .ensures .1)),
     )
 
 slice-write-out : tie.Need-slice-write-out Inv-loop μ-loop

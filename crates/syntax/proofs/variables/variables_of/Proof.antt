@@ -7,14 +7,14 @@ use native.Mathlib.Omega.{arith}
 use lib.ListN.{length, take}
 use borrow.Author.Needs.{needs}
 use Rattle.theory.specs.Lists.{distinct}
-use Rattle.syntax.specs.Codes.{wordOf}
+use Rattle.syntax.specs.Codes.{codeWord}
 use Rattle.syntax.specs.Variables.{lettersOf, Places, variablesIn}
 use Rattle.syntax.proofs.Places.{few, none-placed, letters-below, letters-more}
 use Rattle.syntax.proofs.variables.variables_of.Statement.{statement}
 use Rattle.syntax.proofs.variables.variables_of.Tie as tie
 
 abbrev Inv-loop : tie.InvT-loop
-Inv-loop c found₀ i₀ found i = (i ≤ c .count) × Places (distinct (lettersOf (map wordOf (take i (c .words))))) found
+Inv-loop c found₀ i₀ found i = (i ≤ c .count) × Places (distinct (lettersOf (map codeWord (take i (c .words))))) found
 
 abbrev μ-loop : tie.MeasureT-loop
 μ-loop c found₀ i₀ found i = c .count - i
@@ -31,7 +31,7 @@ with-word-requires c κs =
     let l = c .before .before .loop in
     let ns = s .args .t1 .words in
     let k = letters-below ns (l .i) (λ j h. s .pre .1 j (omega arith)) in
-    (s .pre .1 (l .i) (omega arith), omega (arith, l .inv .1 .count, few (lettersOf (map wordOf (take (l .i) ns))) k (l .found) (l .inv .1)))
+    (s .pre .1 (l .i) (omega arith), omega (arith, l .inv .1 .count, few (lettersOf (map codeWord (take (l .i) ns))) k (l .found) (l .inv .1)))
 
 add-i : tie.Need-add-i Inv-loop μ-loop
 add-i c = search needs
@@ -47,7 +47,7 @@ loop-again c =
     let n : length ns ≡ 64 = search needs in (
       omega arith,
       rw (add-one, letters-more ns (l .i) (omega arith))
-          (c .with-word .ensures (lettersOf (map wordOf (take (l .i) ns))) (letters-below ns (l .i) (λ j h. s .pre .1 j (omega arith))) (l .inv .1)),
+          (c .with-word .ensures (lettersOf (map codeWord (take (l .i) ns))) (letters-below ns (l .i) (λ j h. s .pre .1 j (omega arith))) (l .inv .1)),
     )
 
 returns : tie.Need-returns Inv-loop μ-loop

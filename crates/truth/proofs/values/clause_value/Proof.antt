@@ -8,8 +8,8 @@ use native.Mathlib.Omega.{arith}
 use lib.ListN.{length, drop}
 use Rattle.theory.specs.Truth.{assign}
 use Rattle.theory.specs.Cells.{interpretation}
-use Rattle.syntax.specs.Codes.{wordOf}
-use Rattle.truth.specs.Values.{Chosen, Held, ClauseLent, tablesIn}
+use Rattle.syntax.specs.Codes.{codeWord}
+use Rattle.truth.specs.Values.{Chosen, ValuesHeld, ClauseLent, tablesIn}
 use Rattle.truth.proofs.Clausewise.{clause-grows, none-held, word-lent, word-held}
 use Rattle.truth.proofs.values.clause_value.Statement.{statement}
 use Rattle.truth.proofs.values.clause_value.Tie as tie
@@ -18,7 +18,7 @@ abbrev Inv-loop : tie.InvT-loop
 Inv-loop words place arities functions bases cells size choice stack₀ m₀ i₀ stack m i =
     (i ≤ length words) × (length stack ≡ 64) × (m .holds ≡ false)
     × ((c : ClauseLent words place (tablesIn arities functions bases cells) cells size) → Chosen (c .variables) size choice
-    → Held (c .signature) (interpretation size (c .signature) cells) (assign (c .variables) choice) size (drop i (map wordOf words)) stack m)
+    → ValuesHeld (c .signature) (interpretation size (c .signature) cells) (assign (c .variables) choice) size (drop i (map codeWord words)) stack m)
 
 abbrev μ-loop : tie.MeasureT-loop
 μ-loop words place arities functions bases cells size choice stack₀ m₀ i₀ stack m i = i

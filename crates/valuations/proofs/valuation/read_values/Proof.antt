@@ -7,7 +7,7 @@ use mathlib.Core.Path.{_≡_, refl, sym, ap, _∙_}
 use native.Mathlib.Numerals.{add-one}
 use native.Mathlib.Omega.{arith}
 use lib.ListN.{length, take, length-set}
-use Rattle.valuations.specs.Cells.{settingOf}
+use Rattle.theory.specs.Valuation.{settingOf}
 use Rattle.valuations.proofs.valuation.read_values.Statement.{statement}
 use Rattle.valuations.proofs.valuation.read_values.Tie as tie
 use Rattle.valuations.proofs.valuation.read_values.Reads as reads

@@ -1,4 +1,4 @@
--- Demand 3 on bytes: the settings that satisfy the text that Write leaves are read back, one to one, to the models of the sheet as handed in.
+-- ReadingBack: demand 3 on bytes. The settings that satisfy the text that Write leaves are read back, one to one, to the models of the sheet as handed in.
 use Prim.Native.Nat.{ℕ, _≤_}
 use mathlib.Core.Path.{_≡_}
 use mathlib.Core.Logic.{_↔_}
@@ -23,7 +23,7 @@ pub record ModelText (sheet : List ℕ) (p : Problem) (size : ℕ) (c : List ℕ
   pub model : judgeAnswer sheet c ≡ answer true
 
 -- for a sheet and a size, the text that Write leaves, and an output of Read back of so many bytes
-pub record Demand3 (sheet : List ℕ) (p : Problem) (size : ℕ) (text : List ℕ) (room : ℕ) : Type 0 where
+pub record ReadingBack (sheet : List ℕ) (p : Problem) (size : ℕ) (text : List ℕ) (room : ℕ) : Type 0 where
   -- each setting that satisfies the text is read back as a model of the sheet
   pub readsBack : (σ : List ℕ) → Satisfying p size text σ → (c : List ℕ) × (readBackText sheet size σ room ≡ answer c) × ModelText sheet p size c
   -- two of them are equal exactly when the models read back from them are equal
@@ -35,6 +35,6 @@ pub record Demand3 (sheet : List ℕ) (p : Problem) (size : ℕ) (text : List �
       × ((τ : List ℕ) → Satisfying p size text τ → readBackText sheet size τ room ≡ answer c → τ ≡ σ)
 
 -- it holds for every sheet and size that are not refused for their content, and outputs that are large enough
-abbrev pub Demand3Holds : Type 0
-Demand3Holds = (sheet : List ℕ) (p : Problem) (size room₁ room₂ : ℕ) (text : List ℕ) → contentOf sheet size ≡ answer p
-    → writtenText sheet size room₁ ≡ answer text → caseLength size (p .symbols) ≤ room₂ → Demand3 sheet p size text room₂
+abbrev pub ReadingBackHolds : Type 0
+ReadingBackHolds = (sheet : List ℕ) (p : Problem) (size room₁ room₂ : ℕ) (text : List ℕ) → contentOf sheet size ≡ answer p
+    → writtenText sheet size room₁ ≡ answer text → caseLength size (p .symbols) ≤ room₂ → ReadingBack sheet p size text room₂

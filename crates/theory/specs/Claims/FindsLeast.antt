@@ -1,4 +1,4 @@
--- Demand 2 on bytes: what Find finds is the least model of the sheet at the smallest size that has one; it says none exactly if no case of a searched size is a model.
+-- FindsLeast: demand 2 on bytes. What Find finds is the least model of the sheet at the smallest size that has one; it says none exactly if no case of a searched size is a model.
 use Prim.Native.Nat.{ℕ, _≤_, _<_}
 use mathlib.Core.Path.{_≡_}
 use mathlib.Core.Logic.{_⊎_}
@@ -8,7 +8,7 @@ use Rattle.theory.specs.Refusals.{Answer, answer}
 use Rattle.theory.specs.Problem.{Problem, readProblem}
 use Rattle.theory.specs.CaseText.{Case, readCase}
 use Rattle.theory.specs.Operations.{judgeAnswer, Search, found, nothing, findResult}
-use Rattle.theory.specs.Claims.Demand3.{ModelText}
+use Rattle.theory.specs.Claims.ReadingBack.{ModelText}
 use Rattle.theory.specs.Claims.Least.{NotAfter}
 
 -- the text d of a model of size t does not come before the case k of size s: its size is larger, or the same and its values do not come before
@@ -24,11 +24,11 @@ pub record LeastText (sheet : List ℕ) (p : Problem) (low high s : ℕ) (c : Li
   pub least : (t : ℕ) (d : List ℕ) → low ≤ t → t ≤ high → ModelText sheet p t d → NotBefore p s (model .case) t d
 
 -- the theorem, of one search
-pub record Demand2 (sheet : List ℕ) (p : Problem) (low high : ℕ) (answered : Answer Search) : Type 0 where
+pub record FindsLeast (sheet : List ℕ) (p : Problem) (low high : ℕ) (answered : Answer Search) : Type 0 where
   pub finds : (s : ℕ) (c : List ℕ) → answered ≡ answer (found s c) → LeastText sheet p low high s c
   pub findsNone : (b : Bool) → answered ≡ answer (nothing b) → (t : ℕ) (d : List ℕ) → low ≤ t → t ≤ high → ModelText sheet p t d → ⊥
-  pub none : ((t : ℕ) (d : List ℕ) → low ≤ t → t ≤ high → ModelText sheet p t d → ⊥) → (s : ℕ) (c : List ℕ) → answered ≡ answer (found s c) → ⊥
+  pub noneIf : ((t : ℕ) (d : List ℕ) → low ≤ t → t ≤ high → ModelText sheet p t d → ⊥) → (s : ℕ) (c : List ℕ) → answered ≡ answer (found s c) → ⊥
 
 -- it holds of every search
-abbrev pub Demand2Holds : Type 0
-Demand2Holds = (sheet : List ℕ) (p : Problem) (low high work room : ℕ) → readProblem sheet ≡ answer p → Demand2 sheet p low high (findResult sheet low high work room)
+abbrev pub FindsLeastHolds : Type 0
+FindsLeastHolds = (sheet : List ℕ) (p : Problem) (low high work room : ℕ) → readProblem sheet ≡ answer p → FindsLeast sheet p low high (findResult sheet low high work room)

@@ -1,4 +1,4 @@
--- Demand 3 on bytes: the settings that satisfy the text that Write leaves are read back, one to one, to the models of the sheet as handed in.
+-- ReadingBack: demand 3 on bytes. The settings that satisfy the text that Write leaves are read back, one to one, to the models of the sheet as handed in.
 use Prim.Native.Nat.{ℕ, zero, _≤_, _<_}
 use mathlib.Core.Path.{_≡_, refl, sym, ap, _∙_}
 use mathlib.Core.Bool.{Bool, true, _&&_}
@@ -15,7 +15,7 @@ use Rattle.theory.specs.Problem.{Problem, readProblem}
 use Rattle.theory.specs.CaseText.{Case, caseText, caseLength, readCase}
 use Rattle.theory.specs.Operations.{isSize, judgeAnswer, contentOf, writtenText, readBackText}
 use Rattle.theory.specs.Claims.Encoding.{Encoding}
-use Rattle.theory.specs.Claims.Demand3.{Satisfying, ModelText, Demand3, Demand3Holds}
+use Rattle.theory.specs.Claims.ReadingBack.{Satisfying, ModelText, ReadingBack, ReadingBackHolds}
 use Rattle.theory.proofs.Tests.{leb-true, leb-of-≤, and-left, and-right, and-join}
 use Rattle.theory.proofs.Answers.{unbind, bind-step, answer-inj, check-true, check-of-true}
 use Rattle.theory.proofs.Dimacs.{written-clauses}
@@ -133,8 +133,8 @@ module _ (sheet : List ℕ) (p : Problem) (size : ℕ) (text : List ℕ) (room :
       let rb : readBackText sheet size σ room ≡ answer c = read-back σ (r .1) (r .2) ∙ ap answer (ap (caseText size g) same ∙ i .written-as) in
       (σ, sat, rb, λ τ hτ rτ. one-to-one τ σ c c hτ sat rτ rb refl)
 
-  demand3-holds : Demand3 sheet p size text room
-  demand3-holds =
+  read-back-whole : ReadingBack sheet p size text room
+  read-back-whole =
       record {
         readsBack = reads-back;
         equal = λ σ τ c d hσ hτ rσ rτ. (
@@ -144,7 +144,7 @@ module _ (sheet : List ℕ) (p : Problem) (size : ℕ) (text : List ℕ) (room :
         onto = onto;
       }
 
-pub demand3 : Demand3Holds
-demand3 sheet p size room₁ room₂ text content written fits =
+pub reading-back : ReadingBackHolds
+reading-back sheet p size room₁ room₂ text content written fits =
     let a = content-accepted sheet size p content in
-    demand3-holds sheet p size text room₂ (a .0) (a .1) (written-text sheet size room₁ p text content written) fits
+    read-back-whole sheet p size text room₂ (a .0) (a .1) (written-text sheet size room₁ p text content written) fits

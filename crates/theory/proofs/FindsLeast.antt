@@ -1,4 +1,4 @@
--- Demand 2 on bytes: Find's case is the least model at the smallest size, and none is said exactly if no case of a searched size is a model.
+-- FindsLeast: demand 2 on bytes. Find's case is the least model at the smallest size, and none is said exactly if no case of a searched size is a model.
 use Prim.Native.Nat.{ℕ, zero, _≤_, _<_}
 use mathlib.Core.Path.{_≡_, refl, sym, ap, _∙_, subst}
 use mathlib.Core.Logic.{_⊎_, inl, inr}
@@ -14,9 +14,9 @@ use Rattle.theory.specs.Problem.{Problem, readProblem}
 use Rattle.theory.specs.CaseText.{Case, caseText, caseLength}
 use Rattle.theory.specs.Least.{leastModel, smallestModel, settled}
 use Rattle.theory.specs.Operations.{maxInstances, Search, found, nothing, searchOf, findResult}
-use Rattle.theory.specs.Claims.Least.{NotAfter, Model, Least}
-use Rattle.theory.specs.Claims.Demand3.{ModelText}
-use Rattle.theory.specs.Claims.Demand2.{NotBefore, LeastText, Demand2, Demand2Holds}
+use Rattle.theory.specs.Claims.Least.{NotAfter, ModelCells, Least}
+use Rattle.theory.specs.Claims.ReadingBack.{ModelText}
+use Rattle.theory.specs.Claims.FindsLeast.{NotBefore, LeastText, FindsLeast, FindsLeastHolds}
 use Rattle.theory.proofs.Tests.{leb-true, and-left, and-right, lt-or-eq-or-gt}
 use Rattle.theory.proofs.Answers.{unbind, answer-inj, check-true}
 use Rattle.theory.proofs.Least.{least}
@@ -50,7 +50,7 @@ module _ (sheet : List ℕ) (p : Problem) (low high : ℕ) (read : readProblem s
   g = p .symbols
 
   -- the text of a model of a searched size is that of a model
-  model-of : (t : ℕ) (d : List ℕ) (m : ModelText sheet p t d) → Model p t (m .case .values)
+  model-of : (t : ℕ) (d : List ℕ) (m : ModelText sheet p t d) → ModelCells p t (m .case .values)
   model-of t d m =
       let i : IsModelText sheet p read t (m .case) d = is-model-text sheet p read t d m in
       record { interpretation = i .interpretation; model = i .model }
@@ -73,11 +73,11 @@ module _ (sheet : List ℕ) (p : Problem) (low high : ℕ) (read : readProblem s
       }
     where
       place : (t : ℕ) (d : List ℕ) (m : ModelText sheet p t d) → low ≤ t → (k .size < t) ⊎ ((k .size ≡ t) ⊎ (t < k .size))
-          → ((s : ℕ) (u : List ℕ) → low ≤ s → s < k .size → Model p s u → ⊥) → ((u : List ℕ) → Model p (k .size) u → NotAfter (k .values) u)
+          → ((s : ℕ) (u : List ℕ) → low ≤ s → s < k .size → ModelCells p s u → ⊥) → ((u : List ℕ) → ModelCells p (k .size) u → NotAfter (k .values) u)
           → (k .size < t) ⊎ ((k .size ≡ t) × NotAfter (k .values) (m .case .values))
       place t d m lo (inl lt) smaller first = inl lt
       place t d m lo (inr (inl e)) smaller first =
-          inr (e, first (m .case .values) (subst (λ (s : ℕ). Model p s (m .case .values)) (sym e) (model-of t d m)))
+          inr (e, first (m .case .values) (subst (λ (s : ℕ). ModelCells p s (m .case .values)) (sym e) (model-of t d m)))
       place t d m lo (inr (inr gt)) smaller first = absurd (smaller t (m .case .values) lo gt (model-of t d m))
 
   finds : (o : Option Case) → smallestModel p low high ≡ o → 1 ≤ low → high ≤ 8 → (s : ℕ) (c : List ℕ) → searchOf p low high o ≡ found s c → LeastText sheet p low high s c
@@ -88,17 +88,17 @@ module _ (sheet : List ℕ) (p : Problem) (low high : ℕ) (read : readProblem s
       subst (λ (s : ℕ). LeastText sheet p low high s c) size (subst (LeastText sheet p low high (k .size)) text (least-text k pos le h))
 
   finds-none : (o : Option Case) → smallestModel p low high ≡ o → (b : Bool) → searchOf p low high o ≡ nothing b → (t : ℕ) (d : List ℕ) → low ≤ t → t ≤ high → ModelText sheet p t d → ⊥
-  finds-none none h b e t d lo hi m = least p .noSmallest low high h t (m .case .values) lo hi (model-of t d m)
+  finds-none none h b e t d lo hi m = least p .noSmallest low high .0 h t (m .case .values) lo hi (model-of t d m)
   finds-none (some k) h b e t d lo hi m = let z : _≡_ {A = ℕ} 0 1 = cc in absurd (omega arith)
 
-pub demand2 : Demand2Holds
-demand2 sheet p low high work room read =
+pub finds-least : FindsLeastHolds
+finds-least sheet p low high work room read =
     record {
       finds = λ s c e. found-text s c e;
       findsNone = λ b e.
           let r : Searched p low high (nothing b) = searched sheet p low high work room (nothing b) read e in
           finds-none sheet p low high read (smallestModel p low high) refl b (r .result);
-      none = λ h s c e. let l : LeastText sheet p low high s c = found-text s c e in h s c (l .searched .0) (l .searched .1) (l .model);
+      noneIf = λ h s c e. let l : LeastText sheet p low high s c = found-text s c e in h s c (l .searched .0) (l .searched .1) (l .model);
     }
   where
     found-text : (s : ℕ) (c : List ℕ) → findResult sheet low high work room ≡ answer (found s c) → LeastText sheet p low high s c
