@@ -22,7 +22,7 @@ use Rattle.interpretation.proofs.Counting.{length-vectors, drop-vectors}
 -- a is the vector of rank i, if there is one
 pub record Reached (s n : ℕ) (a : ArgumentVector) (i : ℕ) : Type 0 where
   pub count : a .count ≡ n
-  pub size : a .size ≡ s
+  pub size : a .size .0 ≡ s
   pub long : length (a .digits) ≡ 10
   pub vector : IsVector a
   pub within : i ≤ s ^ n
@@ -39,13 +39,13 @@ zeros-below s (suc n) zero h = tt
 zeros-below s (suc n) (suc k) h = (h, zeros-below s n k h)
 
 -- the first vector has rank 0
-pub first-reached : (s n : ℕ) → 1 ≤ s → n ≤ 10 → Reached s n (firstVector n s) 0
-first-reached s n h l =
+pub first-reached : (s n : ℕ) → 1 ≤ s → s ≤ 8 → n ≤ 10 → Reached s n (firstVector n (record { 0 = s })) 0
+first-reached s n h b l =
     record {
       count = refl;
       size = refl;
       long = refl;
-      vector = record { places = l; positive = h; below = zeros-below s n 10 h };
+      vector = record { places = l; positive = h; small = b; below = zeros-below s n 10 h };
       within = omega arith;
       ranked = λ k. zeros-rank s n 10;
     }
@@ -137,9 +137,9 @@ module _ {words place : List ℕ} {t : Tables} {cells : List ℕ} {s n : ℕ} {a
         rest = λ c e. p .rest c e ∙ found-later s n a i (p .reached) (failsAt c) h (lent-value c e b (q c e) ∙ ap not z);
       }
 
-pub none-passed : (words place : List ℕ) (t : Tables) (cells : List ℕ) (s n : ℕ) (a : ArgumentVector) → 1 ≤ s → n ≤ 10 → a ≡ firstVector n s → Passed words place t cells s n a 0
-none-passed words place t cells s n a h l e =
+pub none-passed : (words place : List ℕ) (t : Tables) (cells : List ℕ) (s n : ℕ) (a : ArgumentVector) → 1 ≤ s → s ≤ 8 → n ≤ 10 → a ≡ firstVector n (record { 0 = s }) → Passed words place t cells s n a 0
+none-passed words place t cells s n a h b l e =
     record {
-      reached = rw e (first-reached s n h l);
+      reached = rw e (first-reached s n h b l);
       rest = λ c k. ap (λ (m : ℕ). firstThat (failsAt c) (vectors s m)) (sym k);
     }

@@ -2,6 +2,7 @@
 use interpretation::tables::Tables;
 use interpretation::vector::ArgumentVector;
 use interpretation::vector::power;
+use syntax::size::DomainSize;
 use syntax::variables::variables_of;
 use syntax::words::ClauseWords;
 use truth::values::clause_value;
@@ -29,14 +30,14 @@ fn first_choice(
     functions: &[bool],
     bases: &[usize],
     cells: &[u8],
-    size: usize,
+    size: DomainSize,
     count: usize,
 ) -> Choice
-    requires { ⌜ ((c : ClauseLent (now words) (now place) (tablesIn (now arities) (now functions) (now bases) (now cells)) (now cells) size) × ((count ≡ length (c .variables)) × ((count ≤ 10) × (1 ≤ size)))) ⌝ }
-    ensures { λ r. ⌜ ((c : ClauseLent (now (words .entry)) (now (place .entry)) (tablesIn (now (arities .entry)) (now (functions .entry)) (now (bases .entry)) (now (cells .entry))) (now (cells .entry)) size) → count ≡ length (c .variables) → choiceIn r ≡ firstFailing c) ⌝ }
+    requires { ⌜ ((c : ClauseLent (now words) (now place) (tablesIn (now arities) (now functions) (now bases) (now cells)) (now cells) (size .0)) × ((count ≡ length (c .variables)) × ((count ≤ 10) × (1 ≤ size .0)))) ⌝ }
+    ensures { λ r. ⌜ ((c : ClauseLent (now (words .entry)) (now (place .entry)) (tablesIn (now (arities .entry)) (now (functions .entry)) (now (bases .entry)) (now (cells .entry))) (now (cells .entry)) (size .0)) → count ≡ length (c .variables) → choiceIn r ≡ firstFailing c) ⌝ }
 {
-    let mut values = ArgumentVector::first(count, size as u8);
-    let choices = power(size, count);
+    let mut values = ArgumentVector::first(count, size);
+    let choices = power(size.0, count);
     let mut i: usize = 0;
     while i < choices {
         let digits = values.digits;
@@ -47,7 +48,7 @@ fn first_choice(
             functions,
             bases,
             cells,
-            size,
+            size.0,
             &digits[0..count],
         ) {
             return Choice {
@@ -65,9 +66,9 @@ fn first_choice(
 }
 
 // The first failing choice of values for the clause's own variables.
-pub fn failing_choice(c: ClauseWords, t: Tables, cells: &[u8], size: usize) -> Choice
-    requires { ⌜ ((g : Signature) × Judged g c t (now cells) size) ⌝ }
-    ensures { λ r. ⌜ ((g : Signature) → Judged g c t (now (cells .entry)) size → choiceIn r ≡ failingChoice (interpretation size g (now (cells .entry))) size (clauseIn g c)) ⌝ }
+pub fn failing_choice(c: ClauseWords, t: Tables, cells: &[u8], size: DomainSize) -> Choice
+    requires { ⌜ ((g : Signature) × Judged g c t (now cells) (size .0)) ⌝ }
+    ensures { λ r. ⌜ ((g : Signature) → Judged g c t (now (cells .entry)) (size .0) → choiceIn r ≡ failingChoice (interpretation (size .0) g (now (cells .entry))) (size .0) (clauseIn g c)) ⌝ }
 {
     let variables = variables_of(c);
     let words = c.words;

@@ -11,13 +11,10 @@ use Rattle.judging.proofs.choices.first_choice.Statement.{statement}
 use Rattle.judging.proofs.choices.first_choice.Tie as tie
 
 abbrev Inv-loop : tie.InvT-loop
-Inv-loop words place arities functions bases cells size count values₀ choices i₀ values i = Passed words place (tablesIn arities functions bases cells) cells size count values i × (choices ≡ size ^ count)
+Inv-loop words place arities functions bases cells size count values₀ choices i₀ values i = Passed words place (tablesIn arities functions bases cells) cells (size .0) count values i × (choices ≡ size .0 ^ count)
 
 abbrev μ-loop : tie.MeasureT-loop
 μ-loop words place arities functions bases cells size count values₀ choices i₀ values i = choices - i
-
-cast-first : tie.Need-cast-first Inv-loop μ-loop
-cast-first c = search needs
 
 first-requires : tie.Need-first-requires Inv-loop μ-loop
 first-requires c κs = search needs
@@ -28,7 +25,7 @@ power-requires c κs = search needs
 loop-holds : tie.Need-loop-holds Inv-loop μ-loop
 loop-holds c =
     let s = c .before .before .before .before .before .before .before .before in
-    (none-passed _ _ _ _ _ _ _ (s .pre .1 .1 .1) (s .pre .1 .1 .0) (c .before .first .ensures), c .power .ensures)
+    (none-passed _ _ _ _ _ _ _ (s .pre .1 .1 .1) (s .pre .0 .lent .size) (s .pre .1 .1 .0) (c .before .first .ensures), c .power .ensures)
 
 sub-clause-value : tie.Need-sub-clause-value Inv-loop μ-loop
 sub-clause-value c = search needs
@@ -76,7 +73,6 @@ first-choice-spec =
     (tie.spec
     Inv-loop
     μ-loop
-    cast-first
     first-requires
     power-requires
     loop-holds
