@@ -11,11 +11,9 @@ use syntax::limits::Problem;
 use syntax::size::DomainSize;
 ghost use mathlib.Core.Path.{_≡_};
 ghost use Rattle.theory.specs.Refusals.{answer};
-ghost use Rattle.theory.specs.Cells.{isModel};
 ghost use Rattle.theory.specs.Operations as theory;
 ghost use Rattle.answers.specs.Answers.{judgeIn};
-ghost use Rattle.problem.specs.Problems.{problemIn};
-ghost use Rattle.judging.specs.Cases.{CellsLent, cellsOf};
+ghost use Rattle.judging.specs.Cases.{CellsLent, isModelIn};
 
 // The sheet's refusals, then the case's, then yes or no.
 pub fn judge_case(sheet: &[u8], case: &[u8]) -> JudgeAnswer
@@ -37,7 +35,7 @@ pub fn judge_case(sheet: &[u8], case: &[u8]) -> JudgeAnswer
 // Yes if no clause fails in the interpretation that the first cells are.
 fn judge_cells(sheet: &[u8], p: Problem, cells: &[u8], size: DomainSize) -> JudgeAnswer
     requires { ⌜ CellsLent (now sheet) p (now cells) (size .0) ⌝ }
-    ensures { λ r. ⌜ judgeIn r ≡ answer (isModel (size .0) (problemIn (now (sheet .entry)) p .symbols) (problemIn (now (sheet .entry)) p .clauses) (cellsOf (now (sheet .entry)) p (now (cells .entry)) (size .0))) ⌝ }
+    ensures { λ r. ⌜ judgeIn r ≡ answer (isModelIn (now (sheet .entry)) p (now (cells .entry)) (size .0)) ⌝ }
 {
     let signature = p.signature;
     let t = tables_of(signature, size);
