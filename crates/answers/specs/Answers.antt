@@ -16,7 +16,7 @@ use Rattle.answers.specs.declared.FindAnswer.the-variants as find
 
 -- a refusal's number, place and needed length
 abbrev pub refusalIn : Refusal → theory.Refusal
-refusalIn r = record { number = r .number; place = record { line = r .line }; needed = r .needed }
+refusalIn r = record { number = r .number; place = record { line = r .line; column = r .column }; needed = r .needed }
 
 -- Read's counts
 abbrev pub readIn : ReadAnswer → Answer Counts

@@ -3,10 +3,11 @@ ghost use mathlib.Core.Path.{_≡_};
 ghost use Rattle.theory.specs.Refusals as theory;
 ghost use Rattle.answers.specs.Answers.{refusalIn};
 
-// A refusal: its number, its line or 0, and the needed length with 10 and 11, else 0.
+// A refusal: its number, its line and column, each 0 where it is not named, and the needed length with 10 and 11, else 0.
 pub struct Refusal {
     pub number: u8,
     pub line: usize,
+    pub column: usize,
     pub needed: usize,
 }
 
@@ -43,6 +44,7 @@ pub fn at_line(number: u8, line: usize) -> Refusal
     Refusal {
         number,
         line,
+        column: 0,
         needed: 0,
     }
 }
@@ -54,6 +56,7 @@ pub fn needing(number: u8, needed: usize) -> Refusal
     Refusal {
         number,
         line: 0,
+        column: 0,
         needed,
     }
 }

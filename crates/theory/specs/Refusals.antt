@@ -3,9 +3,10 @@ use Prim.Native.Nat.{ℕ}
 use mathlib.Core.Bool.{Bool, true, false}
 use mathlib.Core.Option.{Option, none, some}
 
--- where a refusal points: a line of the text, counted from 1, or 0 where none is named
+-- where a refusal points: a line of the text and a column of it, both counted from 1, each 0 where it is not named
 pub record Place : Type 0 where
   pub line : ℕ
+  pub column : ℕ
 
 -- a refusal: its number in document 01, its place, and the needed length with 10 and 11, else 0
 pub record Refusal : Type 0 where
@@ -18,9 +19,9 @@ pub data Answer (A : Type 0) : Type 0 where
   answer : A → Answer A
   refused : Refusal → Answer A
 
--- refusal n at line l
+-- refusal n at line l, no column named
 abbrev pub atLine : ℕ → ℕ → Refusal
-atLine n l = record { number = n; place = record { line = l }; needed = 0 }
+atLine n l = record { number = n; place = record { line = l; column = 0 }; needed = 0 }
 
 -- refusal n without a line
 abbrev pub unplaced : ℕ → Refusal
@@ -28,7 +29,7 @@ unplaced n = atLine n 0
 
 -- refusal n, which tells the needed length
 abbrev pub needing : ℕ → ℕ → Refusal
-needing n m = record { number = n; place = record { line = 0 }; needed = m }
+needing n m = record { number = n; place = record { line = 0; column = 0 }; needed = m }
 
 -- go on with a result; a refusal stays
 infixl 20 _>>=_
