@@ -1,0 +1,7 @@
+pub mod ByteRuns
+pub mod CommentEnds
+pub mod PieceSizes
+pub mod NumberLengths
+pub mod PieceStarts
+pub mod NextPieces
+pub mod LineSteps

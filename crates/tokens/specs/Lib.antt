@@ -1,0 +1,3 @@
+pub mod Pieces
+pub mod NextTokens
+pub mod LinePlaces
