@@ -1,7 +1,9 @@
 // Domain sizes.
 use crate::limits::Problem;
 ghost use mathlib.Core.Path.{_≡_};
-ghost use Rattle.syntax.specs.Sizes.{checkedSize};
+ghost use Prim.Native.Nat.{_<_};
+ghost use Rattle.theory.specs.Operations.{maxSize};
+ghost use Rattle.syntax.specs.Sizes.{checkedSize, nextSize};
 
 // A domain size of 1 to 8.
 pub struct DomainSize(pub usize);
@@ -22,5 +24,13 @@ impl DomainSize {
             return SizeCheck::Refused;
         }
         SizeCheck::Is(DomainSize(n))
+    }
+
+    // The size after one that is not the largest.
+    pub fn next(self) -> DomainSize
+        requires { ⌜ self .0 < maxSize ⌝ }
+        ensures { λ r. ⌜ r ≡ nextSize self ⌝ }
+    {
+        DomainSize(self.0 + 1)
     }
 }
