@@ -5,17 +5,17 @@ use mathlib.Core.Bool.{true, false, cond}
 use mathlib.Core.Option.{none, some}
 use mathlib.Core.List.{List, [], _∷_, _++_, map}
 use lib.Dec.{eqb}
-use lib.ListN.{length, take}
+use lib.ListN.{length, take, replicate}
 use Rattle.theory.specs.Lists.{sum}
 use Rattle.theory.specs.Syntax.{Signature, Clause}
 use Rattle.theory.specs.Grammar.{Word, sign, equals, symbol, letter, terms}
-use Rattle.theory.specs.Lines.{wordsOf}
 use Rattle.theory.specs.Flattening.{flatten, variableCount}
 use Rattle.theory.specs.Refusals.{Answer, answer, refused, atLine}
 use Rattle.theory.specs.Problem.{maxWords, maxLiterals, maxVariables, readAll, clauseOf}
 use Rattle.theory.specs.Problem as theory
 use Rattle.syntax.specs.declared.words.ClauseWords.{ClauseWords}
 use Rattle.syntax.specs.Codes.{codeWord, clauseIn, IsClause}
+use Rattle.clauses.specs.declared.grammar.Due.the-variants.{Terms}
 use Rattle.clauses.specs.declared.clause.Words.{Words}
 use Rattle.clauses.specs.declared.clause.ClauseLine.{ClauseLine}
 use Rattle.clauses.specs.Grammar.{dueIn, pending, dueAfterAll}
@@ -47,10 +47,14 @@ pub record WordTaken (g : Signature) (word : List ℕ) (w r : Words) : Type 0 wh
   pub unknown : r .unknown ≡ true → theory.wordOf g word ≡ none
   pub known : r .unknown ≡ false → (x : Word) × (theory.wordOf g word ≡ some x) × ((ws : List Word) → Passed g ws w → Passed g (ws ++ (x ∷ [])) r)
 
--- r is what was read of the value's words
-pub record WordsRead (g : Signature) (value : List ℕ) (r : Words) : Type 0 where
-  pub unknown : r .unknown ≡ true → readAll g (wordsOf value) ≡ none
-  pub known : r .unknown ≡ false → (ws : List Word) × (readAll g (wordsOf value) ≡ some ws) × Passed g ws r
+-- what was read of no words
+abbrev pub noWords : Words
+noWords = record { words = replicate maxWords 0; count = 0; literals = 0; due = Terms 0; unknown = false }
+
+-- r is what was read of a line's words
+pub record WordsRead (g : Signature) (line : List (List ℕ)) (r : Words) : Type 0 where
+  pub unknown : r .unknown ≡ true → readAll g line ≡ none
+  pub known : r .unknown ≡ false → (ws : List Word) × (readAll g line ≡ some ws) × Passed g ws r
 
 -- what the value of line l was read to
 abbrev pub clauseValueIn : Signature → ℕ → ClauseLine → Answer Clause
