@@ -48,14 +48,14 @@ fn write_setting(
     ensures answer { λ r. ⌜ lengthIn r ≡ lengthAnswer (settingText (size .0) (signatureIn (now (sheet .entry)) signature) (now (setting .entry)) (length (now (output .entry)))) ⌝ }
     ensures left { λ r. ⌜ now (output .exit) ≡ outputAfter (settingText (size .0) (signatureIn (now (sheet .entry)) signature) (now (setting .entry)) (length (now (output .entry)))) (now (output .entry)) ⌝ }
 {
-    let n = numbering_of(signature, size.0);
+    let n = numbering_of(signature, size);
     if setting.len() != n.count as usize {
         return WriteAnswer::Refused(at_line(13, 0));
     }
     if !is_binary(setting) {
         return WriteAnswer::Refused(at_line(13, 0));
     }
-    if !is_functional(setting, signature, n, size.0) {
+    if !is_functional(setting, signature, n, size) {
         return WriteAnswer::Refused(at_line(14, 0));
     }
     let length = case_length(signature, size.0);
@@ -63,5 +63,5 @@ fn write_setting(
         return WriteAnswer::Refused(needing(11, length));
     }
     let none = [0u32; 0];
-    WriteAnswer::Written(write_case(sheet, signature, n, size.0, setting, &none, output))
+    WriteAnswer::Written(write_case(sheet, signature, n, size, setting, &none, output))
 }

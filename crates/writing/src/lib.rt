@@ -38,7 +38,7 @@ fn write_at(sheet: &[u8], p: Problem, s: DomainSize, output: &mut [u8]) -> Write
     ensures answer { λ r. ⌜ lengthIn r ≡ lengthAnswer (textAt (problemIn (now (sheet .entry)) p) (s .0) (length (now (output .entry)))) ⌝ }
     ensures left { λ r. ⌜ now (output .exit) ≡ outputAfter (textAt (problemIn (now (sheet .entry)) p) (s .0) (length (now (output .entry)))) (now (output .entry)) ⌝ }
 {
-    let c = counts_at(sheet, p, s.0);
+    let c = counts_at(sheet, p, s);
     if Counts::MAX_INSTANCES < c.instances {
         return WriteAnswer::Refused(at_line(9, 0));
     }
