@@ -16,7 +16,7 @@ use Rattle.theory.specs.Problem.{wordOf, readAll, maxWords}
 use Rattle.word_reader.specs.WordsLeft.{wordsLeft, FirstWord}
 use Rattle.clauses.specs.declared.clause.Words.{Words}
 use Rattle.clauses.specs.Grammar.{dueAfterAll}
-use Rattle.clauses.specs.Clauses.{Passed, noWords, WordTaken, WordsRead}
+use Rattle.clauses.specs.Clauses.{Passed, noWords, WordAdded, WordsRead}
 
 -- the words ws in front of others, if there are any
 abbrev pub joined : List Word → Option (List Word) → Option (List Word)
@@ -58,7 +58,7 @@ module _ (g : Signature) (value : List ℕ) where
       alone none = refl
       alone (some xs) = refl
 
-  module _ (w r : Words) (at : ℕ) (word : List ℕ) (z : Going g value w at) (f : FirstWord value at word) (t : WordTaken g word w r) where
+  module _ (w r : Words) (at : ℕ) (word : List ℕ) (z : Going g value w at) (f : FirstWord value at word) (t : WordAdded g word w r) where
     -- the words behind the one taken
     abbrev after : List (List ℕ)
     after = wordsLeft value (at + length word + 1)

@@ -42,10 +42,14 @@ pub record Passed (g : Signature) (ws : List Word) (w : Words) : Type 0 where
   pub due : dueIn (w .due) ≡ dueAfterAll g (some (terms 0)) ws
   pub pending : pending (w .due) ≤ 3 * w .count
 
+-- r is what was read after the word x more than w, whatever words w was read of
+abbrev pub Extends : Signature → Words → Word → Words → Type 0
+Extends g w x r = (ws : List Word) → Passed g ws w → Passed g (ws ++ (x ∷ [])) r
+
 -- r is what was read after one word more than w
-pub record WordTaken (g : Signature) (word : List ℕ) (w r : Words) : Type 0 where
+pub record WordAdded (g : Signature) (word : List ℕ) (w r : Words) : Type 0 where
   pub unknown : r .unknown ≡ true → theory.wordOf g word ≡ none
-  pub known : r .unknown ≡ false → (x : Word) × (theory.wordOf g word ≡ some x) × ((ws : List Word) → Passed g ws w → Passed g (ws ++ (x ∷ [])) r)
+  pub known : r .unknown ≡ false → (x : Word) × (theory.wordOf g word ≡ some x) × Extends g w x r
 
 -- what was read of no words
 abbrev pub noWords : Words

@@ -11,18 +11,17 @@ use syntax::words::ClauseWords;
 use word_reader::WordReader;
 ghost use mathlib.Core.Path.{_≡_};
 ghost use mathlib.Core.Bool.{true, false};
-ghost use mathlib.Core.List.{List, [], _∷_, _++_};
+ghost use mathlib.Core.List.{List};
 ghost use Prim.Native.Nat.{ℕ};
 ghost use lib.ListN.{set};
-ghost use Rattle.theory.specs.Grammar as theory;
 ghost use Rattle.theory.specs.Lines.{cutWords, wordsOf};
 ghost use Rattle.syntax.specs.Signatures.{signatureIn};
 ghost use Rattle.syntax.specs.Codes.{codeWord};
 ghost use Rattle.clauses.specs.Names.{Limited, Readable};
 ghost use Rattle.clauses.specs.Words.{isCode};
-ghost use Rattle.clauses.specs.Clauses.{signCount, WordsBounded, Passed, noWords, WordTaken, WordsRead, ClauseRead};
+ghost use Rattle.clauses.specs.Clauses.{signCount, WordsBounded, Extends, noWords, WordAdded, WordsRead, ClauseRead};
 
-// What was read of a line: the codes of its first 64 words, how many words and signs, what is due, whether a word was unknown.
+// What was read of a line: the codes of its first words, up to the limit, how many words and signs, what is due, whether a word was unknown.
 pub struct Words {
     pub words: [u8; Problem::MAX_WORDS],
     pub count: usize,
@@ -125,7 +124,7 @@ fn no_words() -> Words
 // One word more.
 fn with_word(sheet: &[u8], signature: Signature, w: Words, word: &[u8]) -> Words
     requires { ⌜ Readable (now sheet) signature × WordsBounded w ⌝ }
-    ensures { λ r. ⌜ WordTaken (signatureIn (now (sheet .entry)) signature) (now (word .entry)) w r ⌝ }
+    ensures { λ r. ⌜ WordAdded (signatureIn (now (sheet .entry)) signature) (now (word .entry)) w r ⌝ }
 {
     match word_of(sheet, signature, word) {
         Word::Code(code) => with_code(signature, w, code),
@@ -143,7 +142,7 @@ fn with_unknown(mut w: Words) -> Words
 fn with_code(signature: Signature, w: Words, code: u8) -> Words
     requires { ⌜ Limited signature × ((isCode (signature .count) code ≡ true) × WordsBounded w) ⌝ }
     ensures known { λ r. ⌜ r .unknown ≡ false ⌝ }
-    ensures passed { λ r. ⌜ ((sheet : List ℕ) (ws : List theory.Word) → Passed (signatureIn sheet signature) ws w → Passed (signatureIn sheet signature) (ws ++ (codeWord code ∷ [])) r) ⌝ }
+    ensures extended { λ r. ⌜ ((sheet : List ℕ) → Extends (signatureIn sheet signature) w (codeWord code) r) ⌝ }
 {
     let words = w.words;
     let due = w.due;
@@ -171,10 +170,10 @@ fn stored(mut words: [u8; Problem::MAX_WORDS], n: usize, code: u8) -> [u8; Probl
 fn signs(code: u8) -> usize
     ensures { λ r. ⌜ r ≡ signCount (codeWord code) ⌝ }
 {
-    if code == 43 {
+    if code == ClauseWords::PLUS {
         return 1;
     }
-    if code == 45 {
+    if code == ClauseWords::MINUS {
         return 1;
     }
     0

@@ -76,7 +76,7 @@ use Rattle.word_reader.proofs.WordReader.next.Symbol as next-def
 use Rattle.word_reader.proofs.WordReader.next.Symbol.{name as #next}
 use Rattle.word_reader.proofs.WordReader.next.Met as next-thm
 use Rattle.clauses.specs.Names.{Readable}
-use Rattle.clauses.specs.Clauses.{WordsBounded, noWords, WordTaken, WordsRead}
+use Rattle.clauses.specs.Clauses.{WordsBounded, noWords, WordAdded, WordsRead}
 use Rattle.clauses.specs.declared.clause.Words.{Words}
 use Rattle.clauses.proofs.clause.Words as Ws
 use Rattle.clauses.proofs.clause.Words.Laws as Ws′
@@ -326,14 +326,14 @@ module _ {M : Type 1} (𝓤 : URA M) (H : Heap 𝓤) (A : Atoms 𝓤) (W : Given
 
       asks-with-word : Triple 𝓤 (C #with-word) (WithWord 𝓤 H A mem run) → Readable (now s) sig → Is G.the-row sig (signature-val sig ∷ []) → (w : Words) (x : RefT (List ℕ)) → IsWords w → WordsBounded w
           → {xs : List Operand} → Opds (Go {0}) W (raw (WithWord 𝓤 H A mem run .pre (to-with-word w x)) ∷ ‵ OwnS ∷ Γ) E xs (slice-val s ∷ signature-val sig ∷ words-val w ∷ slice-val x ∷ [])
-          → ((w′ : Words) → IsWords w′ → WordTaken g (now x) w w′ → Sq W (‵ OwnS ∷ ‵ (flft κ q) ∷ ‵ (flft κ′ q′) ∷ Γ) (lands C Λ E d (words-val w′) rest Q))
+          → ((w′ : Words) → IsWords w′ → WordAdded g (now x) w w′ → Sq W (‵ OwnS ∷ ‵ (flft κ q) ∷ ‵ (flft κ′ q′) ∷ Γ) (lands C Λ E d (words-val w′) rest Q))
           → Sq W (‵ (OwnX x) ∷ ‵ OwnS ∷ ‵ (flft κ q) ∷ ‵ (flft κ′ q′) ∷ Γ) (runs C Λ E (seq (call #with-word xs d) rest) Q)
       asks-with-word known readable is-sig w x is-w bounded os k =
           move ! (1 ∷ []) $ use1 W (‵ OwnS ⊛ ‵ OwnS) (shr-slice-copy 𝓤 H A W (named 0) κ u8 .twice s (slice-val s ∷ [])) $ split ! $ move ! (2 ∷ 0 ∷ 3 ∷ 4 ∷ 1 ∷ []) $
           cut (‵ (OwnX x) ∷ ‵ OwnS ∷ ‵ (flft κ q) ∷ ‵ (flft κ′ q′) ∷ []) (raw (WithWord 𝓤 H A mem run .pre (to-with-word w x)) ∷ []) (‵ OwnS ∷ Γ) (goes-with-word readable is-sig w x is-w bounded) $
           calls-at ! fm (WithWord 𝓤 H A mem run) known (to-with-word w x) os (λ u.
           use1 W (later (some (λ (w′ : Words). ((‵ (flft κ q) ⊛ ‵ (flft κ′ q′) ⊛ ‵ ftrue) ⊛ ‵ (Ws.the-row .own w′ (u ∷ []))) ⊛ raw (ensured 𝓤 H A with-word.ended (with-word.clauses 𝓤 H A mem run) (κ, (κ′, tt)) (with-args w x) tt w′)))) (id⊢ 𝓤 _) $ await ! tt $ pick ! (λ w′.
-          split ! $ move ! (1 ∷ []) $ use1 W (raw (fact 𝓤 (WordTaken g (now x) w w′))) (exE 𝓤 _ (λ ws. snd∗ 𝓤 (sem 𝓤 H A (lasts with-word.ended (κ, (κ′, tt)) (with-args w x) ws)) (fact 𝓤 (WordTaken g (now x) w w′)))) $ heard ! (WordTaken g (now x) w w′) (λ e.
+          split ! $ move ! (1 ∷ []) $ use1 W (raw (fact 𝓤 (WordAdded g (now x) w w′))) (exE 𝓤 _ (λ ws. snd∗ 𝓤 (sem 𝓤 H A (lasts with-word.ended (κ, (κ′, tt)) (with-args w x) ws)) (fact 𝓤 (WordAdded g (now x) w w′)))) $ heard ! (WordAdded g (now x) w w′) (λ e.
           split ! $ move ! (1 ∷ []) $ facts ! Ws.the-row (Is Ws.the-row) (shows 𝓤 H A Ws.the-row) w′ (u ∷ []) (λ is.
           split3 ! $ move ! (2 ∷ []) $ drop ! $ move ! (2 ∷ 0 ∷ 1 ∷ []) $
           regoal ! (λ (y : Val). lands C Λ E d y rest Q) (ap only (LL.tells Ws.the-type Ws′.the-laws w′ (u ∷ []) is)) refl $ k w′ (words-told w′ u is) e))))
