@@ -10,9 +10,9 @@ use lib.Dec.{eqb, ltb}
 use lib.ListN.{length, getD, set, take, drop, replicate, length-append, length-drop}
 use lib.Seq.{take-suc, drop-cons, getD-drop, drop-drop, take-suc-set}
 use Rattle.theory.specs.Lists.{all, select}
-use Rattle.theory.specs.Syntax.{Kind, function, predicate}
-use Rattle.theory.specs.Propositional.{width}
-use Rattle.theory.specs.Valuation.{hasValue, firstOne, valueOf, allHaveValues, valuesOf, settingOf}
+use Rattle.theory.specs.Syntax.{Kind, function, predicate, Signature}
+use Rattle.theory.specs.Propositional.{width, propCount}
+use Rattle.theory.specs.Valuation.{isValuation, hasValue, firstOne, valueOf, allHaveValues, valuesOf, settingOf}
 use Rattle.theory.proofs.Lists.{select-append}
 use Rattle.valuations.specs.Cells.{bitsAt, ones}
 
@@ -22,6 +22,16 @@ binary-on σ i h l = ap (all (λ b. ltb b 2)) (drop-cons σ i 0 h) ∙ ap (λ (b
 
 pub not-binary : (σ : List ℕ) (i : ℕ) → i < length σ → 1 < getD σ i 0 → all (λ b. ltb b 2) (drop i σ) ≡ false
 not-binary σ i h l = ap (all (λ b. ltb b 2)) (drop-cons σ i 0 h) ∙ ap (λ (b : Bool). b && all (λ b. ltb b 2) (drop (suc i) σ)) (le-ltb (getD σ i 0) 2 l)
+
+-- whether there is a byte for each variable; if so, what is left to tell
+module _ (s : ℕ) (g : Signature) (σ : List ℕ) where
+  pub uncounted : (length σ ≡ propCount s g → ⊥) → isValuation s g σ ≡ false
+  unfolding isValuation
+  uncounted h = ap (λ (b : Bool). b && all (λ b. ltb b 2) σ) (ne-eqb (length σ) (propCount s g) h)
+
+  pub counted : length σ ≡ propCount s g → isValuation s g σ ≡ all (λ b. ltb b 2) σ
+  unfolding isValuation
+  counted h = ap (λ (b : Bool). b && all (λ b. ltb b 2) σ) (eq-eqb (length σ) (propCount s g) h)
 
 -- the bytes from a place on: the first and the others, the last and the others
 pub bits-cons : (σ : List ℕ) (from n : ℕ) → from < length σ → bitsAt σ from (suc n) ≡ getD σ from 0 ∷ bitsAt σ (suc from) n
