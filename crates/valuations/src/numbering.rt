@@ -1,6 +1,5 @@
 // Propositional variables and their numbering: symbol by symbol, the last argument fastest, a function's cell one for each result.
 use indices::PropVar;
-use interpretation::tables::Tables;
 use interpretation::vector::power;
 use syntax::limits::Problem;
 use syntax::signature::Signature;
@@ -32,11 +31,6 @@ pub struct Numbering {
     pub widths: [u32; Problem::MAX_SYMBOLS],
     // V: the number of all propositional variables
     pub count: u32,
-}
-
-impl Numbering {
-    // the variables of a symbol with the most cells, each with the most results
-    pub const MAX_BLOCK: usize = Tables::MAX_TABLE * Problem::MAX_SIZE;
 }
 
 pub fn numbering_of(signature: Signature, size: DomainSize) -> Numbering
