@@ -55,7 +55,7 @@ fn write_setting(
     if !is_functional(setting, signature, n, size) {
         return WriteAnswer::Refused(at_line(14, 0));
     }
-    let length = case_length(signature, size.0);
+    let length = case_length(signature, size);
     if output.len() < length {
         return WriteAnswer::Refused(needing(11, length));
     }
