@@ -7,7 +7,7 @@ use Rattle.syntax.specs.Signatures.{signatureIn}
 use Rattle.loading.proofs.Ready.{entered-loaded}
 use Rattle.stream.specs.Literals.{allCodes}
 use Rattle.finding.specs.Searching.{Searchable, sheetClauses}
-use Rattle.finding.proofs.Fitting.{numbered, area-room}
+use Rattle.finding.proofs.Fitting.{numbered}
 use borrow.Author.Needs.{needs}
 use Rattle.finding.proofs.one_size.load.Statement.{statement}
 use Rattle.finding.proofs.one_size.load.Tie as tie
