@@ -7,6 +7,7 @@ use search::solve;
 use stream::consumer::Mode;
 use stream::consumer::Progress;
 use syntax::limits::Problem;
+use syntax::size::DomainSize;
 use valuations::numbering::Numbering;
 ghost use mathlib.Core.Path.{_≡_};
 ghost use mathlib.Core.List.{List};
@@ -36,7 +37,7 @@ fn count_clauses(sheet: &[u8], p: Problem, n: Numbering, size: usize, work: &mut
         sheet,
         p,
         n,
-        size as u32,
+        DomainSize(size),
         &mut no_text,
         work,
         Progress { at: 0, count: 0 },
@@ -60,7 +61,7 @@ fn enter_clauses(sheet: &[u8], p: Problem, n: Numbering, size: usize, m: usize, 
         sheet,
         p,
         n,
-        size as u32,
+        DomainSize(size),
         &mut no_text,
         work,
         Progress { at: 0, count: 0 },

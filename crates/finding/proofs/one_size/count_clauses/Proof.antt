@@ -14,10 +14,6 @@ use Rattle.loading.proofs.clear_all.Reads as clear-all-reads
 clear-all-requires : tie.Need-clear-all-requires
 clear-all-requires c κs = search needs
 
--- src/one_size.rt:39:9
-cast-all-clauses : tie.Need-cast-all-clauses
-cast-all-clauses c = search needs
-
 -- src/one_size.rt:40:9
 slice-aggregate-all-clauses : tie.Need-slice-aggregate-all-clauses
 slice-aggregate-all-clauses c = search needs
@@ -52,7 +48,6 @@ count-clauses-spec =
     tie.close
     (tie.spec
     clear-all-requires
-    cast-all-clauses
     slice-aggregate-all-clauses
     all-clauses-requires
     same-length

@@ -25,10 +25,6 @@ bounds-requires c κs =
     let a = s .args in
     boundable (a .sheet .now) (a .p) (a .size) (length (a .work .now)) (a .n .count) (s .pre .0) (s .pre .1 .0 .count) (a .m) (a .work .now) (s .pre .1 .1 .0) refl (s .pre .1 .1 .1)
 
--- src/one_size.rt:70:9
-cast-all-clauses : tie.Need-cast-all-clauses
-cast-all-clauses c = search needs
-
 -- src/one_size.rt:71:9
 slice-aggregate-all-clauses : tie.Need-slice-aggregate-all-clauses
 slice-aggregate-all-clauses c = search needs
@@ -64,7 +60,6 @@ enter-clauses-spec =
     (tie.spec
     cast-v
     bounds-requires
-    cast-all-clauses
     slice-aggregate-all-clauses
     all-clauses-requires
     same-length
