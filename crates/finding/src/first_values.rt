@@ -15,18 +15,18 @@ ghost use Rattle.syntax.specs.Signatures.{signatureIn};
 ghost use Rattle.clauses.specs.Names.{Limited};
 
 // The first values of all v variables, symbol by symbol.
-pub fn prefer_all(signature: Signature, size: usize, v: usize, work: &mut [u32])
-    requires { ⌜ Limited signature × (size ≤ 8) ⌝ }
-    requires { ⌜ ((sheet : List ℕ) → v ≡ propCount size (signatureIn sheet signature)) ⌝ }
+pub fn prefer_all(signature: Signature, size: DomainSize, v: usize, work: &mut [u32])
+    requires { ⌜ Limited signature × (size .0 ≤ 8) ⌝ }
+    requires { ⌜ ((sheet : List ℕ) → v ≡ propCount (size .0) (signatureIn sheet signature)) ⌝ }
     requires { ⌜ 7 * v ≤ length (now work) ⌝ }
     ensures clauses { λ _. ⌜ ((cs es : List (List ℕ)) → Entered v cs es (now (work .entry)) → Entered v cs es (now (work .exit))) ⌝ }
-    ensures values { λ _. ⌜ ((sheet : List ℕ) → Prefers v v (yesFirst size (signatureIn sheet signature)) (now (work .exit))) ⌝ }
+    ensures values { λ _. ⌜ ((sheet : List ℕ) → Prefers v v (yesFirst (size .0) (signatureIn sheet signature)) (now (work .exit))) ⌝ }
 {
     let mut from: usize = 0;
     let mut i: usize = 0;
     while i < signature.count {
         let symbol = signature.symbols[i];
-        let to = from + block_size(symbol, DomainSize(size)) as usize;
+        let to = from + block_size(symbol, size) as usize;
         prefer(work, v, from, to, symbol.function);
         from = to;
         i += 1;
