@@ -67,7 +67,7 @@ fn find_in(
     let signature = p.signature;
     let n = numbering_of(signature, high);
     let needed = work_needed(c, n.count as usize);
-    let length = case_length(signature, high.0);
+    let length = case_length(signature, high);
     if work.len() < needed {
         return FindAnswer::Refused(needing(10, needed));
     }
