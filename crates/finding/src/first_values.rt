@@ -26,9 +26,9 @@ pub fn prefer_all(signature: Signature, size: DomainSize, v: usize, work: &mut [
     let mut i: usize = 0;
     while i < signature.count {
         let symbol = signature.symbols[i];
-        let to = PropVar(from.0 + block_size(symbol, size));
-        prefer(work, v, from, to, symbol.function);
-        from = to;
+        let end = from.0 + block_size(symbol, size);
+        prefer(work, v, from, PropVar(end), symbol.function);
+        from = PropVar(end);
         i += 1;
     }
 }

@@ -52,8 +52,8 @@ block-size-requires c κs =
     (arity-at (s .args .t1) (s .pre .0 .0) (c .before .before .loop .i) (omega arith), s .pre .0 .1)
 
 -- src/first_values.rt:28:18
-add-t17 : tie.Need-add-t17 Inv-loop μ-loop
-add-t17 c =
+add-end : tie.Need-add-end Inv-loop μ-loop
+add-end c =
     let s = c .before .before .before .before .before .before in
     let l = c .before .before .before .before .loop in
     omega (arith, base-room (s .args .t1) (s .pre .0 .0) (s .args .size .0) (s .args .v) (s .pre .1 .0) (l .i) (l .from .0) (c .before .block-size .result) (omega arith) (l .inv .2) (c .before .block-size .ensures), s .pre .1 .1 .small)
@@ -115,7 +115,7 @@ prefer-all-spec =
     mul-symbol
     element-copy-out-symbol
     block-size-requires
-    add-t17
+    add-end
     prefer-requires
     add-i
     loop-less
