@@ -5,6 +5,7 @@ use problem::clause_lines::clause_words;
 use syntax::limits::Problem;
 use syntax::signature::Signature;
 use syntax::signature::Symbol;
+use syntax::size::DomainSize;
 ghost use mathlib.Core.Path.{_≡_};
 ghost use mathlib.Core.Bool.{cond};
 ghost use mathlib.Core.List.{List, [], _∷_, map};
@@ -27,10 +28,10 @@ impl Counts {
     pub const MAX_INSTANCES: usize = 1000000;
 }
 
-pub fn counts_at(sheet: &[u8], p: Problem, size: usize) -> Counts
-    requires { ⌜ Accepted (now sheet) p × (size ≤ 8) ⌝ }
-    ensures instances { λ r. ⌜ r .instances ≡ instanceCount size (problemIn (now (sheet .entry)) p .symbols) (problemIn (now (sheet .entry)) p .clauses) ⌝ }
-    ensures literals { λ r. ⌜ r .literals ≡ literalCount size (problemIn (now (sheet .entry)) p .symbols) (problemIn (now (sheet .entry)) p .clauses) ⌝ }
+pub fn counts_at(sheet: &[u8], p: Problem, size: DomainSize) -> Counts
+    requires { ⌜ Accepted (now sheet) p × (size .0 ≤ 8) ⌝ }
+    ensures instances { λ r. ⌜ r .instances ≡ instanceCount (size .0) (problemIn (now (sheet .entry)) p .symbols) (problemIn (now (sheet .entry)) p .clauses) ⌝ }
+    ensures literals { λ r. ⌜ r .literals ≡ literalCount (size .0) (problemIn (now (sheet .entry)) p .symbols) (problemIn (now (sheet .entry)) p .clauses) ⌝ }
     ensures small { λ r. ⌜ (r .instances < 2 ^ 42) × (r .literals < 2 ^ 42) ⌝ }
 {
     let f = function_counts(p.signature, size);
@@ -39,9 +40,9 @@ pub fn counts_at(sheet: &[u8], p: Problem, size: usize) -> Counts
 }
 
 // What the function cells add.
-fn function_counts(signature: Signature, size: usize) -> Counts
-    requires { ⌜ Limited signature × (size ≤ 8) ⌝ }
-    ensures { λ r. ⌜ ((sheet : List ℕ) → TotalOf (map (functionPart size (signatureIn sheet signature)) (functionPlaces (signatureIn sheet signature))) (2 ^ 41) r) ⌝ }
+fn function_counts(signature: Signature, size: DomainSize) -> Counts
+    requires { ⌜ Limited signature × (size .0 ≤ 8) ⌝ }
+    ensures { λ r. ⌜ ((sheet : List ℕ) → TotalOf (map (functionPart (size .0) (signatureIn sheet signature)) (functionPlaces (signatureIn sheet signature))) (2 ^ 41) r) ⌝ }
 {
     let mut total = Counts {
         instances: 0,
@@ -57,10 +58,10 @@ fn function_counts(signature: Signature, size: usize) -> Counts
 }
 
 // What the cells of a symbol add, if it is a function.
-fn symbol_counts(symbol: Symbol, size: usize) -> Counts
-    requires { ⌜ (symbol .arity ≤ 3) × (size ≤ 8) ⌝ }
-    ensures instances { λ r. ⌜ r .instances ≡ cond (symbol .function) (size ^ symbol .arity * (1 + size * (size - 1) / 2)) 0 ⌝ }
-    ensures literals { λ r. ⌜ r .literals ≡ cond (symbol .function) (size ^ (symbol .arity + 2)) 0 ⌝ }
+fn symbol_counts(symbol: Symbol, size: DomainSize) -> Counts
+    requires { ⌜ (symbol .arity ≤ 3) × (size .0 ≤ 8) ⌝ }
+    ensures instances { λ r. ⌜ r .instances ≡ cond (symbol .function) (size .0 ^ symbol .arity * (1 + size .0 * (size .0 - 1) / 2)) 0 ⌝ }
+    ensures literals { λ r. ⌜ r .literals ≡ cond (symbol .function) (size .0 ^ (symbol .arity + 2)) 0 ⌝ }
     ensures small { λ r. ⌜ (r .instances ≤ 2 ^ 15) × (r .literals ≤ 2 ^ 15) ⌝ }
 {
     if !symbol.function {
@@ -70,17 +71,19 @@ fn symbol_counts(symbol: Symbol, size: usize) -> Counts
         };
     }
     let arity = symbol.arity as usize;
-    let pairs = (size * size - size) / 2;
+    let s = size.0;
+    let pairs = (s * s - s) / 2;
+    let instances = power(s, arity) * (1 + pairs);
     Counts {
-        instances: power(size, arity) * (1 + pairs),
-        literals: power(size, arity + 2),
+        instances,
+        literals: power(s, arity + 2),
     }
 }
 
 // What the instances of all clauses add.
-fn all_clause_counts(sheet: &[u8], p: Problem, size: usize) -> Counts
-    requires { ⌜ Accepted (now sheet) p × (size ≤ 8) ⌝ }
-    ensures { λ r. ⌜ TotalOf (map (clausePart size (signatureIn (now (sheet .entry)) (p .signature))) (problemIn (now (sheet .entry)) p .clauses)) (2 ^ 41 - 1) r ⌝ }
+fn all_clause_counts(sheet: &[u8], p: Problem, size: DomainSize) -> Counts
+    requires { ⌜ Accepted (now sheet) p × (size .0 ≤ 8) ⌝ }
+    ensures { λ r. ⌜ TotalOf (map (clausePart (size .0) (signatureIn (now (sheet .entry)) (p .signature))) (problemIn (now (sheet .entry)) p .clauses)) (2 ^ 41 - 1) r ⌝ }
 {
     let mut total = Counts {
         instances: 0,
@@ -96,15 +99,15 @@ fn all_clause_counts(sheet: &[u8], p: Problem, size: usize) -> Counts
 }
 
 // What the instances of clause k add.
-fn clause_counts(sheet: &[u8], p: Problem, k: usize, size: usize) -> Counts
-    requires { ⌜ Accepted (now sheet) p × (k < p .count) × (size ≤ 8) ⌝ }
-    ensures { λ r. ⌜ TotalOf (clausePart size (signatureIn (now (sheet .entry)) (p .signature)) (getD (problemIn (now (sheet .entry)) p .clauses) k []) ∷ []) (26 * 2 ^ 30) r ⌝ }
+fn clause_counts(sheet: &[u8], p: Problem, k: usize, size: DomainSize) -> Counts
+    requires { ⌜ Accepted (now sheet) p × (k < p .count) × (size .0 ≤ 8) ⌝ }
+    ensures { λ r. ⌜ TotalOf (clausePart (size .0) (signatureIn (now (sheet .entry)) (p .signature)) (getD (problemIn (now (sheet .entry)) p .clauses) k []) ∷ []) (26 * 2 ^ 30) r ⌝ }
 {
     let words = clause_words(sheet, p, k);
     let signature = p.signature;
     let arities = signature.arities();
     let flat = flatten(words, &arities);
-    let instances = power(size, flat.variables);
+    let instances = power(size.0, flat.variables);
     Counts {
         instances,
         literals: instances * flat.count,

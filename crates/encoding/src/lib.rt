@@ -4,6 +4,7 @@ use instancing::instances::all_instances;
 use stream::consumer::Mode;
 use stream::consumer::Progress;
 use syntax::limits::Problem;
+use syntax::size::DomainSize;
 use valuations::numbering::Numbering;
 ghost use Prim.Native.Nat.{_≤_};
 ghost use Rattle.theory.specs.PropClauses.{propClauses};
@@ -28,6 +29,14 @@ pub fn all_clauses(
     requires { ⌜ Consumes mode (n .count) (propClauses size (problemIn (now sheet) p .symbols) (problemIn (now sheet) p .clauses)) (state start (now out) (now work)) ⌝ }
     ensures { λ r. ⌜ Consumed mode (n .count) (propClauses size (problemIn (now (sheet .entry)) p .symbols) (problemIn (now (sheet .entry)) p .clauses)) (state start (now (out .entry)) (now (work .entry))) (state r (now (out .exit)) (now (work .exit))) ⌝ }
 {
-    let reached = all_cells(mode, p.signature, n, size, out, work, start);
+    let reached = all_cells(
+        mode,
+        p.signature,
+        n,
+        DomainSize(size as usize),
+        out,
+        work,
+        start,
+    );
     all_instances(mode, sheet, p, n, size, out, work, reached)
 }

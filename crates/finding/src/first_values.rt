@@ -1,6 +1,7 @@
 // The first values: a function's variables are tried at yes first, a predicate's at no, so that the first valuation found is that of the least model.
 use loading::prefer;
 use syntax::signature::Signature;
+use syntax::size::DomainSize;
 use valuations::numbering::block_size;
 ghost use mathlib.Core.Path.{_≡_};
 ghost use mathlib.Core.List.{List};
@@ -25,7 +26,7 @@ pub fn prefer_all(signature: Signature, size: usize, v: usize, work: &mut [u32])
     let mut i: usize = 0;
     while i < signature.count {
         let symbol = signature.symbols[i];
-        let to = from + block_size(symbol, size) as usize;
+        let to = from + block_size(symbol, DomainSize(size)) as usize;
         prefer(work, v, from, to, symbol.function);
         from = to;
         i += 1;

@@ -13,6 +13,7 @@ use counts::counts_at;
 use problem::sheet::read_problem;
 use sizes::search_sizes;
 use syntax::limits::Problem;
+use syntax::size::DomainSize;
 use valuations::numbering::numbering_of;
 ghost use mathlib.Core.Path.{_≡_};
 ghost use mathlib.Core.Bool.{_&&_};
@@ -58,12 +59,12 @@ fn find_in(
         return FindAnswer::Refused(at_line(8, 0));
     }
     let size = high as usize;
-    let c = counts_at(sheet, p, size);
+    let c = counts_at(sheet, p, DomainSize(size));
     if Counts::MAX_INSTANCES < c.instances {
         return FindAnswer::Refused(at_line(9, 0));
     }
     let signature = p.signature;
-    let n = numbering_of(signature, size);
+    let n = numbering_of(signature, DomainSize(size));
     let needed = work_needed(c, n.count as usize);
     if work.len() < needed {
         return FindAnswer::Refused(needing(10, needed));

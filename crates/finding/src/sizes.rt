@@ -5,6 +5,7 @@ use answers::FindAnswer;
 use loading::clear_all;
 use reading_back::writing::write_case;
 use syntax::limits::Problem;
+use syntax::size::DomainSize;
 use valuations::numbering::Numbering;
 use valuations::numbering::numbering_of;
 ghost use mathlib.Core.Path.{_≡_};
@@ -39,7 +40,7 @@ pub fn search_sizes(
     let signature = p.signature;
     let mut size = low;
     while size <= high {
-        let n = numbering_of(signature, size);
+        let n = numbering_of(signature, DomainSize(size));
         if search_size(sheet, p, n, size, work) {
             return put_found(sheet, p, n, size, work, output);
         }
@@ -66,7 +67,15 @@ fn put_found(
 {
     let v = n.count as usize;
     let signature = p.signature;
-    let length = write_case(sheet, signature, n, size, b"", &work[..v], output);
+    let length = write_case(
+        sheet,
+        signature,
+        n,
+        DomainSize(size),
+        b"",
+        &work[..v],
+        output,
+    );
     clear_all(work);
     FindAnswer::Found(size as u64, length)
 }

@@ -4,6 +4,7 @@ use mathlib.Core.Path.{_≡_}
 use mathlib.Core.Bool.{false}
 use mathlib.Core.List.{List}
 use lib.ListN.{length, getD, set, replicate}
+use Rattle.theory.specs.Problem.{maxArity, maxWords, maxLiterals, maxVariables}
 use Rattle.shallow.specs.declared.literals.Shape.the-variants.{FunctionResult}
 use Rattle.shallow.specs.declared.literals.Literal.{Literal}
 use Rattle.shallow.specs.declared.literals.Lifting.{Lifting}
@@ -12,7 +13,7 @@ use Rattle.shallow.specs.Literals.{noLiteral, threeAt}
 
 -- no literal written
 unfoldable pub emptyFlat : ℕ → ℕ → FlatClause
-emptyFlat count variables = record { literals = replicate 26 noLiteral; arguments = replicate 78 0; count = count; variables = variables }
+emptyFlat count variables = record { literals = replicate (maxVariables + maxLiterals) noLiteral; arguments = replicate ((maxVariables + maxLiterals) * maxArity) 0; count = count; variables = variables }
 
 -- literal k, with its arguments
 abbrev pub withFlat : FlatClause → ℕ → Literal → List ℕ → FlatClause
@@ -30,15 +31,15 @@ definitionAt l i = record { sign = false; shape = FunctionResult (getD (l .table
 
 -- the lifted terms and literals are few enough
 pub record Assemblable (l : Lifting) : Type 0 where
-  pub rows : length (l .table .arguments) ≡ 192
-  pub arguments : length (l .arguments) ≡ 48
-  pub terms : l .table .count ≤ 10
-  pub literals : l .count ≤ 16
+  pub rows : length (l .table .arguments) ≡ maxWords * maxArity
+  pub arguments : length (l .arguments) ≡ maxLiterals * maxArity
+  pub terms : l .table .count ≤ maxVariables
+  pub literals : l .count ≤ maxLiterals
   pub few : l .owns ≤ 8
 
 -- the definitions come first, in order, then the literals
 pub record Assembled (l : Lifting) (r : FlatClause) : Type 0 where
-  pub wide : length (r .arguments) ≡ 78
+  pub wide : length (r .arguments) ≡ (maxVariables + maxLiterals) * maxArity
   pub count : r .count ≡ l .table .count + l .count
   pub variables : r .variables ≡ l .owns + l .table .count
   pub definition : (i : ℕ) → i < l .table .count → getD (r .literals) i noLiteral ≡ definitionAt l i

@@ -3,6 +3,7 @@ use Prim.Native.Nat.{ℕ, _≤_}
 use mathlib.Core.List.{List, [], map}
 use Rattle.theory.specs.Lists.{upTo}
 use Rattle.theory.specs.Syntax.{Signature}
+use Rattle.theory.specs.Problem.{maxVariables}
 use Rattle.theory.specs.Flattening as theory
 use Rattle.syntax.specs.declared.words.ClauseWords.{ClauseWords}
 use Rattle.syntax.specs.Codes.{clauseIn}
@@ -14,7 +15,7 @@ use Rattle.flattening.specs.declared.flat.FlatClause.{FlatClause}
 unfoldable pub flatIn : Signature → FlatClause → theory.FlatClause
 flatIn g c = record { owns = []; news = c .variables; literals = map (literalIn g (c .literals) (c .arguments)) (upTo (c .count)) }
 
--- and it has at most 10 variables after flattening
+-- and it is within the limit of variables after flattening
 pub record WithinLimits (arities : List ℕ) (w : ClauseWords) : Type 0 where
   pub clause : Flattenable arities w
-  pub variables : theory.variableCount (theory.flatten (clauseIn (clause .signature) w)) ≤ 10
+  pub variables : theory.variableCount (theory.flatten (clauseIn (clause .signature) w)) ≤ maxVariables

@@ -3,10 +3,12 @@ use shallow::literals::Lifting;
 use shallow::literals::Literal;
 use shallow::literals::Shape;
 use shallow::literals::lift;
+use syntax::limits::Problem;
 use syntax::words::ClauseWords;
 ghost use mathlib.Core.Path.{_≡_};
 ghost use Prim.Native.Nat.{_*_, _+_, _<_};
 ghost use lib.ListN.{length};
+ghost use Rattle.theory.specs.Problem.{maxArity, maxLiterals, maxVariables};
 ghost use Rattle.theory.specs.Flattening as theory;
 ghost use Rattle.syntax.specs.Codes.{clauseIn};
 ghost use Rattle.shallow.specs.Literals.{threeAt};
@@ -15,10 +17,10 @@ ghost use Rattle.shallow.specs.Flattenable.{Flattenable};
 ghost use Rattle.flattening.specs.Flat.{WithinLimits, flatIn};
 ghost use Rattle.flattening.specs.Assembled.{Assemblable, Assembled, emptyFlat, withFlat};
 
-// At most 10 lifted terms and 16 literals, three arguments each.
+// The lifted terms' definitions and the literals, each with as many arguments as the largest arity.
 pub struct FlatClause {
-    pub literals: [Literal; 26],
-    pub arguments: [u8; 78],
+    pub literals: [Literal; Problem::MAX_FLAT_LITERALS],
+    pub arguments: [u8; Problem::MAX_FLAT_ARGUMENTS],
     pub count: usize,
     pub variables: usize,
 }
@@ -76,28 +78,34 @@ fn empty(count: usize, variables: usize) -> FlatClause
         literals: [Literal {
             sign: false,
             shape: Shape::Predicate(0),
-        }; 26],
-        arguments: [0; 78],
+        }; Problem::MAX_FLAT_LITERALS],
+        arguments: [0; Problem::MAX_FLAT_ARGUMENTS],
         count,
         variables,
     }
 }
 
 // The three arguments of number i.
-fn three(arguments: &[u8], i: usize) -> [u8; 3]
-    requires { ⌜ i * 3 + 2 < length (now arguments) ⌝ }
+fn three(arguments: &[u8], i: usize) -> [u8; Problem::MAX_ARITY]
+    requires { ⌜ i * maxArity + 2 < length (now arguments) ⌝ }
     ensures { λ r. ⌜ r ≡ threeAt (now (arguments .entry)) i ⌝ }
 {
-    [arguments[i * 3], arguments[i * 3 + 1], arguments[i * 3 + 2]]
+    let from = i * Problem::MAX_ARITY;
+    [arguments[from], arguments[from + 1], arguments[from + 2]]
 }
 
-fn put(mut flat: FlatClause, k: usize, literal: Literal, arguments: [u8; 3]) -> FlatClause
-    requires { ⌜ k < 26 ⌝ }
+fn put(
+    mut flat: FlatClause,
+    k: usize,
+    literal: Literal,
+    arguments: [u8; Problem::MAX_ARITY],
+) -> FlatClause
+    requires { ⌜ k < maxVariables + maxLiterals ⌝ }
     ensures { λ r. ⌜ r ≡ withFlat flat k literal arguments ⌝ }
 {
     flat.literals[k] = literal;
-    flat.arguments[k * 3] = arguments[0];
-    flat.arguments[k * 3 + 1] = arguments[1];
-    flat.arguments[k * 3 + 2] = arguments[2];
+    flat.arguments[k * Problem::MAX_ARITY] = arguments[0];
+    flat.arguments[k * Problem::MAX_ARITY + 1] = arguments[1];
+    flat.arguments[k * Problem::MAX_ARITY + 2] = arguments[2];
     flat
 }

@@ -26,22 +26,22 @@ use Rattle.valuations.specs.Numbers.{NumberingOf}
 use Rattle.valuations.proofs.Blocks.{propBase-within}
 use Rattle.grounding.specs.CellPart.{rowClauses, symbolClauses, cellPart}
 
--- the literal of a cell's variable for the result d, the cell's first variable being x
-cell-literal : (x d u : ℕ) (b : Bool) → u ≡ 2 * (x + d) + cond b 0 1 → literalOf u ≡ record { positive = b; number = 1 + x + d }
-cell-literal x d u b e =
-    let n : 1 + (x + d) ≡ 1 + x + d = omega arith in
-    ap literalOf e ∙ literalOf-code (x + d) b ∙ ap (λ (k : ℕ). record { positive = b; number = k }) n
+-- the literal of a cell's variable y for the result d, the cell's first variable being x
+cell-literal : (x d y u : ℕ) (b : Bool) → y ≡ x + d → u ≡ 2 * y + cond b 0 1 → literalOf u ≡ record { positive = b; number = 1 + x + d }
+cell-literal x d y u b h e =
+    let n : 1 + y ≡ 1 + x + d = omega arith in
+    ap literalOf e ∙ literalOf-code y b ∙ ap (λ (k : ℕ). record { positive = b; number = k }) n
 
 -- not d or not e
-pub pair-clause : (x d e a b : ℕ) → a ≡ 2 * (x + d) + 1 → b ≡ 2 * (x + e) + 1 → propClauseOf (a ∷ b ∷ []) ≡ notBoth (1 + x) d e
-pair-clause x d e a b p q = ap₂ (λ (l m : PropLiteral). l ∷ m ∷ []) (cell-literal x d a false p) (cell-literal x e b false q)
+pub pair-clause : (x d e y z a b : ℕ) → y ≡ x + d → z ≡ x + e → a ≡ 2 * y + 1 → b ≡ 2 * z + 1 → propClauseOf (a ∷ b ∷ []) ≡ notBoth (1 + x) d e
+pair-clause x d e y z a b h k p q = ap₂ (λ (l m : PropLiteral). l ∷ m ∷ []) (cell-literal x d y a false h p) (cell-literal x e z b false k q)
 
 -- some result, one result more
-pub result-more : (x d u : ℕ) (us : List ℕ) → d < length us → propClauseOf (take d us) ≡ someResult d (1 + x) → u ≡ 2 * (x + d) + 0 → propClauseOf (take (suc d) (set us d u)) ≡ someResult (suc d) (1 + x)
-result-more x d u us h e p =
+pub result-more : (x d y u : ℕ) (us : List ℕ) → d < length us → propClauseOf (take d us) ≡ someResult d (1 + x) → y ≡ x + d → u ≡ 2 * y + 0 → propClauseOf (take (suc d) (set us d u)) ≡ someResult (suc d) (1 + x)
+result-more x d y u us h e k p =
     ap propClauseOf (take-suc-set us d u h)
     ∙ map-append literalOf (take d us) (u ∷ [])
-    ∙ ap₂ (λ (c : PropClause) (l : PropLiteral). c ++ (l ∷ [])) e (cell-literal x d u true p)
+    ∙ ap₂ (λ (c : PropClause) (l : PropLiteral). c ++ (l ∷ [])) e (cell-literal x d y u true k p)
     ∙ sym whole
   where
     positive : ℕ → PropLiteral

@@ -43,12 +43,13 @@ positive zero n h = absurd (omega (arith, pow-suc 0 n))
 positive (suc s) n h = omega arith
 
 -- the first choice is of zeros
-first-choice : (s n : ℕ) → n ≤ 10 → ChoiceAt s n (firstVector n s) 0
-first-choice s zero l = record { count = refl; size = refl; places = l; long = refl; chosen = λ h. ranked-chosen s 0 0 h [] refl tt refl }
-first-choice s (suc n) l =
+first-choice : (s n : ℕ) → s ≤ 8 → n ≤ 10 → ChoiceAt s n (firstVector n (record { 0 = s })) 0
+first-choice s zero b l = record { count = refl; size = refl; small = b; places = l; long = refl; chosen = λ h. ranked-chosen s 0 0 h [] refl tt refl }
+first-choice s (suc n) b l =
     record {
       count = refl;
       size = refl;
+      small = b;
       places = l;
       long = refl;
       chosen = λ h.
@@ -56,8 +57,8 @@ first-choice s (suc n) l =
           ranked-chosen s (suc n) 0 h v (length-take-le {A = ℕ} (suc n) (replicate 10 0) l) (zeros-below s (suc n) 10 (positive s n h)) (zeros-rank s (suc n) 10);
     }
 
-pub begun-choice : (s n : ℕ) (a : ArgumentVector) → n ≤ 10 → a ≡ firstVector n s → ChoiceAt s n a 0
-begun-choice s n a l e = subst (λ (b : ArgumentVector). ChoiceAt s n b 0) (sym e) (first-choice s n l)
+pub begun-choice : (s n : ℕ) (a : ArgumentVector) → s ≤ 8 → n ≤ 10 → a ≡ firstVector n (record { 0 = s }) → ChoiceAt s n a 0
+begun-choice s n a b l e = subst (λ (b : ArgumentVector). ChoiceAt s n b 0) (sym e) (first-choice s n b l)
 
 module _ (s n : ℕ) (a : ArgumentVector) (i : ℕ) (c : ChoiceAt s n a i) (h : i < s ^ n) where
   pub choice-length : length (digitsIn a) ≡ n
@@ -70,7 +71,7 @@ module _ (s n : ℕ) (a : ArgumentVector) (i : ℕ) (c : ChoiceAt s n a i) (h : 
   choice-rank = ap (rank s) (c .chosen h) ∙ vector-rank s n i h
 
   pub choice-vector : 1 ≤ s → IsVector a
-  choice-vector p = record { places = rw (c .count) (c .places); positive = rw (c .size) p; below = rw (c .size) choice-below }
+  choice-vector p = record { places = rw (c .count) (c .places); positive = rw (c .size) p; small = rw (c .size) (c .small); below = rw (c .size) choice-below }
 
   -- the next vector is the next choice
   pub next-choice : (r : ArgumentVector) → length (r .digits) ≡ 10 → IsNext a r → ChoiceAt s n r (i + 1)
@@ -78,6 +79,7 @@ module _ (s n : ℕ) (a : ArgumentVector) (i : ℕ) (c : ChoiceAt s n a i) (h : 
       record {
         count = x .count ∙ c .count;
         size = x .size ∙ c .size;
+        small = c .small;
         places = c .places;
         long = long;
         chosen = λ k.
@@ -91,7 +93,7 @@ module _ (s n : ℕ) (a : ArgumentVector) (i : ℕ) (c : ChoiceAt s n a i) (h : 
 
   -- of no values below 0 there is no choice after the first
   pub last-choice : s ≡ 0 → ChoiceAt s n a (i + 1)
-  last-choice z = record { count = c .count; size = c .size; places = c .places; long = c .long; chosen = λ k. absurd (one-only s n i z k) }
+  last-choice z = record { count = c .count; size = c .size; small = c .small; places = c .places; long = c .long; chosen = λ k. absurd (one-only s n i z k) }
     where
       one-only : (s n i : ℕ) → s ≡ 0 → i + 1 < s ^ n → ⊥
       one-only s zero i z k = omega (arith, pow-zero s)

@@ -10,7 +10,8 @@ use Rattle.interpretation.specs.Vectors.{digitsIn}
 -- a is number i of all choices of n values below s, if there are so many
 pub record ChoiceAt (s n : ℕ) (a : ArgumentVector) (i : ℕ) : Type 0 where
   pub count : a .count ≡ n
-  pub size : a .size ≡ s
+  pub size : a .size .0 ≡ s
+  pub small : s ≤ 8
   pub places : n ≤ 10
   pub long : length (a .digits) ≡ 10
   pub chosen : i < s ^ n → digitsIn a ≡ getD (vectors s n) i []

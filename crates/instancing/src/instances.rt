@@ -9,6 +9,7 @@ use stream::consumer::Mode;
 use stream::consumer::Progress;
 use stream::consumer::take_clause;
 use syntax::limits::Problem;
+use syntax::size::DomainSize;
 use valuations::numbering::Numbering;
 ghost use mathlib.Core.Path.{_≡_};
 ghost use Prim.Native.Nat.{ℕ, _+_, _*_, _^_, _≤_, _<_};
@@ -101,7 +102,7 @@ fn clause_instances(
     ensures { λ r. ⌜ ((o : FormsOf size variables count (now (forms .entry))) → Consumed mode v (allInstances o) (state start (now (out .entry)) (now (work .entry))) (state r (now (out .exit)) (now (work .exit)))) ⌝ }
 {
     let choices = power(size as usize, variables);
-    let mut values = ArgumentVector::first(variables, size as u8);
+    let mut values = ArgumentVector::first(variables, DomainSize(size as usize));
     let mut p = start;
     let mut i: usize = 0;
     while i < choices {
@@ -142,7 +143,7 @@ fn next_choice(values: ArgumentVector) -> ArgumentVector
     requires { ⌜ ((s : ℕ) × (n : ℕ) × (i : ℕ) × (i < s ^ n) × ChoiceAt s n values i) ⌝ }
     ensures { λ r. ⌜ ((s n i : ℕ) → i < s ^ n → ChoiceAt s n values i → ChoiceAt s n r (i + 1)) ⌝ }
 {
-    if values.size == 0 {
+    if values.size.0 == 0 {
         return values;
     }
     values.step()

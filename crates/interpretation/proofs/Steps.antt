@@ -16,10 +16,10 @@ use Rattle.interpretation.proofs.Ranks.{rank-set, allBelow-set, allBelo
 pub record Passed (a r : ArgumentVector) (i : ℕ) : Type 0 where
   pub within : i ≤ a .count
   pub count : r .count ≡ a .count
-  pub size : r .size ≡ a .size
+  pub size : r .size .0 ≡ a .size .0
   pub long : length (r .digits) ≡ 10
-  pub below : AllBelow (a .size) (digitsIn r)
-  pub carried : rank (a .size) (digitsIn r) + a .size ^ (a .count - i) ≡ rank (a .size) (digitsIn a) + 1
+  pub below : AllBelow (a .size .0) (digitsIn r)
+  pub carried : rank (a .size .0) (digitsIn r) + a .size .0 ^ (a .count - i) ≡ rank (a .size .0) (digitsIn a) + 1
 
 -- the last place that is not passed
 pub before : (a r : ArgumentVector) (i : ℕ) → 0 < i → Passed a r i → Passed a r (suc (i - 1))
@@ -42,27 +42,27 @@ module _ (a r : ArgumentVector) (i : ℕ) (v : IsVector a) (p : Passed a r (suc 
   digit : getD (digitsIn r) i 0 ≡ getD (r .digits) i 0
   digit = getD-take (r .count) (r .digits) i 0 (omega (arith, p .within, p .count))
 
-  pub digit-below : getD (r .digits) i 0 < a .size
-  digit-below = rw (← digit) (allBelow-at (a .size) (digitsIn r) i (omega (arith, digits-length, p .within)) (p .below))
+  pub digit-below : getD (r .digits) i 0 < a .size .0
+  digit-below = rw (← digit) (allBelow-at (a .size .0) (digitsIn r) i (omega (arith, digits-length, p .within)) (p .below))
 
   digits-with : (x : ℕ) → digitsIn (with r i x) ≡ set (digitsIn r) i x
   digits-with x = take-set-lt (r .count) (r .digits) i x (omega (arith, p .within, p .count))
 
-  rank-with : (x : ℕ) → rank (a .size) (digitsIn (with r i x)) + getD (r .digits) i 0 * a .size ^ (a .count - suc i) ≡ rank (a .size) (digitsIn r) + x * a .size ^ (a .count - suc i)
+  rank-with : (x : ℕ) → rank (a .size .0) (digitsIn (with r i x)) + getD (r .digits) i 0 * a .size .0 ^ (a .count - suc i) ≡ rank (a .size .0) (digitsIn r) + x * a .size .0 ^ (a .count - suc i)
   rank-with x =
-      ap (λ (l : List ℕ). rank (a .size) l + getD (r .digits) i 0 * a .size ^ (a .count - suc i)) (digits-with x)
-      ∙ ap (λ (d : ℕ). rank (a .size) (set (digitsIn r) i x) + d * a .size ^ (a .count - suc i)) (sym digit)
-      ∙ rank-set (a .size) x (digitsIn r) i (a .count - suc i) (omega (arith, digits-length, p .within))
+      ap (λ (l : List ℕ). rank (a .size .0) l + getD (r .digits) i 0 * a .size .0 ^ (a .count - suc i)) (digits-with x)
+      ∙ ap (λ (d : ℕ). rank (a .size .0) (set (digitsIn r) i x) + d * a .size .0 ^ (a .count - suc i)) (sym digit)
+      ∙ rank-set (a .size .0) x (digitsIn r) i (a .count - suc i) (omega (arith, digits-length, p .within))
 
-  below-with : (x : ℕ) → x < a .size → AllBelow (a .size) (digitsIn (with r i x))
-  below-with x h = rw (digits-with x) (allBelow-set (a .size) x (digitsIn r) i h (p .below))
+  below-with : (x : ℕ) → x < a .size .0 → AllBelow (a .size .0) (digitsIn (with r i x))
+  below-with x h = rw (digits-with x) (allBelow-set (a .size .0) x (digitsIn r) i h (p .below))
 
   -- a place at its last digit is passed
-  pub one-passed : a .size ≤ getD (r .digits) i 0 + 1 → Passed a (with r i 0) i
+  pub one-passed : a .size .0 ≤ getD (r .digits) i 0 + 1 → Passed a (with r i 0) i
   one-passed full =
-      let d : getD (r .digits) i 0 + 1 ≡ a .size = omega (arith, digit-below) in
+      let d : getD (r .digits) i 0 + 1 ≡ a .size .0 = omega (arith, digit-below) in
       let e : a .count - i ≡ suc (a .count - suc i) = omega (arith, p .within) in
-      let q : ℕ = a .size ^ (a .count - suc i) in
+      let q : ℕ = a .size .0 ^ (a .count - suc i) in
       record {
         within = omega (arith, p .within);
         count = p .count;
@@ -79,38 +79,38 @@ module _ (a r : ArgumentVector) (i : ℕ) (v : IsVector a) (p : Passed a r (suc 
               add-mul (getD (r .digits) i 0) 1 q,
               one-mul q,
               ap (λ (m : ℕ). m * q) d,
-              mul-comm (a .size) q,
+              mul-comm (a .size .0) q,
             ));
       }
 
   -- the first that is not gets the next digit
-  pub stepped : getD (r .digits) i 0 + 1 < a .size → IsNext a (with r i (getD (r .digits) i 0 + 1))
+  pub stepped : getD (r .digits) i 0 + 1 < a .size .0 → IsNext a (with r i (getD (r .digits) i 0 + 1))
   stepped less =
-      let q : ℕ = a .size ^ (a .count - suc i) in
+      let q : ℕ = a .size .0 ^ (a .count - suc i) in
       let t : ArgumentVector = with r i (getD (r .digits) i 0 + 1) in
-      let b : AllBelow (a .size) (digitsIn t) = below-with (getD (r .digits) i 0 + 1) less in
-      let e : rank (a .size) (digitsIn t) ≡ rank (a .size) (digitsIn a) + 1 =
+      let b : AllBelow (a .size .0) (digitsIn t) = below-with (getD (r .digits) i 0 + 1) less in
+      let e : rank (a .size .0) (digitsIn t) ≡ rank (a .size .0) (digitsIn a) + 1 =
       omega (arith, rank-with (getD (r .digits) i 0 + 1), p .carried, add-mul (getD (r .digits) i 0) 1 q, one-mul q) in
       let n : length (digitsIn t) ≡ a .count = ap length (digits-with (getD (r .digits) i 0 + 1)) ∙ length-set (digitsIn r) i (getD (r .digits) i 0 + 1) ∙ digits-length in
-      let h : rank (a .size) (digitsIn a) + 1 < a .size ^ a .count = rw (e, n) at (rank-lt (a .size) (digitsIn t) b) in
+      let h : rank (a .size .0) (digitsIn a) + 1 < a .size .0 ^ a .count = rw (e, n) at (rank-lt (a .size .0) (digitsIn t) b) in
       record {
         count = p .count;
         size = p .size;
-        vector = record { places = rw (p .count) (v .places); positive = rw (p .size) (v .positive); below = rw (p .size) b };
+        vector = record { places = rw (p .count) (v .places); positive = rw (p .size) (v .positive); small = rw (p .size) (v .small); below = rw (p .size) b };
         next = e ∙ sym (mod-eq-of-lt h);
       }
 
 -- where every place was at its last digit, the first vector comes
 pub all-passed : (a r : ArgumentVector) → IsVector a → length (a .digits) ≡ 10 → Passed a r 0 → IsNext a r
 all-passed a r v long p =
-    let c : rank (a .size) (digitsIn r) + a .size ^ a .count ≡ rank (a .size) (digitsIn a) + 1 = rw sub-zero at (p .carried) in
+    let c : rank (a .size .0) (digitsIn r) + a .size .0 ^ a .count ≡ rank (a .size .0) (digitsIn a) + 1 = rw sub-zero at (p .carried) in
     let n : length (digitsIn a) ≡ a .count = length-take-le (a .count) (a .digits) (omega (arith, v .places)) in
-    let b : rank (a .size) (digitsIn a) < a .size ^ a .count = rw n at (rank-lt (a .size) (digitsIn a) (v .below)) in
-    let z : rank (a .size) (digitsIn r) ≡ 0 = omega arith in
-    let w : rank (a .size) (digitsIn a) + 1 ≡ a .size ^ a .count = omega arith in
+    let b : rank (a .size .0) (digitsIn a) < a .size .0 ^ a .count = rw n at (rank-lt (a .size .0) (digitsIn a) (v .below)) in
+    let z : rank (a .size .0) (digitsIn r) ≡ 0 = omega arith in
+    let w : rank (a .size .0) (digitsIn a) + 1 ≡ a .size .0 ^ a .count = omega arith in
     record {
       count = p .count;
       size = p .size;
-      vector = record { places = rw (p .count) (v .places); positive = rw (p .size) (v .positive); below = rw (p .size) (p .below) };
+      vector = record { places = rw (p .count) (v .places); positive = rw (p .size) (v .positive); small = rw (p .size) (v .small); below = rw (p .size) (p .below) };
       next = rw (z, w, mod-self);
     }

@@ -4,6 +4,7 @@ use mathlib.Core.Path.{_≡_}
 use mathlib.Core.List.{List}
 use lib.ListN.{take, replicate}
 use Rattle.theory.specs.Vectors.{rank, AllBelow}
+use Rattle.syntax.specs.declared.size.DomainSize.{DomainSize}
 use Rattle.interpretation.specs.declared.vector.ArgumentVector.{ArgumentVector}
 
 -- the digits of a vector
@@ -11,18 +12,19 @@ abbrev pub digitsIn : ArgumentVector → List ℕ
 digitsIn a = take (a .count) (a .digits)
 
 -- n digits 0, each of size s
-abbrev pub firstVector : ℕ → ℕ → ArgumentVector
+abbrev pub firstVector : ℕ → DomainSize → ArgumentVector
 firstVector n s = record { digits = replicate 10 0; count = n; size = s }
 
 -- every digit is below the size
 pub record IsVector (a : ArgumentVector) : Type 0 where
   pub places : a .count ≤ 10
-  pub positive : 1 ≤ a .size
-  pub below : AllBelow (a .size) (digitsIn a)
+  pub positive : 1 ≤ a .size .0
+  pub small : a .size .0 ≤ 8
+  pub below : AllBelow (a .size .0) (digitsIn a)
 
 -- r has the next rank, 0 after the last
 pub record IsNext (a r : ArgumentVector) : Type 0 where
   pub count : r .count ≡ a .count
-  pub size : r .size ≡ a .size
+  pub size : r .size .0 ≡ a .size .0
   pub vector : IsVector r
-  pub next : rank (a .size) (digitsIn r) ≡ (rank (a .size) (digitsIn a) + 1) % (a .size ^ a .count)
+  pub next : rank (a .size .0) (digitsIn r) ≡ (rank (a .size .0) (digitsIn a) + 1) % (a .size .0 ^ a .count)

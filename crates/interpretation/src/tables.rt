@@ -2,6 +2,7 @@
 use crate::vector::power;
 use syntax::limits::Problem;
 use syntax::signature::Signature;
+use syntax::size::DomainSize;
 ghost use mathlib.Core.List.{List};
 ghost use Prim.Native.Nat.{_≤_, ℕ};
 ghost use Rattle.syntax.specs.Signatures.{signatureIn};
@@ -17,9 +18,16 @@ pub struct Tables {
     pub cells: usize,
 }
 
-pub fn tables_of(signature: Signature, size: usize) -> Tables
-    requires { ⌜ Limited signature × (size ≤ 8) ⌝ }
-    ensures { λ r. ⌜ ((sheet : List ℕ) → TablesOf (signatureIn sheet signature) size r) ⌝ }
+impl Tables {
+    // the cells of a symbol of the greatest arity at the greatest size
+    pub const MAX_TABLE: usize = Problem::MAX_SIZE * Problem::MAX_SIZE * Problem::MAX_SIZE;
+
+    pub const MAX_CELLS: usize = Self::MAX_TABLE * Problem::MAX_SYMBOLS;
+}
+
+pub fn tables_of(signature: Signature, size: DomainSize) -> Tables
+    requires { ⌜ Limited signature × (size .0 ≤ 8) ⌝ }
+    ensures { λ r. ⌜ ((sheet : List ℕ) → TablesOf (signatureIn sheet signature) (size .0) r) ⌝ }
 {
     let mut t = Tables {
         arities: [0; Problem::MAX_SYMBOLS],
@@ -33,7 +41,7 @@ pub fn tables_of(signature: Signature, size: usize) -> Tables
         t.arities[i] = symbol.arity;
         t.functions[i] = symbol.function;
         t.bases[i] = t.cells;
-        t.cells = t.cells + power(size, symbol.arity as usize);
+        t.cells = t.cells + power(size.0, symbol.arity as usize);
         i += 1;
     }
     t

@@ -1,5 +1,6 @@
 // Argument vectors, counted through by value: the last place runs fastest.
 use syntax::limits::Problem;
+use syntax::size::DomainSize;
 ghost use mathlib.Core.Path.{_≡_};
 ghost use Prim.Native.Nat.{_^_, _≤_};
 ghost use Rattle.interpretation.specs.Vectors.{IsNext, IsVector, firstVector};
@@ -8,11 +9,11 @@ ghost use Rattle.interpretation.specs.Vectors.{IsNext, IsVector, firstVe
 pub struct ArgumentVector {
     pub digits: [u8; Problem::MAX_VARIABLES],
     pub count: usize,
-    pub size: u8,
+    pub size: DomainSize,
 }
 
 impl ArgumentVector {
-    pub fn first(count: usize, size: u8) -> ArgumentVector
+    pub fn first(count: usize, size: DomainSize) -> ArgumentVector
         ensures { λ r. ⌜ r ≡ firstVector count size ⌝ }
     {
         ArgumentVector {
@@ -27,7 +28,7 @@ impl ArgumentVector {
         requires { ⌜ IsVector self ⌝ }
         ensures { λ r. ⌜ IsNext self r ⌝ }
     {
-        let size = self.size;
+        let size = self.size.0 as u8;
         let mut i = self.count;
         while 0 < i {
             i -= 1;
@@ -42,15 +43,15 @@ impl ArgumentVector {
     }
 }
 
-// size ^ count: how many vectors there are.
-pub fn power(size: usize, count: usize) -> usize
-    requires { ⌜ (size ≤ 8) × (count ≤ 10) ⌝ }
-    ensures { λ r. ⌜ r ≡ size ^ count ⌝ }
+// base ^ count: how many vectors of `count` digits below `base` there are.
+pub fn power(base: usize, count: usize) -> usize
+    requires { ⌜ (base ≤ 8) × (count ≤ 10) ⌝ }
+    ensures { λ r. ⌜ r ≡ base ^ count ⌝ }
 {
     let mut n: usize = 1;
     let mut i: usize = 0;
     while i < count {
-        n = n * size;
+        n = n * base;
         i += 1;
     }
     n

@@ -23,7 +23,7 @@ use Rattle.syntax.specs.Variables.{lettersOf, CodesBelow, Places, variablesIn}
 use Rattle.syntax.proofs.Places.{letters-below}
 use Rattle.syntax.proofs.Clauses.{codesBelow, variables-clauseIn}
 use Rattle.interpretation.specs.declared.tables.Tables.{Tables}
-use Rattle.truth.specs.Values.{ClauseLent, lettersAmong, tablesIn}
+use Rattle.truth.specs.Values.{ClauseLent, lettersAmong}
 use Rattle.judging.specs.Choices.{firstFailing, Judged}
 
 module _ {g : Signature} {c : ClauseWords} {t : Tables} {cells : List ℕ} {s : ℕ} (j : Judged g c t cells s) (held : length (c .words) ≡ 64) where
@@ -40,7 +40,7 @@ module _ {g : Signature} {c : ClauseWords} {t : Tables} {cells : List ℕ} {s : 
   letters-among = elem-all (λ x. elem x (variablesIn c)) (lettersOf (wordsIn c)) (λ x e. elem-distinct x (lettersOf (wordsIn c)) e)
 
   module _ (v : Variables) (p : Places (variablesIn c) v) (letters : length (v .place) ≡ 8) where
-    abbrev pub judged-lent : ClauseLent (take (c .count - 0) (c .words)) (v .place) (tablesIn (t .arities) (t .functions) (t .bases) cells) cells s
+    abbrev pub judged-lent : ClauseLent (take (c .count - 0) (c .words)) (v .place) (t .arities) (t .functions) (t .bases) cells s
     judged-lent =
         record {
           signature = g;

@@ -12,7 +12,6 @@ use Rattle.theory.specs.Lists.{firstThat}
 use Rattle.theory.specs.Vectors.{vectors, rank, AllBelow}
 use Rattle.theory.specs.Truth.{clauseTrue, assign}
 use Rattle.theory.specs.Cells.{interpretation}
-use Rattle.interpretation.specs.declared.tables.Tables.{Tables}
 use Rattle.interpretation.specs.declared.vector.ArgumentVector.{ArgumentVector}
 use Rattle.interpretation.specs.Vectors.{digitsIn, firstVector, IsVector, IsNext}
 use Rattle.truth.specs.Values.{Chosen, ClauseLent, lentClause}
@@ -22,7 +21,7 @@ use Rattle.interpretation.proofs.Counting.{length-vectors, drop-vectors}
 -- a is the vector of rank i, if there is one
 pub record Reached (s n : ℕ) (a : ArgumentVector) (i : ℕ) : Type 0 where
   pub count : a .count ≡ n
-  pub size : a .size ≡ s
+  pub size : a .size .0 ≡ s
   pub long : length (a .digits) ≡ 10
   pub vector : IsVector a
   pub within : i ≤ s ^ n
@@ -39,13 +38,13 @@ zeros-below s (suc n) zero h = tt
 zeros-below s (suc n) (suc k) h = (h, zeros-below s n k h)
 
 -- the first vector has rank 0
-pub first-reached : (s n : ℕ) → 1 ≤ s → n ≤ 10 → Reached s n (firstVector n s) 0
-first-reached s n h l =
+pub first-reached : (s n : ℕ) → 1 ≤ s → s ≤ 8 → n ≤ 10 → Reached s n (firstVector n (record { 0 = s })) 0
+first-reached s n h b l =
     record {
       count = refl;
       size = refl;
       long = refl;
-      vector = record { places = l; positive = h; below = zeros-below s n 10 h };
+      vector = record { places = l; positive = h; small = b; below = zeros-below s n 10 h };
       within = omega arith;
       ranked = λ k. zeros-rank s n 10;
     }
@@ -104,11 +103,11 @@ module _ (s n : ℕ) (a : ArgumentVector) (i : ℕ) (r : Reached s n a i) where
     found-none h = ap (firstThat p) (drop-of-length-le (vectors s n) {i = i} (omega (arith, length-vectors s n)))
 
 -- the clause is true under the choices before the one reached
-pub record Passed (words place : List ℕ) (t : Tables) (cells : List ℕ) (s n : ℕ) (a : ArgumentVector) (i : ℕ) : Type 0 where
+pub record Passed (words place arities : List ℕ) (functions : List Bool) (bases cells : List ℕ) (s n : ℕ) (a : ArgumentVector) (i : ℕ) : Type 0 where
   pub reached : Reached s n a i
-  pub rest : (c : ClauseLent words place t cells s) → n ≡ length (c .variables) → firstFailing c ≡ firstThat (failsAt c) (drop i (vectors s n))
+  pub rest : (c : ClauseLent words place arities functions bases cells s) → n ≡ length (c .variables) → firstFailing c ≡ firstThat (failsAt c) (drop i (vectors s n))
 
-module _ {words place : List ℕ} {t : Tables} {cells : List ℕ} {s n : ℕ} {a : ArgumentVector} {i : ℕ} (p : Passed words place t cells s n a i) where
+module _ {words place arities : List ℕ} {functions : List Bool} {bases cells : List ℕ} {s n : ℕ} {a : ArgumentVector} {i : ℕ} (p : Passed words place arities functions bases cells s n a i) where
   lent : take (n - 0) (a .digits) ≡ digitsIn a
   lent = let e : n - 0 ≡ a .count = omega (arith, p .reached .count) in ap (λ (m : ℕ). take m (a .digits)) e
 
@@ -116,7 +115,7 @@ module _ {words place : List ℕ} {t : Tables} {cells : List ℕ} {s n : ℕ} {a
   pub passed-chosen : (xs : List ℕ) → n ≡ length xs → Chosen xs s (take (n - 0) (a .digits))
   passed-chosen xs e = rw lent (record { counted = reached-length s n a i (p .reached) ∙ e; below = reached-below s n a i (p .reached) })
 
-  module _ (c : ClauseLent words place t cells s) (e : n ≡ length (c .variables)) where
+  module _ (c : ClauseLent words place arities functions bases cells s) (e : n ≡ length (c .variables)) where
     lent-value : (b : Bool) → b ≡ clauseTrue (interpretation s (c .signature) cells) (assign (c .variables) (take (n - 0) (a .digits))) (lentClause c) → failsAt c (digitsIn a) ≡ not b
     lent-value b q = sym (ap not (q ∙ ap (λ (v : List ℕ). clauseTrue (interpretation s (c .signature) cells) (assign (c .variables) v) (lentClause c)) lent))
 
@@ -128,18 +127,18 @@ module _ {words place : List ℕ} {t : Tables} {cells : List ℕ} {s n : ℕ} {a
     passed-none h = sym (p .rest c e ∙ found-none s n a i (p .reached) (failsAt c) h)
 
   pub passed-next : (b : Bool) (r : ArgumentVector) → length (r .digits) ≡ 10 → i < s ^ n → b ≡ true → IsNext a r
-      → ((c : ClauseLent words place t cells s) → n ≡ length (c .variables)
+      → ((c : ClauseLent words place arities functions bases cells s) → n ≡ length (c .variables)
       → b ≡ clauseTrue (interpretation s (c .signature) cells) (assign (c .variables) (take (n - 0) (a .digits))) (lentClause c))
-      → Passed words place t cells s n r (suc i)
+      → Passed words place arities functions bases cells s n r (suc i)
   passed-next b r long h z x q =
       record {
         reached = next-reached s n a r i long (p .reached) h x;
         rest = λ c e. p .rest c e ∙ found-later s n a i (p .reached) (failsAt c) h (lent-value c e b (q c e) ∙ ap not z);
       }
 
-pub none-passed : (words place : List ℕ) (t : Tables) (cells : List ℕ) (s n : ℕ) (a : ArgumentVector) → 1 ≤ s → n ≤ 10 → a ≡ firstVector n s → Passed words place t cells s n a 0
-none-passed words place t cells s n a h l e =
+pub none-passed : (words place arities : List ℕ) (functions : List Bool) (bases cells : List ℕ) (s n : ℕ) (a : ArgumentVector) → 1 ≤ s → s ≤ 8 → n ≤ 10 → a ≡ firstVector n (record { 0 = s }) → Passed words place arities functions bases cells s n a 0
+none-passed words place arities functions bases cells s n a h b l e =
     record {
-      reached = rw e (first-reached s n h l);
+      reached = rw e (first-reached s n h b l);
       rest = λ c k. ap (λ (m : ℕ). firstThat (failsAt c) (vectors s m)) (sym k);
     }

@@ -1,13 +1,13 @@
 -- The cells of a case that was read.
 use Prim.Native.Nat.{ℕ, _≤_}
 use mathlib.Core.Path.{_≡_}
-use mathlib.Core.Bool.{true}
+use mathlib.Core.Bool.{Bool, true}
 use mathlib.Core.List.{List}
 use lib.ListN.{length, take}
-use Rattle.theory.specs.Cells.{cellCount, isInterpretation}
+use Rattle.theory.specs.Cells.{cellCount, isInterpretation, isModel}
 use Rattle.syntax.specs.declared.limits.Problem.{Problem}
 use Rattle.syntax.specs.Signatures.{signatureIn}
-use Rattle.problem.specs.Problems.{Accepted}
+use Rattle.problem.specs.Problems.{problemIn, Accepted}
 
 -- the first cells, as many as the problem's symbols have at size s
 abbrev pub cellsOf : List ℕ → Problem → List ℕ → ℕ → List ℕ
@@ -20,3 +20,7 @@ pub record CellsLent (sheet : List ℕ) (p : Problem) (cells : List ℕ) (s : �
   pub accepted : Accepted sheet p
   pub held : cellCount s (signatureIn sheet (p .signature)) ≤ length cells
   pub values : isInterpretation s (signatureIn sheet (p .signature)) (cellsOf sheet p cells s) ≡ true
+
+-- whether that is a model of the problem
+abbrev pub isModelIn : List ℕ → Problem → List ℕ → ℕ → Bool
+isModelIn sheet p cells s = isModel s (problemIn sheet p .symbols) (problemIn sheet p .clauses) (cellsOf sheet p cells s)

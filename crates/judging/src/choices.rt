@@ -2,18 +2,12 @@
 use interpretation::tables::Tables;
 use interpretation::vector::ArgumentVector;
 use interpretation::vector::power;
+use syntax::size::DomainSize;
 use syntax::variables::variables_of;
 use syntax::words::ClauseWords;
 use truth::values::clause_value;
-ghost use mathlib.Core.Path.{_≡_};
-ghost use Prim.Native.Nat.{_≤_};
-ghost use lib.ListN.{length};
 ghost use Rattle.theory.specs.Syntax.{Signature};
-ghost use Rattle.theory.specs.Truth.{failingChoice};
-ghost use Rattle.theory.specs.Cells.{interpretation};
-ghost use Rattle.syntax.specs.Codes.{clauseIn};
-ghost use Rattle.truth.specs.Values.{ClauseLent, tablesIn};
-ghost use Rattle.judging.specs.Choices.{Judged, choiceIn, firstFailing};
+ghost use Rattle.judging.specs.Choices.{ChoicesLent, IsFailingChoice, IsFirstChoice, Judged};
 
 // A choice of values under which a clause fails, if there is one.
 pub struct Choice {
@@ -29,14 +23,14 @@ fn first_choice(
     functions: &[bool],
     bases: &[usize],
     cells: &[u8],
-    size: usize,
+    size: DomainSize,
     count: usize,
 ) -> Choice
-    requires { ⌜ ((c : ClauseLent (now words) (now place) (tablesIn (now arities) (now functions) (now bases) (now cells)) (now cells) size) × ((count ≡ length (c .variables)) × ((count ≤ 10) × (1 ≤ size)))) ⌝ }
-    ensures { λ r. ⌜ ((c : ClauseLent (now (words .entry)) (now (place .entry)) (tablesIn (now (arities .entry)) (now (functions .entry)) (now (bases .entry)) (now (cells .entry))) (now (cells .entry)) size) → count ≡ length (c .variables) → choiceIn r ≡ firstFailing c) ⌝ }
+    requires { ⌜ ChoicesLent (now words) (now place) (now arities) (now functions) (now bases) (now cells) (size .0) count ⌝ }
+    ensures { λ r. ⌜ IsFirstChoice (now (words .entry)) (now (place .entry)) (now (arities .entry)) (now (functions .entry)) (now (bases .entry)) (now (cells .entry)) (size .0) count r ⌝ }
 {
-    let mut values = ArgumentVector::first(count, size as u8);
-    let choices = power(size, count);
+    let mut values = ArgumentVector::first(count, size);
+    let choices = power(size.0, count);
     let mut i: usize = 0;
     while i < choices {
         let digits = values.digits;
@@ -65,9 +59,9 @@ fn first_choice(
 }
 
 // The first failing choice of values for the clause's own variables.
-pub fn failing_choice(c: ClauseWords, t: Tables, cells: &[u8], size: usize) -> Choice
-    requires { ⌜ ((g : Signature) × Judged g c t (now cells) size) ⌝ }
-    ensures { λ r. ⌜ ((g : Signature) → Judged g c t (now (cells .entry)) size → choiceIn r ≡ failingChoice (interpretation size g (now (cells .entry))) size (clauseIn g c)) ⌝ }
+pub fn failing_choice(c: ClauseWords, t: Tables, cells: &[u8], size: DomainSize) -> Choice
+    requires { ⌜ ((g : Signature) × Judged g c t (now cells) (size .0)) ⌝ }
+    ensures { λ r. ⌜ IsFailingChoice c t (now (cells .entry)) (size .0) r ⌝ }
 {
     let variables = variables_of(c);
     let words = c.words;

@@ -4,6 +4,7 @@ use interpretation::tables::Tables;
 use interpretation::vector::ArgumentVector;
 use problem::clause_lines::clause_words;
 use syntax::limits::Problem;
+use syntax::size::DomainSize;
 ghost use mathlib.Core.Path.{_≡_};
 ghost use Rattle.theory.specs.Cells.{judged};
 ghost use Rattle.problem.specs.Problems.{problemIn};
@@ -17,9 +18,9 @@ pub struct Failure {
 }
 
 // The clauses in order, each at all its choices.
-pub fn first_failure(sheet: &[u8], p: Problem, t: Tables, cells: &[u8], size: usize) -> Failure
-    requires { ⌜ ProblemLent (now sheet) p t (now cells) size ⌝ }
-    ensures { λ r. ⌜ failureIn r ≡ judged size (problemIn (now (sheet .entry)) p .symbols) (problemIn (now (sheet .entry)) p .clauses) (now (cells .entry)) ⌝ }
+pub fn first_failure(sheet: &[u8], p: Problem, t: Tables, cells: &[u8], size: DomainSize) -> Failure
+    requires { ⌜ ProblemLent (now sheet) p t (now cells) (size .0) ⌝ }
+    ensures { λ r. ⌜ failureIn r ≡ judged (size .0) (problemIn (now (sheet .entry)) p .symbols) (problemIn (now (sheet .entry)) p .clauses) (now (cells .entry)) ⌝ }
 {
     let mut k: usize = 0;
     while k < p.count {
@@ -38,6 +39,6 @@ pub fn first_failure(sheet: &[u8], p: Problem, t: Tables, cells: &[u8], size: us
     Failure {
         fails: false,
         clause: k,
-        values: ArgumentVector::first(0, 1),
+        values: ArgumentVector::first(0, size),
     }
 }

@@ -4,16 +4,16 @@ use answers::JudgeAnswer;
 use answers::at_line;
 use cases::reading::CaseReading;
 use cases::reading::read_case;
+use interpretation::tables::Tables;
 use interpretation::tables::tables_of;
 use problem::sheet::read_problem;
 use syntax::limits::Problem;
+use syntax::size::DomainSize;
 ghost use mathlib.Core.Path.{_≡_};
 ghost use Rattle.theory.specs.Refusals.{answer};
-ghost use Rattle.theory.specs.Cells.{isModel};
 ghost use Rattle.theory.specs.Operations as theory;
 ghost use Rattle.answers.specs.Answers.{judgeIn};
-ghost use Rattle.problem.specs.Problems.{problemIn};
-ghost use Rattle.judging.specs.Cases.{CellsLent, cellsOf};
+ghost use Rattle.judging.specs.Cases.{CellsLent, isModelIn};
 
 // The sheet's refusals, then the case's, then yes or no.
 pub fn judge_case(sheet: &[u8], case: &[u8]) -> JudgeAnswer
@@ -25,18 +25,17 @@ pub fn judge_case(sheet: &[u8], case: &[u8]) -> JudgeAnswer
     }
     let p = r.problem;
     let signature = p.signature;
-    // 8^3 cells for each symbol at most
-    let mut cells = [0; 512 * Problem::MAX_SYMBOLS];
+    let mut cells = [0; Tables::MAX_CELLS];
     match read_case(case, sheet, signature, &mut cells) {
         CaseReading::Refused(line) => JudgeAnswer::Refused(at_line(12, line)),
-        CaseReading::Read(size) => judge_cells(sheet, p, &cells, size),
+        CaseReading::Read(size) => judge_cells(sheet, p, &cells, DomainSize(size)),
     }
 }
 
 // Yes if no clause fails in the interpretation that the first cells are.
-fn judge_cells(sheet: &[u8], p: Problem, cells: &[u8], size: usize) -> JudgeAnswer
-    requires { ⌜ CellsLent (now sheet) p (now cells) size ⌝ }
-    ensures { λ r. ⌜ judgeIn r ≡ answer (isModel size (problemIn (now (sheet .entry)) p .symbols) (problemIn (now (sheet .entry)) p .clauses) (cellsOf (now (sheet .entry)) p (now (cells .entry)) size)) ⌝ }
+fn judge_cells(sheet: &[u8], p: Problem, cells: &[u8], size: DomainSize) -> JudgeAnswer
+    requires { ⌜ CellsLent (now sheet) p (now cells) (size .0) ⌝ }
+    ensures { λ r. ⌜ judgeIn r ≡ answer (isModelIn (now (sheet .entry)) p (now (cells .entry)) (size .0)) ⌝ }
 {
     let signature = p.signature;
     let t = tables_of(signature, size);

@@ -6,6 +6,7 @@ use mathlib.Core.List.{List}
 use lib.ListN.{length, getD}
 use Rattle.theory.specs.Lists.{all}
 use Rattle.theory.specs.Syntax.{Signature, Term, variable, apply, Terms, empty, termVariables, termOk}
+use Rattle.theory.specs.Problem.{maxWords, maxArity}
 use Rattle.theory.proofs.WellFormed.{within}
 use Rattle.theory.proofs.LiftedTerms.{covered, isApply, different}
 use Rattle.lifting.specs.declared.table.Table.{Table}
@@ -22,8 +23,8 @@ inner (apply f ts) = ts
 
 -- row i is that of the i-th term found: its function, and the places of the variables that stand for its arguments
 pub record Holds (xs : List ℕ) (found : List Term) (t : Table) : Type 0 where
-  pub functions : length (t .functions) ≡ 64
-  pub arguments : length (t .arguments) ≡ 192
+  pub functions : length (t .functions) ≡ maxWords
+  pub arguments : length (t .arguments) ≡ maxWords * maxArity
   pub count : t .count ≡ length found
   pub function : (i : ℕ) → i < length found → getD (t .functions) i 0 ≡ outer (getD found i (variable 0))
   pub argument : (i j : ℕ) → i < length found → j < 3 → getD (t .arguments) (i * 3 + j) 0 ≡ getD (places xs found (inner (getD found i (variable 0)))) j 0

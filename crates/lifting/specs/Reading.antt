@@ -9,6 +9,7 @@ use Rattle.theory.proofs.WellFormed.{within}
 use Rattle.theory.specs.Lists.{all, placeThat}
 use Rattle.theory.specs.Syntax.{Signature, Term, Terms, count, termVariables, termsVariables, termOk, termsOk}
 use Rattle.theory.specs.Grammar.{Word, termWords, termsWords}
+use Rattle.theory.specs.Problem.{maxWords}
 use Rattle.theory.specs.Flattening.{functionTerms, allFunctionTerms, addTerms, variableFor}
 use Rattle.syntax.specs.Codes.{codeWord}
 use Rattle.syntax.specs.Signatures.{Arities, Small}
@@ -26,7 +27,7 @@ pub record Source (codes place arities : List ℕ) (owns : ℕ) : Type 0 where
   pub small : Small signature
   pub count : ℕ
   pub fits : count ≤ length codes
-  pub short : count ≤ 64
+  pub short : count ≤ maxWords
   pub variables : List ℕ
   pub letters : all isLetter variables ≡ true
   pub owned : owns ≡ length variables

@@ -2,11 +2,13 @@
 use crate::table::Lifted;
 use crate::table::Table;
 use crate::table::share;
+use syntax::limits::Problem;
+use syntax::words::ClauseWords;
 ghost use Rattle.lifting.specs.Reading.{TermLifted, TermThere, TermsLifted, TermsThere};
 
 // The variables of so many terms, the place after their words, and the lifted terms with theirs.
 pub struct AllLifted {
-    pub variables: [u8; 3],
+    pub variables: [u8; Problem::MAX_ARITY],
     pub next: usize,
     pub table: Table,
 }
@@ -24,8 +26,8 @@ pub fn lift_term(
     ensures { λ r. ⌜ ((t : TermThere (now (words .entry)) (now (place .entry)) (now (arities .entry)) owns at table) → TermLifted t r) ⌝ }
 {
     let w = words[at];
-    if 65 <= w {
-        let x = (w - 65) as usize;
+    if ClauseWords::LETTER <= w {
+        let x = (w - ClauseWords::LETTER) as usize;
         return Lifted {
             variable: place[x],
             next: at + 1,
@@ -39,7 +41,7 @@ pub fn lift_term(
     share(inner, owns, w, variables, r.next)
 }
 
-// n terms, of which the first three are kept.
+// n terms, of which as many as the largest arity are kept.
 pub fn lift_terms(
     words: &[u8],
     place: &[u8],
@@ -54,7 +56,7 @@ pub fn lift_terms(
 {
     if n == 0 {
         return AllLifted {
-            variables: [0; 3],
+            variables: [0; Problem::MAX_ARITY],
             next: at,
             table,
         };
@@ -62,7 +64,7 @@ pub fn lift_terms(
     let first = lift_term(words, place, arities, owns, at, table);
     let inner = first.table;
     let rest = lift_terms(words, place, arities, owns, first.next, n - 1, inner);
-    let mut variables = [0; 3];
+    let mut variables = [0; Problem::MAX_ARITY];
     variables[0] = first.variable;
     variables[1] = rest.variables[0];
     variables[2] = rest.variables[1];

@@ -23,7 +23,7 @@ use Rattle.syntax.specs.Codes.{codeWord, wordsIn, clauseIn, isKnown, IsClause}
 use Rattle.syntax.proofs.Codes.{length-wordsIn, wordsIn-at}
 use Rattle.syntax.proofs.Clauses.{clauseOk-clauseIn, clauseWords-clauseIn, clauseWords-isClause, clauseIn-clauseWords}
 use Rattle.merging.specs.Unequal.{isUnequal, startsUnequal, unequalPlace}
-use Rattle.merging.specs.Merged.{withoutAt, Merged}
+use Rattle.merging.specs.Merged.{renamedCode, withoutAt, Merged}
 use Rattle.merging.proofs.Leftmost.{Leftmost, leftmost-none, leftmost-some}
 use Rattle.merging.proofs.Renaming.{renameWord, clause-renamed, known-renamed, codes-renamed}
 
@@ -114,18 +114,25 @@ pub record Round (g : Signature) (c w : ClauseWords) : Type 0 where
   pub isClause : IsClause g w
   pub same : theory.merged (clauseIn g w) ≡ theory.merged (clauseIn g c)
 
+map-deleted : {A B : Type 0} (f : A → B) (xs : List A) (at : ℕ) → map f (take at xs ++ drop (at + 4) xs) ≡ take at (map f xs) ++ drop (at + 4) (map f xs)
+map-deleted {A} {B} f xs at =
+    map-append f (take at xs) (drop (at + 4) xs)
+    ∙ ap (λ (ys : List B). ys ++ map f (drop (at + 4) xs)) (map-take f at xs)
+    ∙ ap (λ (ys : List B). take at (map f xs) ++ ys) (map-drop f (at + 4) xs)
+
 words-left : (ns : List ℕ) (u : Unequal) (l : Leftmost (map codeWord ns) u) → map codeWord (withoutAt ns (l .at)) ≡ clauseWords (map (renameLiteral (u .x) (u .y)) (u .rest))
 words-left ns u l =
     let at : ℕ = l .at in
     let n : length (map codeWord ns) ≡ length ns = length-map ns codeWord in
     let x : codeWord (getD ns (at + 2) 0) ≡ letter (u .x) = sym (map-at codeWord ns (at + 2) 0 equals (omega (arith, l .within))) ∙ l .first in
     let y : codeWord (getD ns (at + 3) 0) ≡ letter (u .y) = sym (map-at codeWord ns (at + 3) 0 equals (omega (arith, l .within))) ∙ l .second in
-    codes-renamed (getD ns (at + 2) 0) (getD ns (at + 3) 0) (u .x) (u .y) x y (take at ns ++ drop (at + 4) ns)
-    ∙ ap (map (renameWord (u .x) (u .y)))
-    (map-append codeWord (take at ns) (drop (at + 4) ns)
-    ∙ ap (λ (ws : List Word). ws ++ map codeWord (drop (at + 4) ns)) (map-take codeWord at ns)
-    ∙ ap (λ (ws : List Word). take at (map codeWord ns) ++ ws) (map-drop codeWord (at + 4) ns)
-    ∙ l .rest)
+    let f : ℕ → ℕ = renamedCode (getD ns (at + 2) 0) (getD ns (at + 3) 0) in
+    let r : Word → Word = renameWord (u .x) (u .y) in
+    let ws : List Word = map codeWord ns in
+    map-deleted codeWord (map f ns) at
+    ∙ ap (λ (vs : List Word). take at vs ++ drop (at + 4) vs) (codes-renamed (getD ns (at + 2) 0) (getD ns (at + 3) 0) (u .x) (u .y) x y ns)
+    ∙ sym (map-deleted r ws at)
+    ∙ ap (map r) (l .rest)
     ∙ clause-renamed (u .x) (u .y) (u .rest)
 
 module _ (g : Signature) (w : ClauseWords) (fits : w .count ≤ length (w .words)) (h : IsClause g w) where

@@ -14,13 +14,13 @@ use Rattle.syntax.specs.Codes.{IsClause, clauseIn}
 abbrev pub renamedCode : ℕ → ℕ → ℕ → ℕ
 renamedCode x y n = cond (eqb n y) x n
 
--- where word i stood before the four from `at` on were deleted
-abbrev pub keptFrom : ℕ → ℕ → ℕ
-keptFrom at i = cond (ltb i at) i (i + 4)
+-- the codes without the four from `at` on
+abbrev pub deletedAt : List ℕ → ℕ → List ℕ
+deletedAt ns at = take at ns ++ drop (at + 4) ns
 
--- the codes without the four from `at` on, the third put for the fourth
+-- and the third of the four put for the fourth
 abbrev pub withoutAt : List ℕ → ℕ → List ℕ
-withoutAt ns at = map (renamedCode (getD ns (at + 2) 0) (getD ns (at + 3) 0)) (take at ns ++ drop (at + 4) ns)
+withoutAt ns at = deletedAt (map (renamedCode (getD ns (at + 2) 0) (getD ns (at + 3) 0)) ns) at
 
 -- r is the clause of c after step 1
 pub record Merged (g : Signature) (c r : ClauseWords) : Type 0 where

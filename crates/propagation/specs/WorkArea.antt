@@ -78,6 +78,11 @@ pub record WorkHeld (v : ℕ) (cs : List (List ℕ)) (head len : ℕ) (w : List 
   pub weights : w ≡ take (7 * v) w ++ (map (weight (falses (trail w v head))) cs ++ drop (7 * v + length cs) w)
   pub blocks : (x : ℕ) → x < 2 * v → Block v cs w x
 
+-- the regions of v variables are in the work area
+pub record Regions (v : ℕ) (w : List ℕ) : Type 0 where
+  pub small : v < 2 ^ 18
+  pub room : 7 * v ≤ length w
+
 -- the first n variables are tried at the values that `first` says
 abbrev pub Prefers : ℕ → ℕ → (ℕ → Bool) → List ℕ → Type 0
 Prefers v n first w = (x : ℕ) → x < n → getD w (6 * v + x) 0 ≡ cond (first x) 1 0

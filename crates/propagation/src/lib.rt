@@ -2,10 +2,12 @@
 ghost use mathlib.Core.Path.{_≡_};
 ghost use mathlib.Core.List.{List};
 ghost use Prim.Native.Nat.{ℕ, _<_};
-ghost use Rattle.propagation.specs.WorkArea.{negated as negation, WorkHeld};
+ghost use Rattle.propagation.specs.WorkArea.{WorkHeld};
 ghost use Rattle.propagation.specs.Advance.{advanced, Ready, Calm, Propagated};
+use literals::negated;
 use units::Seen;
 
+pub mod literals; // literals.rt: literals as numbers
 pub mod weights; // weights.rt: lowering and raising the weights of clauses
 pub mod units; // units.rt: clauses with one literal left
 
@@ -14,17 +16,6 @@ pub struct Front {
     pub head: usize,
     pub len: usize,
     pub clash: bool,
-}
-
-// The other literal of the same variable.
-pub fn negated(literal: u32) -> u32
-    ensures { λ r. ⌜ r ≡ negation literal ⌝ }
-{
-    if literal % 2 == 0 {
-        literal + 1
-    } else {
-        literal - 1
-    }
 }
 
 // Makes the literal against the trail's entry at head false in its clauses, and looks at these.

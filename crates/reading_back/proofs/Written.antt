@@ -85,6 +85,7 @@ module _ (sheet : List ℕ) (y : Signature) (n : Numbering) (s : ℕ) (bits : Li
           positive = w .positive;
           size = w .size;
           name = name-within sheet y (w .readable) i h;
+          numbered = omega (arith, w .counted, w .numbered .small);
           block = omega (arith, w .numbered .base i in-signature, w .numbered .count, w .counted, block-room s g i in-signature, ap (blockSize s) is-symbol);
           below = subst (AllBelow 8) is-table (table-below s (w .size) g vs i in-signature in-range);
         }

@@ -45,14 +45,14 @@ fn write_setting(
     requires { ⌜ Readable (now sheet) signature × ((length (now sheet) ≤ 16384) × ((1 ≤ size .0) × (size .0 ≤ 8))) ⌝ }
     ensures { λ r. ⌜ WritingCall (settingText (size .0) (signatureIn (now (sheet .entry)) signature) (now (setting .entry)) (length (now (output .entry)))) r (now (output .entry)) (now (output .exit)) ⌝ }
 {
-    let n = numbering_of(signature, size.0);
+    let n = numbering_of(signature, size);
     if setting.len() != n.count as usize {
         return WriteAnswer::Refused(at_line(13, 0));
     }
     if !is_binary(setting) {
         return WriteAnswer::Refused(at_line(13, 0));
     }
-    if !is_functional(setting, signature, n, size.0) {
+    if !is_functional(setting, signature, n, size) {
         return WriteAnswer::Refused(at_line(14, 0));
     }
     let length = case_length(signature, size.0);
@@ -60,5 +60,5 @@ fn write_setting(
         return WriteAnswer::Refused(needing(11, length));
     }
     let none = [0u32; 0];
-    WriteAnswer::Written(write_case(sheet, signature, n, size.0, setting, &none, output))
+    WriteAnswer::Written(write_case(sheet, signature, n, size, setting, &none, output))
 }

@@ -1,6 +1,7 @@
 pub mod Live
 pub mod Partials
 pub mod Statuses
+pub mod LowestUnset
 pub mod Walks
 pub mod Resuming
 pub mod Potential

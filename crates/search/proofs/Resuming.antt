@@ -3,22 +3,20 @@ use mathlib.Core.Path.{_≡_, refl, sym, ap, _∙_}
 use mathlib.Core.Bool.{Bool, true, false, cond}
 use mathlib.Core.Option.{Option, none, some}
 use mathlib.Core.List.{List, [], _∷_}
-use Prim.Native.Nat.{ℕ, suc, _+_, _*_, _/_, _%_, _<_}
+use Prim.Native.Nat.{ℕ, suc, _+_, _*_, _/_, _%_}
 use native.Mathlib.Omega.{arith}
 use borrow.Author.Tests.{eq-eqb, ne-eqb}
 use lib.Dec.{eqb}
-use lib.ListN.{getD}
 use Rattle.theory.specs.Lists.{all}
 use Rattle.theory.specs.Propositional.{PropClause}
 use Rattle.theory.specs.Claims.Counts.{isNumbered}
-use Rattle.theory.specs.Walk.{bytesOf, Walked, choose, walked}
+use Rattle.theory.specs.Walk.{lowest, bytesOf, Walked, choose, walked}
 use Rattle.theory.specs.Valuation.{settingOf}
 use Rattle.propagation.specs.Clauses.{coded}
 use Rattle.propagation.specs.WorkArea.{negated, values, Fresh, falses}
 use Rattle.propagation.specs.Forcing.{Forces, none as no-more, more, Void}
 use Rattle.search.specs.Moves.{BackTo, here as back-here, pops, NoneOpen}
-use Rattle.search.proofs.Partials.{partial}
-use Rattle.search.proofs.Partials.{partial-bytes}
+use Rattle.search.proofs.Partials.{partial, partial-bytes}
 use Rattle.search.proofs.Walks.{AllQuiet, nothing, from, from-forces, from-void, from-end, from-choice}
 
 -- the walk with k choices more
@@ -133,22 +131,22 @@ module _ (v : ℕ) (cs : List PropClause) (first : ℕ → Bool) (numbered : all
   whole-none k ts f z c e = ap (λ (r : Walked). r .answer) (e ∙ ap (added k) (ap (later ts) (from-void v cs first numbered ts f z) ∙ later-closed ts nothing c))
 
   module _ (k : ℕ) (ts : List ℕ) (f : Fresh v ts) (q : AllQuiet v (coded cs) ts) where
-    pub whole-found : ((y : ℕ) → y < v → getD (values v ts) y 0 ≡ 0 → ⊥) → Whole k ts → walked v cs first .answer ≡ some (settingOf (values v ts))
-    whole-found full e =
+    pub whole-found : lowest (partial v ts) ≡ none → Whole k ts → walked v cs first .answer ≡ some (settingOf (values v ts))
+    whole-found low e =
         let r : Walked = record { answer = some (bytesOf (partial v ts)); choices = 0 } in
-        ap (λ (r : Walked). r .answer) (e ∙ ap (added k) (ap (later ts) (from-end v cs first numbered ts f q full) ∙ later-found (bytesOf (partial v ts)) ts r refl))
+        ap (λ (r : Walked). r .answer) (e ∙ ap (added k) (ap (later ts) (from-end v cs first numbered ts f q low) ∙ later-found (bytesOf (partial v ts)) ts r refl))
         ∙ ap some (partial-bytes (values v ts))
 
     -- a choice is one more, and leaves its other value open
-    pub whole-choice : (x : ℕ) → x < v → getD (values v ts) x 0 ≡ 0 → ((y : ℕ) → y < x → getD (values v ts) y 0 ≡ 0 → ⊥)
-        → Whole k ts → Whole (k + 1) ((2 * cond (first x) (2 * x) (2 * x + 1) + 1) ∷ ts)
-    whole-choice x h unset below e =
+    pub whole-choice : (x : ℕ) → lowest (partial v ts) ≡ some x → Whole k ts
+        → Whole (k + 1) ((2 * cond (first x) (2 * x) (2 * x + 1) + 1) ∷ ts)
+    whole-choice x low e =
         let u = cond (first x) (2 * x) (2 * x + 1) in
         let one = go ((2 * u + 1) ∷ ts) in
         let half : (2 * u + 1) / 2 ≡ u = omega arith in
         e
         ∙ ap (added k)
-        (ap (later ts) (from-choice v cs first numbered ts f q x h unset below ∙ choose-added (one .answer) one (go ((2 * negated u + 0) ∷ ts)) refl)
+        (ap (later ts) (from-choice v cs first numbered ts f q x low ∙ choose-added (one .answer) one (go ((2 * negated u + 0) ∷ ts)) refl)
         ∙ later-added 1 ts (orElse (one .answer) one (go ((2 * negated u + 0) ∷ ts))))
         ∙ added-added k (later ts (orElse (one .answer) one (go ((2 * negated u + 0) ∷ ts))))
         ∙ ap (added (k + 1))

@@ -1,26 +1,30 @@
 -- A turn of the search, and its ends.
 use mathlib.Core.Path.{_≡_, refl, sym, ap, _∙_, subst, subst⁻¹}
 use mathlib.Core.Bool.{Bool, true, false, cond}
+use mathlib.Core.Option.{none, some}
 use mathlib.Core.List.{List, [], _∷_}
 use Prim.Native.Nat.{ℕ, _+_, _*_, _/_, _%_, _≤_, _<_}
 use native.Mathlib.Numerals.{add-one}
 use native.Mathlib.Omega.{arith}
 use lib.Dec.{eqb}
-use lib.ListN.{length, getD}
+use lib.ListN.{length, getD, take}
 use lib.Seq.{getD-take}
 use Rattle.theory.specs.Lists.{all}
 use Rattle.theory.specs.Propositional.{PropClause}
+use Rattle.theory.specs.Walk.{lowest}
 use Rattle.theory.specs.Claims.Counts.{isNumbered}
 use Rattle.propagation.specs.Clauses.{coded}
 use Rattle.propagation.specs.Units.{pushed, Pushable}
-use Rattle.propagation.specs.WorkArea.{negated, trail, values, Fresh, falses, WorkHeld, Prefers, Frame}
+use Rattle.propagation.specs.WorkArea.{negated, trail, values, Fresh, falses, WorkHeld, Regions, Prefers, Frame}
 use Rattle.propagation.specs.Forcing.{Forces, none as no-more, more, Quiet}
 use Rattle.propagation.specs.Advance.{Calm, Propagated}
 use Rattle.propagation.proofs.Frames.{trail-length, frame-none, frame-trans}
 use Rattle.propagation.proofs.Trails.{set-nonzero, values-length}
 use Rattle.propagation.proofs.Pushing.{free, pushed-held, pushed-frame, pushed-trail, older}
 use Rattle.search.specs.Moves.{BackTo, here, pops, NoneOpen, OpenUnder}
-use Rattle.search.specs.Search.{LowestUnset, preferred, searchAnswer, Returned, Started, Solved}
+use Rattle.search.specs.Search.{partialOf, preferred, searchAnswer, Returned, Started, Solved}
+use Rattle.search.proofs.LowestUnset.{lowest-is}
+use Rattle.search.proofs.Partials.{partial}
 use Rattle.search.proofs.Kept.{frame-coded, frame-prefers}
 use Rattle.search.proofs.Walks.{AllQuiet, from-start}
 use Rattle.search.proofs.Resuming.{Whole, whole-start, whole-forces, whole-back, whole-none, whole-found, whole-choice}
@@ -85,6 +89,9 @@ searching-start v cs first len w s =
       choices = 0;
       whole = whole-start v cs first (s .numbered) (trail w v len) c (from-start v cs first (s .numbered) (trail w v len) (s .forces) (s .held .fresh));
     }
+
+pub regions : {v head n : ℕ} {ds : List (List ℕ)} {w : List ℕ} → WorkHeld v ds head n w → Regions v w
+regions h = record { small = h .small; room = omega (arith, h .room) }
 
 -- what was quiet stays so with one entry more
 quiet-push : (v t : ℕ) (ts D c : List ℕ) → t / 2 / 2 < v → Quiet D (values v ts) c → Quiet D (values v (t ∷ ts)) c
@@ -181,98 +188,101 @@ module _ (v : ℕ) (cs : List PropClause) (first : ℕ → Bool) (w₀ : List �
     value : (y : ℕ) → y < v → getD w₁ y 0 ≡ getD (values v us) y 0
     value y h = sym (getD-take v w₁ y 0 h) ∙ ap (λ (l : List ℕ). getD l y 0) (p .held .gives)
 
-    module _ (x : ℕ) (low : LowestUnset v w₁ x) where
-      pub search-found : x ≡ v → Solved v cs first true w₀ w₁
-      search-found e =
-          record {
-            answer =
-                whole-found v cs first (s .numbered) (s .choices) us (p .held .fresh) quiet (λ y h z. low .below y (omega (arith, h, e)) (value y h ∙ z)) whole₁
-                ∙ ap (searchAnswer true) (sym (p .held .gives));
-            frame = frame-coded cs frame₁;
-          }
+    -- what is the lowest unset variable of the values is that of the trail
+    lowest-given : lowest (partial v us) ≡ lowest (partialOf (take v w₁))
+    lowest-given = ap (λ (l : List ℕ). lowest (partialOf l)) (sym (p .held .gives))
 
-      module _ (ne : x ≡ v → ⊥) where
-        pub inside : x < v
-        inside = omega (arith, low .within, ne)
+    pub search-found : lowest (partialOf (take v w₁)) ≡ none → Solved v cs first true w₀ w₁
+    search-found low =
+        record {
+          answer = whole-found v cs first (s .numbered) (s .choices) us (p .held .fresh) quiet (lowest-given ∙ low) whole₁ ∙ ap (searchAnswer true) (sym (p .held .gives));
+          frame = frame-coded cs frame₁;
+        }
 
-        -- the literal that is tried first
-        abbrev l : ℕ
-        l = cond (first x) (2 * x) (2 * x + 1)
+    module _ (x : ℕ) (low : lowest (partialOf (take v w₁)) ≡ some x) where
+      pub inside : x < v
+      inside = omega (arith, lowest-is (values v us) x (lowest-given ∙ low) .0, values-length v us)
 
-        prefers-is : preferred v x w₁ ≡ l
-        prefers-is = ap (λ (k : ℕ). cond (eqb k 1) (2 * x) (2 * x + 1)) (prefers₁ x inside) ∙ by (first x)
-          where
-            by : (b : Bool) → cond (eqb (cond b 1 0) 1) (2 * x) (2 * x + 1) ≡ cond b (2 * x) (2 * x + 1)
-            by true = refl
-            by false = refl
+      no-value : getD w₁ x 0 ≡ 0
+      no-value = value x inside ∙ lowest-is (values v us) x (lowest-given ∙ low) .1
 
-        half : (b : Bool) → cond b (2 * x) (2 * x + 1) / 2 ≡ x
-        half true = omega arith
-        half false = omega arith
+      -- the literal that is tried first
+      abbrev l : ℕ
+      l = cond (first x) (2 * x) (2 * x + 1)
 
-        module _ (u : ℕ) (ue : u ≡ preferred v x w₁) where
-          is : u ≡ l
-          is = ue ∙ prefers-is
+      prefers-is : preferred v x w₁ ≡ l
+      prefers-is = ap (λ (k : ℕ). 2 * x + cond (eqb k 1) 0 1) (prefers₁ x inside) ∙ by (first x)
+        where
+          by : (b : Bool) → 2 * x + cond (eqb (cond b 1 0) 1) 0 1 ≡ cond b (2 * x) (2 * x + 1)
+          by true = omega arith
+          by false = refl
 
-          variable : u / 2 ≡ x
-          variable = ap (λ (k : ℕ). k / 2) is ∙ half (first x)
+      half : (b : Bool) → cond b (2 * x) (2 * x + 1) / 2 ≡ x
+      half true = omega arith
+      half false = omega arith
 
-          named : u / 2 < v
-          named = rw variable inside
+      module _ (u : ℕ) (ue : u ≡ preferred v x w₁) where
+        is : u ≡ l
+        is = ue ∙ prefers-is
 
-          unset : getD w₁ (u / 2) 0 ≡ 0
-          unset = ap (λ (k : ℕ). getD w₁ k 0) variable ∙ low .unset inside
+        variable : u / 2 ≡ x
+        variable = ap (λ (k : ℕ). k / 2) is ∙ half (first x)
 
-          choice-free : n₁ < v
-          choice-free = free v ds head₁ n₁ w₁ (p .held) u 1 (omega arith) named unset
+        named : u / 2 < v
+        named = rw variable inside
 
-          pub choice-pushable : Pushable v n₁ u 1 w₁
-          choice-pushable =
+        unset : getD w₁ (u / 2) 0 ≡ 0
+        unset = ap (λ (k : ℕ). getD w₁ k 0) variable ∙ no-value
+
+        choice-free : n₁ < v
+        choice-free = free v ds head₁ n₁ w₁ (p .held) u 1 (omega arith) named unset
+
+        pub choice-pushable : (mark : ℕ) → mark < 2 → Pushable v n₁ u mark w₁
+        choice-pushable mark h =
+            record {
+              variable = named;
+              entry = choice-free;
+              small = omega (arith, named, p .held .small);
+              marked = h;
+              within = omega (arith, p .held .room);
+            }
+
+        module _ (w₂ : List ℕ) (e₂ : w₂ ≡ pushed v n₁ u 1 w₁) where
+          trail-new : trail w₂ v (n₁ + 1) ≡ (2 * l + 1) ∷ us
+          trail-new =
+              ap (λ (l : List ℕ). trail l v (n₁ + 1)) e₂
+              ∙ pushed-trail v ds head₁ n₁ w₁ (p .held) u 1 (omega arith) named unset
+              ∙ ap (λ (k : ℕ). (2 * k + 1) ∷ us) is
+
+          trail-head : trail w₂ v head₁ ≡ trail w₁ v head₁
+          trail-head = ap (λ (l : List ℕ). trail l v head₁) e₂ ∙ older v ds head₁ n₁ w₁ (p .held) u 1 (omega arith) named unset head₁ (p .held .head-len)
+
+          held₂ : WorkHeld v ds head₁ (n₁ + 1) w₂
+          held₂ = subst⁻¹ (λ (l : List ℕ). WorkHeld v ds head₁ (n₁ + 1) l) e₂ (pushed-held v ds head₁ n₁ w₁ (p .held) u 1 (omega arith) named unset)
+
+          frame₃ : Frame v (length ds) w₁ w₂
+          frame₃ = subst⁻¹ (λ (l : List ℕ). Frame v (length ds) w₁ l) e₂ (pushed-frame v ds head₁ n₁ w₁ (p .held) u 1 (omega arith) named unset)
+
+          pub choice-falls₁ : potential v (trail w₂ v (n₁ + 1)) < potential v (trail w v n)
+          choice-falls₁ =
+              subst⁻¹ (λ (l : List ℕ). potential v l < potential v (trail w v n)) trail-new
+              (omega (arith, choice-falls v l us (omega (arith, trail-length v w₁ n₁, choice-free)), falls₁))
+
+          pub search-choice : Searching v cs first w₀ head₁ (n₁ + 1) w₂
+          search-choice =
               record {
-                variable = named;
-                entry = choice-free;
-                small = omega (arith, named, p .held .small);
-                marked = omega arith;
-                within = omega (arith, p .held .room);
+                numbered = s .numbered;
+                held = held₂;
+                frame = frame-trans frame₁ frame₃;
+                prefers = frame-prefers first prefers₁ frame₃;
+                calm = λ i h.
+                    subst⁻¹ (λ (l : List ℕ). Quiet (falses (trail w₂ v head₁)) (values v l) (getD ds i [])) trail-new
+                    (subst⁻¹ (λ (k : List ℕ). Quiet (falses k) (values v ((2 * l + 1) ∷ us)) (getD ds i [])) trail-head
+                    (quiet-push v (2 * l + 1) us (falses (trail w₁ v head₁)) (getD ds i []) ((subst (λ (l : List ℕ). Fresh v l) trail-new (held₂ .fresh)) .0) (p .calm calm .1 i h)));
+                under = under-all (head₁ + 1) (trail w₂ v (n₁ + 1)) (omega (arith, p .calm calm .0, trail-length v w₂ (n₁ + 1)));
+                grounded = subst⁻¹ (Grounded v ds) trail-new (λ e. quiet, grounded₁);
+                choices = s .choices + 1;
+                whole =
+                    subst⁻¹ (Whole v cs first (s .numbered) (s .choices + 1)) trail-new
+                    (whole-choice v cs first (s .numbered) (s .choices) us (p .held .fresh) quiet x (lowest-given ∙ low) whole₁);
               }
-
-          module _ (w₂ : List ℕ) (e₂ : w₂ ≡ pushed v n₁ u 1 w₁) where
-            trail-new : trail w₂ v (n₁ + 1) ≡ (2 * l + 1) ∷ us
-            trail-new =
-                ap (λ (l : List ℕ). trail l v (n₁ + 1)) e₂
-                ∙ pushed-trail v ds head₁ n₁ w₁ (p .held) u 1 (omega arith) named unset
-                ∙ ap (λ (k : ℕ). (2 * k + 1) ∷ us) is
-
-            trail-head : trail w₂ v head₁ ≡ trail w₁ v head₁
-            trail-head = ap (λ (l : List ℕ). trail l v head₁) e₂ ∙ older v ds head₁ n₁ w₁ (p .held) u 1 (omega arith) named unset head₁ (p .held .head-len)
-
-            held₂ : WorkHeld v ds head₁ (n₁ + 1) w₂
-            held₂ = subst⁻¹ (λ (l : List ℕ). WorkHeld v ds head₁ (n₁ + 1) l) e₂ (pushed-held v ds head₁ n₁ w₁ (p .held) u 1 (omega arith) named unset)
-
-            frame₃ : Frame v (length ds) w₁ w₂
-            frame₃ = subst⁻¹ (λ (l : List ℕ). Frame v (length ds) w₁ l) e₂ (pushed-frame v ds head₁ n₁ w₁ (p .held) u 1 (omega arith) named unset)
-
-            pub choice-falls₁ : potential v (trail w₂ v (n₁ + 1)) < potential v (trail w v n)
-            choice-falls₁ =
-                subst⁻¹ (λ (l : List ℕ). potential v l < potential v (trail w v n)) trail-new
-                (omega (arith, choice-falls v l us (omega (arith, trail-length v w₁ n₁, choice-free)), falls₁))
-
-            pub search-choice : Searching v cs first w₀ head₁ (n₁ + 1) w₂
-            search-choice =
-                record {
-                  numbered = s .numbered;
-                  held = held₂;
-                  frame = frame-trans frame₁ frame₃;
-                  prefers = frame-prefers first prefers₁ frame₃;
-                  calm = λ i h.
-                      subst⁻¹ (λ (l : List ℕ). Quiet (falses (trail w₂ v head₁)) (values v l) (getD ds i [])) trail-new
-                      (subst⁻¹ (λ (k : List ℕ). Quiet (falses k) (values v ((2 * l + 1) ∷ us)) (getD ds i [])) trail-head
-                      (quiet-push v (2 * l + 1) us (falses (trail w₁ v head₁)) (getD ds i []) ((subst (λ (l : List ℕ). Fresh v l) trail-new (held₂ .fresh)) .0) (p .calm calm .1 i h)));
-                  under = under-all (head₁ + 1) (trail w₂ v (n₁ + 1)) (omega (arith, p .calm calm .0, trail-length v w₂ (n₁ + 1)));
-                  grounded = subst⁻¹ (Grounded v ds) trail-new (λ e. quiet, grounded₁);
-                  choices = s .choices + 1;
-                  whole =
-                      subst⁻¹ (Whole v cs first (s .numbered) (s .choices + 1)) trail-new
-                      (whole-choice v cs first (s .numbered) (s .choices) us (p .held .fresh) quiet x inside (sym (value x inside) ∙ low .unset inside)
-                      (λ y h z. low .below y h (value y (omega (arith, h, inside)) ∙ z)) whole₁);
-                }

@@ -9,7 +9,7 @@ use native.Mathlib.Omega.{arith}
 use borrow.Author.Tests.{eq-eqb, ne-eqb}
 use lib.Dec.{eqb}
 use lib.ListN.{length, getD, set, length-map}
-use Rattle.theory.specs.Lists.{all, placeAt}
+use Rattle.theory.specs.Lists.{all}
 use Rattle.theory.specs.Propositional.{PropClause}
 use Rattle.theory.specs.Claims.Counts.{isNumbered}
 use Rattle.theory.specs.Claims.Walk.{Member, here, there}
@@ -20,8 +20,7 @@ use Rattle.theory.proofs.AnyOrder.{walkFrom, walked-from, walk-failed, walk-for
 use Rattle.propagation.specs.Clauses.{codes, once, coded}
 use Rattle.propagation.specs.WorkArea.{negated, values, Fresh, falses, live}
 use Rattle.propagation.specs.Forcing.{Forces, none as no-more, more, Void, Quiet}
-use Rattle.propagation.proofs.Trails.{values-length, negated-half, negated-sign}
-use Rattle.search.specs.Search.{partialOf}
+use Rattle.propagation.proofs.Trails.{negated-half, negated-sign}
 use Rattle.search.proofs.Partials.{partial, literalOf, partial-push, partial-none}
 use Rattle.search.proofs.Statuses.{failed-status, forces-status, quiet-status}
 
@@ -32,21 +31,6 @@ AllQuiet v ds ts = (i : ℕ) → i < length ds → Quiet (falses ts) (values v t
 -- a walk that finds nothing and makes no choice
 abbrev pub nothing : Walked
 nothing = record { answer = none; choices = 0 }
-
--- the lowest unset variable, by the values
-lowest-at : (zs : List ℕ) (x : ℕ) → x < length zs → getD zs x 0 ≡ 0 → ((y : ℕ) → y < x → getD zs y 0 ≡ 0 → ⊥) → lowest (partialOf zs) ≡ some x
-lowest-at [] x h e b = absurd (not-suc-le-zero h)
-lowest-at (zero ∷ zs) zero h e b = refl
-lowest-at (suc z ∷ zs) zero h e b = absurd (omega (arith, e))
-lowest-at (zero ∷ zs) (suc x) h e b = absurd (b zero (omega arith) refl)
-lowest-at (suc zero ∷ zs) (suc x) h e b = ap (placeAt false) (lowest-at zs x (le-of-suc-le-suc h) e (λ y k. b (suc y) (omega arith)))
-lowest-at (suc (suc z) ∷ zs) (suc x) h e b = ap (placeAt false) (lowest-at zs x (le-of-suc-le-suc h) e (λ y k. b (suc y) (omega arith)))
-
-lowest-none : (zs : List ℕ) → ((y : ℕ) → y < length zs → getD zs y 0 ≡ 0 → ⊥) → lowest (partialOf zs) ≡ none
-lowest-none [] b = refl
-lowest-none (zero ∷ zs) b = absurd (b zero (omega arith) refl)
-lowest-none (suc zero ∷ zs) b = ap (placeAt false) (lowest-none zs (λ y k. b (suc y) (omega arith)))
-lowest-none (suc (suc z) ∷ zs) b = ap (placeAt false) (lowest-none zs (λ y k. b (suc y) (omega arith)))
 
 member-at : (cs : List PropClause) (i : ℕ) → i < length cs → Member (getD cs i []) cs
 member-at [] i h = absurd (not-suc-le-zero h)
@@ -113,13 +97,11 @@ module _ (v : ℕ) (cs : List PropClause) (first : ℕ → Bool) (numbered : all
         (subst (λ (d : List ℕ). Quiet (falses ts) (values v ts) d) (is-coded (p .0) is) (q (p .0) is))
 
     -- where all variables are set, the walk has found them
-    pub from-end : ((y : ℕ) → y < v → getD (values v ts) y 0 ≡ 0 → ⊥) → from ts ≡ record { answer = some (bytesOf (partial v ts)); choices = 0 }
-    from-end full =
-        walk-stable cs first (partial v ts) stable
-        ∙ ap (walkStep (walkFrom cs first) first (partial v ts) quiet) (lowest-none (values v ts) (λ y h. full y (omega (arith, h, values-length v ts))))
+    pub from-end : lowest (partial v ts) ≡ none → from ts ≡ record { answer = some (bytesOf (partial v ts)); choices = 0 }
+    from-end low = walk-stable cs first (partial v ts) stable ∙ ap (walkStep (walkFrom cs first) first (partial v ts) quiet) low
 
     -- a choice for the lowest unset variable
-    module _ (x : ℕ) (inside : x < v) (unset : getD (values v ts) x 0 ≡ 0) (below : (y : ℕ) → y < x → getD (values v ts) y 0 ≡ 0 → ⊥) where
+    module _ (x : ℕ) (low : lowest (partial v ts) ≡ some x) where
       abbrev u : ℕ
       u = cond (first x) (2 * x) (2 * x + 1)
 
@@ -148,6 +130,6 @@ module _ (v : ℕ) (cs : List PropClause) (first : ℕ → Bool) (numbered : all
           let two : partial v ((2 * negated u + 0) ∷ ts) ≡ set (partial v ts) x (some (not (first x))) =
           with-entry (2 * negated u + 0) (negated u) (not (first x)) (omega arith) (negated-half u ∙ half (first x)) (other-sign (first x)) in
           walk-stable cs first (partial v ts) stable
-          ∙ ap (walkStep (walkFrom cs first) first (partial v ts) quiet) (lowest-at (values v ts) x (omega (arith, inside, values-length v ts)) unset below)
+          ∙ ap (walkStep (walkFrom cs first) first (partial v ts) quiet) low
           ∙ ap (λ (π : Partial). choose (walkFrom cs first π .answer) (walkFrom cs first π) (walkFrom cs first (set (partial v ts) x (some (not (first x)))))) (sym one)
           ∙ ap (λ (π : Partial). choose (from ((2 * u + 1) ∷ ts) .answer) (from ((2 * u + 1) ∷ ts)) (walkFrom cs first π)) (sym two)

@@ -9,7 +9,7 @@ use lib.ListN.{length, getD, take}
 use lib.Seq.{slice}
 use Rattle.theory.specs.Lists.{all}
 use Rattle.theory.specs.Propositional.{PropClause}
-use Rattle.theory.specs.Walk.{Partial, walked}
+use Rattle.theory.specs.Walk.{Partial, lowest, walked}
 use Rattle.theory.specs.Claims.Counts.{isNumbered}
 use Rattle.theory.specs.Valuation.{settingOf}
 use Rattle.propagation.specs.Clauses.{coded}
@@ -17,6 +17,10 @@ use Rattle.propagation.specs.Weights.{changed, more}
 use Rattle.propagation.specs.WorkArea.{trail, WorkHeld, Prefers, Loaded, Frame}
 use Rattle.propagation.specs.Forcing.{Forces}
 use Rattle.propagation.specs.Advance.{sinking, Calm}
+use Rattle.propagation.specs.declared.units.Seen.{Seen}
+use Rattle.search.specs.declared.Lowest.{Lowest}
+use Rattle.search.specs.declared.Lowest.the-variants.{Variable, AllSet}
+use Rattle.search.specs.declared.Back.{Back}
 use Rattle.search.specs.Moves.{BackTo, NoneOpen, OpenUnder}
 
 -- a number of the values' region as the theory has it: 0 unset, 1 yes, else no
@@ -38,12 +42,17 @@ pub record Solved (v : ℕ) (cs : List PropClause) (first : ℕ → Bool) (found
   pub answer : walked v cs first .answer ≡ searchAnswer found (take v w′)
   pub frame : Frame v (length cs) w w′
 
--- a work area that is loaded with m clauses
+-- What a search asks: a work area that is loaded with m clauses.
 pub record Loadable (v m : ℕ) (w : List ℕ) : Type 0 where
   pub clauses : List PropClause
   pub first : ℕ → Bool
   pub loaded : Loaded v clauses first w
   pub number : length clauses ≡ m
+
+-- What a search leaves, of whatever clauses and first values the work area is loaded with.
+abbrev pub Solves : ℕ → ℕ → List ℕ → Bool → List ℕ → Type 0
+Solves v m w found w′ =
+    (cs : List PropClause) (first : ℕ → Bool) → Loaded v cs first w → length cs ≡ m → Solved v cs first found w w′
 
 -- a work area from which a search starts: its trail has what the clauses force, none of it false in its clauses yet, and every clause is quiet
 pub record Started (v : ℕ) (cs : List PropClause) (first : ℕ → Bool) (len : ℕ) (w : List ℕ) : Type 0 where
@@ -58,21 +67,34 @@ pub record Startable (v len : ℕ) (w : List ℕ) : Type 0 where
   pub first : ℕ → Bool
   pub started : Started v clauses first len w
 
+-- a search from where it starts, of whatever clauses and first values
+abbrev pub Searches : ℕ → ℕ → List ℕ → Bool → List ℕ → Type 0
+Searches v len w found w′ =
+    (cs : List PropClause) (first : ℕ → Bool) → Started v cs first len w → Solved v cs first found w w′
+
 -- From w to w′, every clause was looked at once: a search can start, or a clause is wholly false.
 pub record Begun (v : ℕ) (cs : List PropClause) (first : ℕ → Bool) (len : ℕ) (clash : Bool) (w w′ : List ℕ) : Type 0 where
   pub frame : Frame v (length cs) w w′
   pub started : clash ≡ false → Started v cs first len w′
   pub failed : clash ≡ true → walked v cs first .answer ≡ none
 
--- r is the lowest of the first v numbers that is 0, or v
-pub record LowestUnset (v : ℕ) (w : List ℕ) (r : ℕ) : Type 0 where
-  pub within : r ≤ v
-  pub below : (y : ℕ) → y < r → getD w y 0 ≡ 0 → ⊥
-  pub unset : r < v → getD w r 0 ≡ 0
+-- of whatever clauses and first values the work area is loaded with
+abbrev pub Begins : ℕ → ℕ → List ℕ → Seen → List ℕ → Type 0
+Begins v m w seen w′ =
+    (cs : List PropClause) (first : ℕ → Bool) → Loaded v cs first w → length cs ≡ m → Begun v cs first (seen .len) (seen .clash) w w′
+
+-- the theory's answer to which variable is the lowest unset one, as the code has it
+abbrev pub lowestOf : Option ℕ → Lowest
+lowestOf none = AllSet
+lowestOf (some x) = Variable (record { 0 = x })
+
+-- the lowest variable that has no value in the values' region
+abbrev pub lowestUnset : List ℕ → Lowest
+lowestUnset zs = lowestOf (lowest (partialOf zs))
 
 -- the literal of variable x that is tried first
 abbrev pub preferred : ℕ → ℕ → List ℕ → ℕ
-preferred v x w = cond (eqb (getD w (6 * v + x) 0) 1) (2 * x) (2 * x + 1)
+preferred v x w = 2 * x + cond (eqb (getD w (6 * v + x) 0) 1) 0 1
 
 -- w with the weights of the clauses that have the literal of entry n raised by its part
 abbrev pub floated : ℕ → ℕ → List ℕ → List ℕ
@@ -84,6 +106,10 @@ pub record Popped (v : ℕ) (cs : List (List ℕ)) (head len : ℕ) (w : List �
   pub held : WorkHeld v cs head′ (len - 1) w′
   pub frame : Frame v (length cs) w w′
   pub same : trail w′ v (len - 1) ≡ trail w v (len - 1)
+
+-- of whatever clauses the work area holds
+abbrev pub Pops : ℕ → ℕ → ℕ → List ℕ → ℕ → List ℕ → Type 0
+Pops v head len w head′ w′ = (cs : List (List ℕ)) → WorkHeld v cs head len w → Popped v cs head len w head′ w′
 
 -- the number of entries made false in their clauses, after the newest of len is off
 pub record Lowered (head len head′ : ℕ) : Type 0 where
@@ -97,3 +123,8 @@ pub record Returned (v : ℕ) (cs : List (List ℕ)) (head len : ℕ) (w : List 
   pub back : found ≡ true → BackTo (trail w v len) (trail w′ v len′)
   pub level : found ≡ true → OpenUnder head (trail w v len) → head′ + 1 ≡ len′
   pub closed : found ≡ false → NoneOpen (trail w v len)
+
+-- of whatever clauses the work area holds
+abbrev pub Returns : ℕ → ℕ → ℕ → List ℕ → Back → List ℕ → Type 0
+Returns v head len w back w′ =
+    (cs : List (List ℕ)) → WorkHeld v cs head len w → Returned v cs head len w (back .head) (back .len) (back .found) w′

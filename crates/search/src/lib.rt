@@ -1,13 +1,13 @@
 // The search: unit propagation, a choice for the lowest unset variable, and back to the latest choice whose other value is untried.
 ghost use mathlib.Core.Path.{_≡_};
-ghost use mathlib.Core.Bool.{Bool};
-ghost use mathlib.Core.List.{List};
-ghost use Prim.Native.Nat.{ℕ, _+_, _*_, _≤_, _<_, _^_};
-ghost use lib.ListN.{length};
-ghost use Rattle.theory.specs.Propositional.{PropClause};
-ghost use Rattle.propagation.specs.WorkArea.{WorkHeld, Loaded};
+ghost use Prim.Native.Nat.{_+_, _<_};
+ghost use lib.ListN.{take};
+ghost use Rattle.propagation.specs.WorkArea.{Regions};
 ghost use Rattle.propagation.specs.Advance.{Ready};
-ghost use Rattle.search.specs.Search.{LowestUnset, preferred, floated, Popped, Lowered, Returned, Loadable, Begun, Startable, Started, Solved};
+ghost use Rattle.search.specs.Search.{lowestUnset, preferred, floated, Lowered, Pops, Returns, Startable, Searches, Loadable, Begins, Solves};
+use indices::PropVar;
+use propagation::literals::literal;
+use propagation::literals::negated;
 use propagation::units;
 use propagation::weights;
 
@@ -18,34 +18,34 @@ pub struct Back {
     pub found: bool,
 }
 
-// The lowest unset variable, or v where all are set.
-pub fn unset(work: &[u32], v: usize) -> usize
-    requires { ⌜ v ≤ length (now work) ⌝ }
-    ensures { λ r. ⌜ LowestUnset v (now (work .entry)) r ⌝ }
+// The lowest unset variable, where there is one.
+pub enum Lowest {
+    Variable(PropVar),
+    AllSet,
+}
+
+pub fn unset(work: &[u32], v: usize) -> Lowest
+    requires { ⌜ Regions v (now work) ⌝ }
+    ensures { λ r. ⌜ r ≡ lowestUnset (take v (now (work .entry))) ⌝ }
 {
     let mut variable = 0;
     while variable < v {
         if work[variable] == 0 {
-            return variable;
+            return Lowest::Variable(PropVar(variable as u32));
         }
         variable += 1;
     }
-    variable
+    Lowest::AllSet
 }
 
 // The literal of the variable that is tried first.
-pub fn first(work: &[u32], v: usize, variable: usize) -> u32
-    requires { ⌜ variable < v ⌝ }
-    requires { ⌜ v < 2 ^ 18 ⌝ }
-    requires { ⌜ 7 * v ≤ length (now work) ⌝ }
-    ensures { λ r. ⌜ r ≡ preferred v variable (now (work .entry)) ⌝ }
+pub fn first(work: &[u32], v: usize, variable: PropVar) -> u32
+    requires { ⌜ Regions v (now work) ⌝ }
+    requires { ⌜ variable .0 < v ⌝ }
+    ensures { λ r. ⌜ r ≡ preferred v (variable .0) (now (work .entry)) ⌝ }
 {
-    let number = variable as u32;
-    if work[6 * v + variable] == 1 {
-        2 * number
-    } else {
-        2 * number + 1
-    }
+    let x = variable.0 as usize;
+    literal(variable, work[6 * v + x] == 1)
 }
 
 // Takes back that the trail's entry at the place was made false in its clauses.
@@ -53,11 +53,11 @@ pub fn recall(work: &mut [u32], v: usize, place: usize, len: usize)
     requires { ⌜ Ready v (place + 1) len (now work) ⌝ }
     ensures { λ _. ⌜ now (work .exit) ≡ floated v place (now (work .entry)) ⌝ }
 {
-    let literal = propagation::negated(work[v + place] / 2);
-    let at = 2 * v + 2 * weights::wide(literal);
+    let against = negated(work[v + place] / 2);
+    let at = 2 * v + 2 * weights::wide(against);
     let from = weights::wide(work[at]);
     let to = weights::wide(work[at + 1]);
-    weights::raise(work, from, to, 64 * literal + 1);
+    weights::raise(work, from, to, 64 * against + 1);
 }
 
 // Takes the newest of len entries off the trail, and answers how many of the rest are false in their clauses:
@@ -66,7 +66,7 @@ pub fn pop(work: &mut [u32], v: usize, head: usize, len: usize) -> usize
     requires { ⌜ Ready v head len (now work) ⌝ }
     requires { ⌜ 0 < len ⌝ }
     ensures { λ r. ⌜ Lowered head len r ⌝ }
-    ensures { λ r. ⌜ ((cs : List (List ℕ)) → WorkHeld v cs head len (now (work .entry)) → Popped v cs head len (now (work .entry)) r (now (work .exit))) ⌝ }
+    ensures { λ r. ⌜ Pops v head len (now (work .entry)) r (now (work .exit)) ⌝ }
 {
     let place = len - 1;
     let variable = weights::wide(work[v + place] / 2 / 2);
@@ -82,7 +82,7 @@ pub fn pop(work: &mut [u32], v: usize, head: usize, len: usize) -> usize
 // Goes back to the latest choice whose other value is untried, and gives it that value.
 pub fn backtrack(work: &mut [u32], v: usize, head: usize, len: usize) -> Back
     requires { ⌜ Ready v head len (now work) ⌝ }
-    ensures { λ r. ⌜ ((cs : List (List ℕ)) → WorkHeld v cs head len (now (work .entry)) → Returned v cs head len (now (work .entry)) (r .head) (r .len) (r .found) (now (work .exit))) ⌝ }
+    ensures { λ r. ⌜ Returns v head len (now (work .entry)) r (now (work .exit)) ⌝ }
 {
     let mut level = head;
     let mut entries = len;
@@ -91,7 +91,7 @@ pub fn backtrack(work: &mut [u32], v: usize, head: usize, len: usize) -> Back
         let top = work[v + place];
         level = pop(work, v, level, entries);
         if top % 2 == 1 {
-            units::push(work, v, place, propagation::negated(top / 2), 0);
+            units::push(work, v, place, negated(top / 2), 0);
             return Back {
                 head: level,
                 len: entries,
@@ -110,7 +110,7 @@ pub fn backtrack(work: &mut [u32], v: usize, head: usize, len: usize) -> Back
 // Searches from a trail of len entries that has no choices: whether all variables could be set.
 pub fn search(work: &mut [u32], v: usize, len: usize) -> bool
     requires { ⌜ Startable v len (now work) ⌝ }
-    ensures { λ r. ⌜ ((cs : List PropClause) (first : ℕ → Bool) → Started v cs first len (now (work .entry)) → Solved v cs first r (now (work .entry)) (now (work .exit))) ⌝ }
+    ensures { λ r. ⌜ Searches v len (now (work .entry)) r (now (work .exit)) ⌝ }
 {
     let mut head = 0;
     let mut entries = len;
@@ -126,10 +126,9 @@ pub fn search(work: &mut [u32], v: usize, len: usize) -> bool
             head = back.head;
             entries = back.len;
         } else {
-            let variable = unset(work, v);
-            if variable == v {
+            let Lowest::Variable(variable) = unset(work, v) else {
                 return true;
-            }
+            };
             units::push(work, v, entries, first(work, v, variable), 1);
             entries += 1;
         }
@@ -139,7 +138,7 @@ pub fn search(work: &mut [u32], v: usize, len: usize) -> bool
 // Looks at each of the m clauses once, before any literal is false: no literal's block leads to a clause of one literal, or none.
 pub fn begin(work: &mut [u32], v: usize, m: usize) -> units::Seen
     requires { ⌜ Loadable v m (now work) ⌝ }
-    ensures { λ r. ⌜ ((cs : List PropClause) (first : ℕ → Bool) → Loaded v cs first (now (work .entry)) → length cs ≡ m → Begun v cs first (r .len) (r .clash) (now (work .entry)) (now (work .exit))) ⌝ }
+    ensures { λ r. ⌜ Begins v m (now (work .entry)) r (now (work .exit)) ⌝ }
 {
     let from = 7 * v;
     let to = from + m;
@@ -165,7 +164,7 @@ pub fn begin(work: &mut [u32], v: usize, m: usize) -> units::Seen
 // The whole search in a work area that holds m clauses over v variables: whether a satisfying valuation was found, which the values then are.
 pub fn solve(work: &mut [u32], v: usize, m: usize) -> bool
     requires { ⌜ Loadable v m (now work) ⌝ }
-    ensures { λ r. ⌜ ((cs : List PropClause) (first : ℕ → Bool) → Loaded v cs first (now (work .entry)) → length cs ≡ m → Solved v cs first r (now (work .entry)) (now (work .exit))) ⌝ }
+    ensures { λ r. ⌜ Solves v m (now (work .entry)) r (now (work .exit)) ⌝ }
 {
     let seen = begin(work, v, m);
     if seen.clash {

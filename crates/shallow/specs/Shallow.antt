@@ -9,6 +9,7 @@ use Rattle.theory.specs.Lists.{all, upTo}
 use Rattle.theory.specs.Syntax.{Signature, Term, equal, Clause, termVariables, atomVariables, variables, termOk, atomOk}
 use Rattle.theory.specs.Syntax as theory
 use Rattle.theory.specs.Grammar.{Word, sign, termWords, atomWords}
+use Rattle.theory.specs.Problem.{maxWords, maxLiterals, maxArity}
 use Rattle.theory.specs.Flattening.{merged, turnedAtom, turned, toLift, addTerms, liftedTerms, shallow}
 use Rattle.theory.proofs.LiftedTerms.{coveredAtom}
 use Rattle.syntax.specs.declared.words.ClauseWords.{ClauseWords}
@@ -26,11 +27,11 @@ use Rattle.shallow.specs.Flattenable.{Flattenable}
 unfoldable pub started : ℕ → Lifting
 started owns =
     record {
-      literals = replicate 16 noLiteral;
-      arguments = replicate 48 0;
+      literals = replicate maxLiterals noLiteral;
+      arguments = replicate (maxLiterals * maxArity) 0;
       count = 0;
       owns = owns;
-      table = record { functions = replicate 64 0; arguments = replicate 192 0; count = 0 };
+      table = record { functions = replicate maxWords 0; arguments = replicate (maxWords * maxArity) 0; count = 0 };
       next = 0;
     }
 
@@ -48,8 +49,8 @@ withLiteral l k xs t next =
 
 -- the literals `done` are made shallow with the terms found, and what is to be lifted from them is found
 pub record Made (g : Signature) (xs : List ℕ) (found : List Term) (done : Clause) (l : Lifting) : Type 0 where
-  pub literals : length (l .literals) ≡ 16
-  pub arguments : length (l .arguments) ≡ 48
+  pub literals : length (l .literals) ≡ maxLiterals
+  pub arguments : length (l .arguments) ≡ maxLiterals * maxArity
   pub count : l .count ≡ length done
   pub made : map (literalIn g (l .literals) (l .arguments)) (upTo (l .count)) ≡ map (λ (k : theory.Literal). placedLiteral xs (shallow found (turned k))) done
   pub covered : all (λ (k : theory.Literal). coveredAtom found (turnedAtom (k .atom))) done ≡ true
@@ -67,7 +68,7 @@ pub record LiteralThere (codes place arities : List ℕ) (l : Lifting) : Type 0 
   pub room : length found ≤ l .next
   pub done : Clause
   pub made : Made (source .signature) (source .variables) found done l
-  pub space : l .count < 16
+  pub space : l .count < maxLiterals
 
 -- the two terms of an equality stand at a place
 pub record EqualityThere (codes place arities : List ℕ) (l : Lifting) (b : Bool) (at : ℕ) : Type 0 where
@@ -85,7 +86,7 @@ pub record EqualityThere (codes place arities : List ℕ) (l : Lifting) (b : Boo
   pub room : length found ≤ at
   pub done : Clause
   pub made : Made (source .signature) (source .variables) found done l
-  pub space : l .count < 16
+  pub space : l .count < maxLiterals
 
 -- the literal k is made shallow and what is to be lifted from it is found, its words ending at `end`
 pub record LiteralAdded (g : Signature) (xs : List ℕ) (found : List Term) (done : Clause) (l : Lifting) (k : theory.Literal) (end : ℕ) (r : Lifting) : Type 0 where
@@ -106,6 +107,6 @@ EqualityMade {codes} {place} {arities} {l} {b} {at} s r =
 pub record ClauseLifted {arities : List ℕ} {w : ClauseWords} (s : Flattenable arities w) (r : Lifting) : Type 0 where
   pub owns : r .owns ≡ length (variables (merged (clauseIn (s .signature) w)))
   pub few : r .owns ≤ 8
-  pub room : r .table .count ≤ 64
+  pub room : r .table .count ≤ maxWords
   pub lifts : Lifts (s .signature) (variables (merged (clauseIn (s .signature) w))) (liftedTerms (map turned (merged (clauseIn (s .signature) w)))) (r .table)
   pub made : Made (s .signature) (variables (merged (clauseIn (s .signature) w))) (liftedTerms (map turned (merged (clauseIn (s .signature) w)))) (merged (clauseIn (s .signature) w)) r

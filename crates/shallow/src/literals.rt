@@ -3,11 +3,13 @@ use lifting::table::Table;
 use lifting::terms::lift_term;
 use lifting::terms::lift_terms;
 use merging::merged;
+use syntax::limits::Problem;
 use syntax::variables::variables_of;
 use syntax::words::ClauseWords;
 ghost use mathlib.Core.Path.{_≡_};
 ghost use Prim.Native.Nat.{_+_, _<_, _≤_};
 ghost use lib.ListN.{getD};
+ghost use Rattle.theory.specs.Problem.{maxWords, maxLiterals};
 ghost use Rattle.shallow.specs.Flattenable.{Flattenable};
 ghost use Rattle.shallow.specs.Shallow.{ClauseLifted, EqualityMade, EqualityThere, LiteralMade, LiteralThere, started, withLiteral};
 
@@ -24,10 +26,10 @@ pub struct Literal {
     pub shape: Shape,
 }
 
-// The literals made shallow so far, three arguments each, and the lifted terms.
+// The literals made shallow so far, each with as many arguments as the largest arity, and the lifted terms.
 pub struct Lifting {
-    pub literals: [Literal; 16],
-    pub arguments: [u8; 48],
+    pub literals: [Literal; Problem::MAX_LITERALS],
+    pub arguments: [u8; Problem::MAX_ARGUMENTS],
     pub count: usize,
     // the number of the clause's own variables
     pub owns: u8,
@@ -39,21 +41,27 @@ pub struct Lifting {
 impl Lifting {
     // k: the clause's own variables and the new ones
     pub fn variables(self) -> usize
-        requires { ⌜ self .table .count ≤ 64 ⌝ }
+        requires { ⌜ self .table .count ≤ maxWords ⌝ }
         ensures { λ r. ⌜ r ≡ self .owns + self .table .count ⌝ }
     {
         self.owns as usize + self.table.count
     }
 
-    fn with(mut self, literal: Literal, arguments: [u8; 3], table: Table, next: usize) -> Lifting
-        requires { ⌜ self .count < 16 ⌝ }
+    fn with(
+        mut self,
+        literal: Literal,
+        arguments: [u8; Problem::MAX_ARITY],
+        table: Table,
+        next: usize,
+    ) -> Lifting
+        requires { ⌜ self .count < maxLiterals ⌝ }
         ensures { λ r. ⌜ r ≡ withLiteral self literal arguments table next ⌝ }
     {
         let i = self.count;
         self.literals[i] = literal;
-        self.arguments[i * 3] = arguments[0];
-        self.arguments[i * 3 + 1] = arguments[1];
-        self.arguments[i * 3 + 2] = arguments[2];
+        self.arguments[i * Problem::MAX_ARITY] = arguments[0];
+        self.arguments[i * Problem::MAX_ARITY + 1] = arguments[1];
+        self.arguments[i * Problem::MAX_ARITY + 2] = arguments[2];
         self.count = i + 1;
         self.table = table;
         self.next = next;
@@ -61,7 +69,7 @@ impl Lifting {
     }
 }
 
-// Steps 1 and 2 of a clause of at most 16 literals.
+// Steps 1 and 2 of a clause of at most MAX_LITERALS literals.
 pub fn lift(c: ClauseWords, arities: &[u8]) -> Lifting
     requires { ⌜ Flattenable (now arities) c ⌝ }
     ensures { λ r. ⌜ ((s : Flattenable (now (arities .entry)) c) → ClauseLifted s r) ⌝ }
@@ -85,13 +93,13 @@ fn start(owns: u8) -> Lifting
         literals: [Literal {
             sign: false,
             shape: Shape::Predicate(0),
-        }; 16],
-        arguments: [0; 48],
+        }; Problem::MAX_LITERALS],
+        arguments: [0; Problem::MAX_ARGUMENTS],
         count: 0,
         owns,
         table: Table {
-            functions: [0; 64],
-            arguments: [0; 192],
+            functions: [0; Problem::MAX_TERMS],
+            arguments: [0; Problem::MAX_TERM_ARGUMENTS],
             count: 0,
         },
         next: 0,
@@ -103,9 +111,9 @@ fn lift_literal(words: &[u8], place: &[u8], arities: &[u8], state: Lifting) -> L
     ensures { λ r. ⌜ ((s : LiteralThere (now (words .entry)) (now (place .entry)) (now (arities .entry)) state) → LiteralMade s r) ⌝ }
 {
     let at = state.next;
-    let sign = words[at] == 43;
+    let sign = words[at] == ClauseWords::PLUS;
     let p = words[at + 1];
-    if p == 61 {
+    if p == ClauseWords::EQUALS {
         return lift_equality(words, place, arities, state, sign, at + 2);
     }
     let i = p as usize;
@@ -133,20 +141,20 @@ fn lift_equality(
     ensures { λ r. ⌜ ((s : EqualityThere (now (words .entry)) (now (place .entry)) (now (arities .entry)) state sign at) → EqualityMade s r) ⌝ }
 {
     let left = words[at];
-    if left < 65 {
+    if left < ClauseWords::LETTER {
         return lift_result(words, place, arities, state, sign, at);
     }
-    let x = place[(left - 65) as usize];
+    let x = place[(left - ClauseWords::LETTER) as usize];
     let second = at + 1;
     let right = words[second];
     let table = state.table;
-    if 65 <= right {
-        let y = place[(right - 65) as usize];
+    if ClauseWords::LETTER <= right {
+        let y = place[(right - ClauseWords::LETTER) as usize];
         let literal = Literal {
             sign,
             shape: Shape::VariableEquality(x, y),
         };
-        return state.with(literal, [0; 3], table, second + 1);
+        return state.with(literal, [0; Problem::MAX_ARITY], table, second + 1);
     }
     let f = right as usize;
     let r = lift_terms(

@@ -2,3 +2,4 @@ pub mod Signatures
 pub mod Codes
 pub mod Places
 pub mod Clauses
+pub mod Sizes

@@ -8,6 +8,7 @@ use lib.ListN.{length, take}
 use Rattle.theory.specs.Lists.{all}
 use Rattle.theory.specs.Syntax.{Signature, Clause}
 use Rattle.theory.specs.Grammar.{Word, sign, equals, symbol, letter, clause, grammar, readWords}
+use Rattle.theory.specs.Problem.{maxWords}
 use Rattle.syntax.specs.declared.words.ClauseWords.{ClauseWords}
 
 -- the code of a word: a symbol's place, or the word's byte
@@ -39,6 +40,6 @@ isKnown g (letter x) = ltb x 8
 
 -- the clause words are a clause over the signature
 pub record IsClause (g : Signature) (w : ClauseWords) : Type 0 where
-  pub fits : w .count ≤ 64
+  pub fits : w .count ≤ maxWords
   pub known : all (isKnown g) (wordsIn w) ≡ true
   pub grammatical : grammar g (wordsIn w) ≡ clause

@@ -1,11 +1,12 @@
 -- The signature that the code's symbols stand for. Names are places in a sheet.
-use Prim.Native.Nat.{ℕ, _≤_, _<_}
+use Prim.Native.Nat.{ℕ, _*_, _≤_, _<_}
 use mathlib.Core.Path.{_≡_}
 use mathlib.Core.Bool.{Bool, true, false}
 use mathlib.Core.List.{List, map}
 use lib.ListN.{length, getD, take, drop}
 use Rattle.theory.specs.Syntax.{Kind, function, predicate, Signature, symbolAt}
 use Rattle.theory.specs.Syntax as theory
+use Rattle.theory.specs.Problem.{maxSymbols, maxArity}
 use Rattle.syntax.specs.declared.signature.Symbol.{Symbol}
 use Rattle.syntax.specs.declared.signature.Signature as declared
 
@@ -33,5 +34,5 @@ pub record Arities (g : Signature) (arities : List ℕ) : Type 0 where
 
 -- no more symbols than a sheet may have, and arities as it may have
 pub record Small (g : Signature) : Type 0 where
-  pub symbols : length g ≤ 24
-  pub arities : (i : ℕ) → i < length g → symbolAt g i .arity ≤ 3
+  pub symbols : length g ≤ 2 * maxSymbols
+  pub arities : (i : ℕ) → i < length g → symbolAt g i .arity ≤ maxArity

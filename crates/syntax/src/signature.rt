@@ -2,8 +2,9 @@
 use crate::limits::Problem;
 ghost use mathlib.Core.Path.{_≡_};
 ghost use mathlib.Core.List.{[], _∷_, _++_, map};
-ghost use Prim.Native.Nat.{_+_, _<_, _≤_};
+ghost use Prim.Native.Nat.{_+_, _*_, _<_, _≤_};
 ghost use lib.ListN.{take};
+ghost use Rattle.theory.specs.Problem.{maxSymbols};
 ghost use Rattle.syntax.specs.Signatures.{aritiesOf};
 
 // A function or a predicate, and the place and length of its name in the sheet.
@@ -36,7 +37,7 @@ impl Signature {
 
     // The signature with one symbol more.
     pub fn with(mut self, symbol: Symbol) -> Signature
-        requires { ⌜ self .count < 24 ⌝ }
+        requires { ⌜ self .count < 2 * maxSymbols ⌝ }
         ensures count { λ r. ⌜ r .count ≡ self .count + 1 ⌝ }
         ensures symbols { λ r. ⌜ take (r .count) (r .symbols) ≡ take (self .count) (self .symbols) ++ (symbol ∷ []) ⌝ }
     {
@@ -48,7 +49,7 @@ impl Signature {
 
     // The arity of each symbol, 0 past the last.
     pub fn arities(self) -> [u8; Problem::MAX_SYMBOLS]
-        requires { ⌜ self .count ≤ 24 ⌝ }
+        requires { ⌜ self .count ≤ 2 * maxSymbols ⌝ }
         ensures { λ r. ⌜ take (self .count) r ≡ aritiesOf (take (self .count) (self .symbols)) ⌝ }
     {
         let mut arities = [0; Problem::MAX_SYMBOLS];

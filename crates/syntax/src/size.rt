@@ -1,9 +1,11 @@
 // Domain sizes.
 use crate::limits::Problem;
 ghost use mathlib.Core.Path.{_≡_};
-ghost use Rattle.syntax.specs.Sizes.{checkedSize};
+ghost use Prim.Native.Nat.{_<_};
+ghost use Rattle.theory.specs.Operations.{maxSize};
+ghost use Rattle.syntax.specs.Sizes.{checkedSize, nextSize};
 
-// A domain size of 1 to 8.
+// A domain size, 1 to Problem::MAX_SIZE.
 pub struct DomainSize(pub usize);
 
 pub enum SizeCheck {
@@ -12,6 +14,11 @@ pub enum SizeCheck {
 }
 
 impl DomainSize {
+    // the byte of the digit 0, and of the largest size
+    pub const ZERO_DIGIT: u8 = 48;
+
+    pub const LAST_DIGIT: u8 = Self::ZERO_DIGIT + Problem::MAX_SIZE as u8;
+
     pub fn checked(n: usize) -> SizeCheck
         ensures { λ r. ⌜ r ≡ checkedSize n ⌝ }
     {
@@ -22,5 +29,13 @@ impl DomainSize {
             return SizeCheck::Refused;
         }
         SizeCheck::Is(DomainSize(n))
+    }
+
+    // The size after one that is not the largest.
+    pub fn next(self) -> DomainSize
+        requires { ⌜ self .0 < maxSize ⌝ }
+        ensures { λ r. ⌜ r ≡ nextSize self ⌝ }
+    {
+        DomainSize(self.0 + 1)
     }
 }

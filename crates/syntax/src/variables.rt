@@ -6,21 +6,26 @@ ghost use mathlib.Core.Bool.{true};
 ghost use mathlib.Core.List.{List, _++_};
 ghost use Prim.Native.Nat.{_≤_, _<_, ℕ};
 ghost use Rattle.theory.specs.Lists.{all, distinct};
+ghost use Rattle.theory.specs.Problem.{maxWords};
 ghost use Rattle.syntax.specs.Codes.{codeWord};
 ghost use Rattle.syntax.specs.Variables.{CodesBelow, Places, isLetter, letterOf, variablesIn};
 
-// How many letters the clause has, and the place of each; MAX_LETTERS where it does not occur.
+// How many letters the clause has, and the place of each; NONE where it does not occur.
 pub struct Variables {
     pub place: [u8; Problem::MAX_LETTERS],
     pub count: usize,
 }
 
+impl Variables {
+    pub const NONE: u8 = Problem::MAX_LETTERS as u8;
+}
+
 pub fn variables_of(c: ClauseWords) -> Variables
-    requires { ⌜ (c .count ≤ 64) × CodesBelow c ⌝ }
+    requires { ⌜ (c .count ≤ maxWords) × CodesBelow c ⌝ }
     ensures { λ r. ⌜ Places (variablesIn c) r ⌝ }
 {
     let mut found = Variables {
-        place: [8; Problem::MAX_LETTERS],
+        place: [Variables::NONE; Problem::MAX_LETTERS],
         count: 0,
     };
     let mut i: usize = 0;
@@ -33,14 +38,14 @@ pub fn variables_of(c: ClauseWords) -> Variables
 
 // The letters with those of one more word.
 fn with_word(mut found: Variables, word: u8) -> Variables
-    requires { ⌜ (word < 73) × (found .count ≤ 64) ⌝ }
+    requires { ⌜ (word < 73) × (found .count ≤ maxWords) ⌝ }
     ensures { λ r. ⌜ ((xs : List ℕ) → all isLetter xs ≡ true → Places (distinct xs) found → Places (distinct (xs ++ letterOf (codeWord word))) r) ⌝ }
 {
-    if word < 65 {
+    if word < ClauseWords::LETTER {
         return found;
     }
-    let x = (word - 65) as usize;
-    if found.place[x] < 8 {
+    let x = (word - ClauseWords::LETTER) as usize;
+    if found.place[x] < Variables::NONE {
         return found;
     }
     let n = found.count;

@@ -15,4 +15,7 @@ impl ClauseWords {
 
     // the code of the variable letter A; the others follow, up to H
     pub const LETTER: u8 = 65;
+
+    // the code after that of the last letter
+    pub const PAST_LETTERS: u8 = Self::LETTER + Problem::MAX_LETTERS as u8;
 }

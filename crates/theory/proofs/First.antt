@@ -14,6 +14,10 @@ use Rattle.theory.specs.Claims.Least.{NotAfter}
 use Rattle.theory.proofs.Tests.{not-true, both-false, eqb-true, eqb-ne, or-cases, true-or-false, lt-or-eq-or-gt}
 use Rattle.theory.proofs.Lists.{elem-here, elem-there}
 
+-- of two numbers that have an answer, the first decides
+first-decides : firstOf (λ d. some d) (1 ∷ 2 ∷ []) ≡ some 1
+first-decides = refl
+
 -- v has at each place one of that place's values
 abbrev pub In : List ℕ → List (List ℕ) → Type 0
 In [] [] = Unit {0}

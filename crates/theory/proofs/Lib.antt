@@ -1,3 +1,4 @@
+pub mod Examples
 pub mod Tests
 pub mod Lists
 pub mod Vectors

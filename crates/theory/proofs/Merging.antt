@@ -14,6 +14,13 @@ use Rattle.theory.specs.Flattening.{rename, renameTerm, renameTerms, ren
 use Rattle.theory.specs.Claims.Truth.{Valid}
 use Rattle.theory.proofs.Tests.{eqb-true, eqb-same, eqb-of-≡, and-left, and-right, and-join}
 
+-- the inequality of A and B puts A for B to its left too
+renamed-left :
+    merged (record { sign = true; atom = holds 0 (cons (variable 1) empty) } ∷ record { sign = false; atom = equal (variable 0) (variable 1) } ∷ [])
+    ≡ record { sign = true; atom = holds 0 (cons (variable 0) empty) } ∷ []
+unfolding merged
+renamed-left = refl
+
 module _ (I : Interpretation) where
   module _ (ρ : Assignment) (x y : ℕ) where
     -- to rename is to look the other variable up

@@ -1,71 +1,61 @@
--- The starred examples of document 01, from the bytes of their sheets to the answers, as one claim that holds by computation.
+-- The starred examples of document 01, from the bytes of their sheets to the answers, and a case that Judge says no to, as one claim that holds by computation (proofs/Examples).
 use Prim.Native.Nat.{ℕ}
-use mathlib.Core.Path.{_≡_, refl}
-use mathlib.Core.Bool.{Bool, true, false}
+use mathlib.Core.Path.{_≡_}
+use mathlib.Core.Bool.{true, false}
 use mathlib.Core.List.{List, [], _∷_, _++_, map}
-use lib.ListN.{length, replicate}
+use lib.ListN.{replicate}
 use Prim.Native.String.{String}
 use Rattle.theory.specs.Lists.{upFrom}
-use Rattle.theory.specs.Bytes.{bytes, decimal}
-use Rattle.theory.specs.Syntax.{Symbol, Clause}
-use Rattle.theory.specs.Cells.{cellKinds, judged, isModel}
-use Rattle.theory.specs.Flattening.{FlatVariable, own, new, FlatAtom, flatPredicate, flatResult, flatEquality, FlatLiteral, FlatClause, merged, liftedTerms, flatten, variableCount}
-use Rattle.theory.specs.Propositional.{propBase, propCount}
-use Rattle.theory.specs.Instances.{instances}
-use Rattle.theory.specs.PropClauses.{functionPart, clausePart, parts, propClauses, instanceCount, literalCount, workNeeded}
-use Rattle.theory.specs.Dimacs.{literalText, clauseText, header, dimacs}
-use Rattle.theory.specs.Valuation.{isValuation, isFunctional, readBack}
-use Rattle.theory.specs.Refusals.{Answer, answer, refused, unplaced, needing, _>>=_}
-use Rattle.theory.specs.Grammar.{grammar, readClause}
-use Rattle.theory.specs.Problem.{countLine, isName, symbolLines, wordOf, withinLimits, clauseOf, clauseLines, Problem, readProblem}
-use Rattle.theory.specs.CaseText.{tableText, tablesText, caseText, caseLength, readTable, readTables, readCase}
-use Rattle.theory.specs.Least.{leastModel, smallestModel, settled}
-use Rattle.theory.specs.Operations.{lengthAnswer, contentOf, writtenText, readBackText, judgeAnswer, Search, found, nothing, foundCase, findResult, findAnswer, findOutput, findWork}
-use Rattle.theory.specs.Program.{_>>?_, digitLine, printed, program}
+use Rattle.theory.specs.Bytes.{bytes}
+use Rattle.theory.specs.Flattening.{new, flatPredicate, flatResult, FlatClause, flatten}
+use Rattle.theory.specs.Refusals.{Answer, answer, refused, unplaced, needing}
+use Rattle.theory.specs.Problem.{Problem, readProblem}
+use Rattle.theory.specs.Operations.{lengthAnswer, writtenText, readBackText, judgeAnswer, Search, found, nothing, foundCase, findResult, findAnswer, findOutput, findWork}
+use Rattle.theory.specs.Program.{program}
 
 -- document 01's sheet: two constants that differ
-pub twoConstants : List ℕ
+unfoldable pub twoConstants : List ℕ
 twoConstants = bytes "sheet=1\nfuns=2\nfun=a/0\nfun=b/0\npreds=0\nclauses=1\nclause=- = a b\n"
 
 -- one clause and no symbols
-pub oneClause : String → List ℕ
+unfoldable pub oneClause : String → List ℕ
 oneClause c = bytes "sheet=1\nfuns=0\npreds=0\nclauses=1\nclause=" ++ (bytes c ++ bytes "\n")
 
 -- no clause and no symbol
-pub nothingAtAll : List ℕ
+unfoldable pub nothingAtAll : List ℕ
 nothingAtAll = bytes "sheet=1\nfuns=0\npreds=0\nclauses=0\n"
 
 -- 000's Example 3
-pub nestedTerms : List ℕ
+unfoldable pub nestedTerms : List ℕ
 nestedTerms = bytes "sheet=1\nfuns=3\nfun=f/2\nfun=a/0\nfun=b/0\npreds=1\npred=p/2\nclauses=1\nclause=+ p f a b f b a\n"
 
 -- a function without a fixed point
-pub noFixedPoint : List ℕ
+unfoldable pub noFixedPoint : List ℕ
 noFixedPoint = bytes "sheet=1\nfuns=1\nfun=f/1\npreds=0\nclauses=1\nclause=- = f A A\n"
 
 -- p of a alone
-pub onlyA : List ℕ
+unfoldable pub onlyA : List ℕ
 onlyA = bytes "sheet=1\nfuns=1\nfun=a/0\npreds=1\npred=p/1\nclauses=2\nclause=+ p a\nclause=- p A + = A a\n"
 
 -- the sizes, work and output of a search, and what it finds
-pub findWithin : List ℕ → ℕ → ℕ → Answer Search
+unfoldable pub findWithin : List ℕ → ℕ → ℕ → Answer Search
 findWithin sheet low high = findResult sheet low high 16000 100
 
 -- the text that Write leaves in a hundred bytes
-pub writeIn : List ℕ → ℕ → Answer (List ℕ)
+unfoldable pub writeIn : List ℕ → ℕ → Answer (List ℕ)
 writeIn sheet size = writtenText sheet size 100
 
 -- the case that Read back leaves in a hundred bytes
-pub readBackIn : List ℕ → ℕ → List ℕ → Answer (List ℕ)
+unfoldable pub readBackIn : List ℕ → ℕ → List ℕ → Answer (List ℕ)
 readBackIn sheet size setting = readBackText sheet size setting 100
 
 -- the flattened clauses of a sheet
-pub flatClauses : Answer Problem → List FlatClause
+unfoldable pub flatClauses : Answer Problem → List FlatClause
 flatClauses (refused r) = []
 flatClauses (answer p) = map flatten (p .clauses)
 
 -- a ≠ x, b ≠ y, f(x,y) ≠ z, f(y,x) ≠ w, p(z,w); the symbols' places are f 0, a 1, b 2, p 3
-pub nestedFlat : FlatClause
+unfoldable pub nestedFlat : FlatClause
 nestedFlat =
     record {
       owns = [];
@@ -92,6 +82,7 @@ pub record Examples : Type 0 where
   pub two-constants-program : program (bytes "low=1\nhigh=3\n" ++ twoConstants) ≡ bytes "answer=found\ncase=1\nsize=2\na=1\nb=2\n"
   pub nested-flat : flatClauses (readProblem nestedTerms) ≡ nestedFlat ∷ []
   pub equal-1 : judgeAnswer (oneClause "+ = A B") (bytes "case=1\nsize=1\n") ≡ answer true
+  pub equal-1-not-2 : judgeAnswer (oneClause "+ = A B") (bytes "case=1\nsize=2\n") ≡ answer false
   pub equal-2 : writeIn (oneClause "+ = A B") 2 ≡ answer (bytes "p cnf 0 2\n0\n0\n")
   pub unequal-each : map (writeIn (oneClause "- = A B")) (upFrom 1 8) ≡ replicate 8 (answer (bytes "p cnf 0 1\n0\n"))
   pub empty-clause : findWithin (oneClause "") 1 8 ≡ answer (nothing true)
@@ -101,31 +92,3 @@ pub record Examples : Type 0 where
   pub no-fixed-point-2 : findWithin noFixedPoint 1 3 ≡ answer (found 2 (bytes "case=1\nsize=2\nf=2 1\n"))
   pub no-fixed-point-3 : findWithin noFixedPoint 3 3 ≡ answer (found 3 (bytes "case=1\nsize=3\nf=2 1 1\n"))
   pub only-a : findWithin onlyA 2 2 ≡ answer (found 2 (bytes "case=1\nsize=2\na=1\np=1 0\n"))
-
--- every line of the table holds by computation
-pub examples : Examples
-unfolding twoConstants oneClause nothingAtAll nestedTerms noFixedPoint onlyA findWithin writeIn readBackIn flatClauses nestedFlat decimal cellKinds judged isModel merged liftedTerms flatten variableCount propBase propCount instances functionPart clausePart parts propClauses instanceCount literalCount workNeeded literalText clauseText header dimacs isValuation isFunctional readBack _>>=_ grammar readClause countLine isName symbolLines wordOf withinLimits clauseOf clauseLines readProblem tableText tablesText caseText caseLength readTable readTables readCase leastModel smallestModel settled contentOf writtenText readBackText judgeAnswer findResult _>>?_ digitLine printed program
-examples =
-    record {
-      two-constants-1 = refl;
-      two-constants-2 = refl;
-      two-constants-text = refl;
-      two-constants-back = refl;
-      two-constants-length = refl;
-      two-constants-short = refl;
-      two-constants-14 = refl;
-      two-constants-output = refl;
-      two-constants-work = refl;
-      two-constants-program = refl;
-      nested-flat = refl;
-      equal-1 = refl;
-      equal-2 = refl;
-      unequal-each = refl;
-      empty-clause = refl;
-      no-clause = refl;
-      no-clause-length = refl;
-      no-fixed-point-1 = refl;
-      no-fixed-point-2 = refl;
-      no-fixed-point-3 = refl;
-      only-a = refl;
-    }

@@ -1,7 +1,7 @@
 -- A clause's words read from the last to the first: each is lent what it needs, and a literal that is true makes the clause true.
 use Prim.Native.Nat.{ℕ, zero, suc, _-_, _≤_, _<_}
 use mathlib.Core.Path.{_≡_, refl, sym, ap, _∙_}
-use mathlib.Core.Bool.{true, false}
+use mathlib.Core.Bool.{Bool, true, false}
 use mathlib.Core.List.{List, [], _∷_, map}
 use native.Mathlib.Omega.{arith}
 use lib.ListN.{length, getD, drop, replicate, length-map, length-drop}
@@ -17,7 +17,6 @@ use Rattle.theory.proofs.DueWords.{DueAt, due-at}
 use Rattle.syntax.specs.Codes.{codeWord, isKnown}
 use Rattle.syntax.specs.Variables.{letterOf, lettersOf}
 use Rattle.syntax.proofs.Codes.{known-declared}
-use Rattle.interpretation.specs.declared.tables.Tables.{Tables}
 use Rattle.truth.specs.declared.values.Machine.{Machine}
 use Rattle.truth.specs.Values.{Chosen, ValuesHeld, WordLent, ClauseLent, lettersAmong}
 
@@ -47,7 +46,7 @@ letters-drop xs (w ∷ ws) (suc i) h =
     letters-drop xs ws i
     (and-right (all (λ x. elem x xs) (letterOf w)) (lettersAmong xs ws) (sym (all-append (λ x. elem x xs) (letterOf w) (lettersOf ws)) ∙ h))
 
-module _ {words place : List ℕ} {t : Tables} {cells : List ℕ} {s : ℕ} (c : ClauseLent words place t cells s) {choice : List ℕ} (chosen : Chosen (c .variables) s choice) where
+module _ {words place arities : List ℕ} {functions : List Bool} {bases cells : List ℕ} {s : ℕ} (c : ClauseLent words place arities functions bases cells s) {choice : List ℕ} (chosen : Chosen (c .variables) s choice) where
   -- no word is read at first
   pub none-held : ValuesHeld (c .signature) (interpretation s (c .signature) cells) (assign (c .variables) choice) s (drop (length words) (map codeWord words)) (replicate 64 0)
       (record { top = 64; atom = false; holds = false })
@@ -76,7 +75,7 @@ module _ {words place : List ℕ} {t : Tables} {cells : List ℕ} {s : ℕ} (c :
     -- what the word before place i is lent
     abbrev pub word-lent : (stack : List ℕ) (m : Machine) → length stack ≡ 64
         → ValuesHeld (c .signature) (interpretation s (c .signature) cells) (assign (c .variables) choice) s (drop i (map codeWord words)) stack m
-        → WordLent (getD words (i - 1) 0) place t cells s choice stack m
+        → WordLent (getD words (i - 1) 0) place arities functions bases cells s choice stack m
     word-lent stack m n held =
         record {
           signature = c .signature;

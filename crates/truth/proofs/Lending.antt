@@ -22,7 +22,6 @@ use Rattle.syntax.specs.Codes.{codeOf, codeWord, isKnown}
 use Rattle.syntax.specs.Variables.{letterOf, lettersOf}
 use Rattle.syntax.proofs.Codes.{codeOf-wordOf, wordOf-symbol, wordOf-letter, known-declared, known-below}
 use Rattle.syntax.proofs.Places.{place-below, assign-placed}
-use Rattle.interpretation.specs.declared.tables.Tables.{Tables}
 use Rattle.truth.specs.declared.values.Machine.{Machine}
 use Rattle.truth.specs.Values.{ValuesHeld, WordLent, lettersAmong}
 use Rattle.interpretation.proofs.Ranks.{allBelow-at, allBelow-take}
@@ -30,10 +29,11 @@ use Rattle.interpretation.proofs.Tabling.{base-within}
 use Rattle.truth.proofs.Stack.{held-count, held-take, letter-held, equality-held, sign-held, function-held, predicate-held}
 
 -- the values that a symbol finds on the stack, as many as its arity
-abbrev pub arguments : ℕ → Tables → List ℕ → Machine → List ℕ
-arguments word t stack m = take (m .top + getD (t .arities) word 0 - m .top) (drop (m .top) stack)
+abbrev pub arguments : ℕ → List ℕ → List ℕ → Machine → List ℕ
+arguments word arities stack m = take (m .top + getD arities word 0 - m .top) (drop (m .top) stack)
 
-module _ {word : ℕ} {place : List ℕ} {t : Tables} {cells : List ℕ} {s : ℕ} {choice stack : List ℕ} {m : Machine} (w : WordLent word place t cells s choice stack m) where
+module _ {word : ℕ} {place arities : List ℕ} {functions : List Bool} {bases cells : List ℕ} {s : ℕ} {choice stack : List ℕ} {m : Machine}
+    (w : WordLent word place arities functions bases cells s choice stack m) where
   known-behind : all (isKnown (w .signature)) (w .behind) ≡ true
   known-behind = and-right (isKnown (w .signature) (codeWord word)) (all (isKnown (w .signature)) (w .behind)) (w .known)
 
@@ -126,43 +126,43 @@ module _ {word : ℕ} {place : List ℕ} {t : Tables} {cells : List ℕ} {s : �
     pub symbol-declared : word < length (w .signature)
     symbol-declared = ltb-true word (length (w .signature)) (ap (isKnown (w .signature)) (sym is-symbol) ∙ known-word)
 
-    pub arity-is : getD (t .arities) word 0 ≡ symbolAt (w .signature) word .arity
+    pub arity-is : getD arities word 0 ≡ symbolAt (w .signature) word .arity
     arity-is = w .lent .tables .arities .arity word symbol-declared
 
-    pub arity-small : getD (t .arities) word 0 ≤ 3
+    pub arity-small : getD arities word 0 ≤ 3
     arity-small = omega (arith, arity-is, w .lent .small .arities word symbol-declared)
 
-    pub arity-enough : getD (t .arities) word 0 ≤ count (readWords (w .signature) (w .behind) .terms)
+    pub arity-enough : getD arities word 0 ≤ count (readWords (w .signature) (w .behind) .terms)
     arity-enough = omega (arith, arity-is, enough, ap (taken (w .signature)) is-symbol)
 
-    pub base-small : getD (t .bases) word 0 ≤ 12288
+    pub base-small : getD bases word 0 ≤ 12288
     base-small = omega (arith, w .lent .tables .base word symbol-declared, base-within (w .signature) s word (w .lent .size) (w .lent .small) (omega (arith, symbol-declared)), symbol-declared, w .lent .small .symbols)
 
     -- its arguments, as they are lent, are the values of the terms that it takes
-    lent-length : m .top + getD (t .arities) word 0 - m .top ≡ getD (t .arities) word 0
+    lent-length : m .top + getD arities word 0 - m .top ≡ getD arities word 0
     lent-length = omega arith
 
-    pub arguments-are : arguments word t stack m ≡ values (interpretation s (w .signature) cells) (assign (w .variables) choice) (takeTerms (getD (t .arities) word 0) (readWords (w .signature) (w .behind) .terms))
-    arguments-are = ap (λ (n : ℕ). take n (drop (m .top) stack)) lent-length ∙ held-take (w .signature) _ _ s (w .behind) stack m (w .held) (getD (t .arities) word 0)
+    pub arguments-are : arguments word arities stack m ≡ values (interpretation s (w .signature) cells) (assign (w .variables) choice) (takeTerms (getD arities word 0) (readWords (w .signature) (w .behind) .terms))
+    arguments-are = ap (λ (n : ℕ). take n (drop (m .top) stack)) lent-length ∙ held-take (w .signature) _ _ s (w .behind) stack m (w .held) (getD arities word 0)
 
-    pub arguments-length : length (arguments word t stack m) ≡ getD (t .arities) word 0
+    pub arguments-length : length (arguments word arities stack m) ≡ getD arities word 0
     arguments-length =
         ap (λ (n : ℕ). length (take n (drop (m .top) stack))) lent-length
-        ∙ length-take-le (getD (t .arities) word 0) (drop (m .top) stack) (omega (arith, length-drop (m .top) stack, stack-count, arity-enough))
+        ∙ length-take-le (getD arities word 0) (drop (m .top) stack) (omega (arith, length-drop (m .top) stack, stack-count, arity-enough))
 
-    pub arguments-below : AllBelow s (arguments word t stack m)
-    arguments-below = allBelow-take s (m .top + getD (t .arities) word 0 - m .top) (drop (m .top) stack) (w .held .below)
+    pub arguments-below : AllBelow s (arguments word arities stack m)
+    arguments-below = allBelow-take s (m .top + getD arities word 0 - m .top) (drop (m .top) stack) (w .held .below)
 
     -- its cell
-    module _ (c : ℕ) (e : c ≡ getD (t .bases) word 0 + rank s (arguments word t stack m)) where
-      cell-lent : c ≡ cell s (w .signature) word (arguments word t stack m)
-      cell-lent = e ∙ ap (λ (b : ℕ). b + rank s (arguments word t stack m)) (w .lent .tables .base word symbol-declared)
+    module _ (c : ℕ) (e : c ≡ getD bases word 0 + rank s (arguments word arities stack m)) where
+      cell-lent : c ≡ cell s (w .signature) word (arguments word arities stack m)
+      cell-lent = e ∙ ap (λ (b : ℕ). b + rank s (arguments word arities stack m)) (w .lent .tables .base word symbol-declared)
 
-      cell-is : c ≡ cell s (w .signature) word (values (interpretation s (w .signature) cells) (assign (w .variables) choice) (takeTerms (getD (t .arities) word 0) (readWords (w .signature) (w .behind) .terms)))
+      cell-is : c ≡ cell s (w .signature) word (values (interpretation s (w .signature) cells) (assign (w .variables) choice) (takeTerms (getD arities word 0) (readWords (w .signature) (w .behind) .terms)))
       cell-is = cell-lent ∙ ap (cell s (w .signature) word) arguments-are
 
       cell-counted : c < cellCount s (w .signature)
-      cell-counted = rw cell-lent (cell-below s (w .signature) word (arguments word t stack m) symbol-declared (arguments-length ∙ arity-is) arguments-below)
+      cell-counted = rw cell-lent (cell-below s (w .signature) word (arguments word arities stack m) symbol-declared (arguments-length ∙ arity-is) arguments-below)
 
       pub cell-within : c < length cells
       cell-within = omega (arith, cell-counted, length-interpretation s (w .signature) cells (w .lent .values))
@@ -171,26 +171,26 @@ module _ {word : ℕ} {place : List ℕ} {t : Tables} {cells : List ℕ} {s : �
       pub cell-below-size : symbolAt (w .signature) word .kind ≡ function → getD cells c 0 < s
       cell-below-size k =
           let q : getD (cellKinds s (w .signature)) c predicate ≡ function =
-          ap (λ (c : ℕ). getD (cellKinds s (w .signature)) c predicate) cell-lent ∙ kind-at-cell s (w .signature) word (arguments word t stack m) symbol-declared (arguments-length ∙ arity-is) arguments-below ∙ k in
+          ap (λ (c : ℕ). getD (cellKinds s (w .signature)) c predicate) cell-lent ∙ kind-at-cell s (w .signature) word (arguments word arities stack m) symbol-declared (arguments-length ∙ arity-is) arguments-below ∙ k in
           rw (ap (valueCount s) q) at (value-below s (w .signature) cells (w .lent .values) c cell-counted)
 
       -- a function leaves its value
-      pub function-read : (v : ℕ) → getD (t .functions) word false ≡ true
+      pub function-read : (v : ℕ) → getD functions word false ≡ true
           → ((ts : Terms) → c ≡ cell s (w .signature) word (values (interpretation s (w .signature) cells) (assign (w .variables) choice) ts) → v ≡ value (interpretation s (w .signature) cells) (assign (w .variables) choice) (apply word ts))
-          → ValuesHeld (w .signature) (interpretation s (w .signature) cells) (assign (w .variables) choice) s (codeWord word ∷ w .behind) (set stack (m .top + getD (t .arities) word 0 - 1) v)
-          (record { top = m .top + getD (t .arities) word 0 - 1; atom = m .atom; holds = m .holds })
+          → ValuesHeld (w .signature) (interpretation s (w .signature) cells) (assign (w .variables) choice) s (codeWord word ∷ w .behind) (set stack (m .top + getD arities word 0 - 1) v)
+          (record { top = m .top + getD arities word 0 - 1; atom = m .atom; holds = m .holds })
       function-read v k q =
-          let e = q (takeTerms (getD (t .arities) word 0) (readWords (w .signature) (w .behind) .terms)) cell-is in
+          let e = q (takeTerms (getD arities word 0) (readWords (w .signature) (w .behind) .terms)) cell-is in
           let kind : symbolAt (w .signature) word .kind ≡ function = sym (w .lent .tables .kind word symbol-declared) ∙ ap kindOf k in
           let below : v < s = rw (e, ← cell-is) (cell-below-size kind) in
-          rw is-symbol (function-held (w .signature) _ _ s (w .behind) stack m (w .held) word (getD (t .arities) word 0) v kind arity-is arity-enough e below roomy)
+          rw is-symbol (function-held (w .signature) _ _ s (w .behind) stack m (w .held) word (getD arities word 0) v kind arity-is arity-enough e below roomy)
 
       -- a predicate leaves its atom's truth
-      pub predicate-read : (b : Bool) → getD (t .functions) word false ≡ false
+      pub predicate-read : (b : Bool) → getD functions word false ≡ false
           → ((ts : Terms) → c ≡ cell s (w .signature) word (values (interpretation s (w .signature) cells) (assign (w .variables) choice) ts) → b ≡ atomTrue (interpretation s (w .signature) cells) (assign (w .variables) choice) (holds word ts))
           → ValuesHeld (w .signature) (interpretation s (w .signature) cells) (assign (w .variables) choice) s (codeWord word ∷ w .behind) stack
-          (record { top = m .top + getD (t .arities) word 0; atom = b; holds = m .holds })
+          (record { top = m .top + getD arities word 0; atom = b; holds = m .holds })
       predicate-read b k q =
-          let e = q (takeTerms (getD (t .arities) word 0) (readWords (w .signature) (w .behind) .terms)) cell-is in
+          let e = q (takeTerms (getD arities word 0) (readWords (w .signature) (w .behind) .terms)) cell-is in
           let kind : symbolAt (w .signature) word .kind ≡ predicate = sym (w .lent .tables .kind word symbol-declared) ∙ ap kindOf k in
-          rw is-symbol (predicate-held (w .signature) _ _ s (w .behind) stack m (w .held) word (getD (t .arities) word 0) b kind arity-is arity-enough e)
+          rw is-symbol (predicate-held (w .signature) _ _ s (w .behind) stack m (w .held) word (getD arities word 0) b kind arity-is arity-enough e)

@@ -3,20 +3,17 @@
 use indices::Cell;
 use indices::Element;
 use syntax::limits::Problem;
+use syntax::size::DomainSize;
 use syntax::words::ClauseWords;
 ghost use mathlib.Core.Path.{_≡_};
-ghost use mathlib.Core.Bool.{true};
-ghost use mathlib.Core.List.{List};
-ghost use Prim.Native.Nat.{_+_, _-_, _<_, _≤_, ℕ};
+ghost use Prim.Native.Nat.{_+_, _-_, _<_, _≤_};
 ghost use lib.ListN.{getD, length};
-ghost use Rattle.theory.specs.Lists.{elem};
 ghost use Rattle.theory.specs.Vectors.{AllBelow, rank};
-ghost use Rattle.theory.specs.Syntax.{Literal, Signature, Term, Terms, apply, equal, holds, variable};
-ghost use Rattle.theory.specs.Truth.{Assignment, Interpretation, assign, atomTrue, clauseTrue, literalTrue, value, values};
-ghost use Rattle.theory.specs.Cells.{cell, interpretation};
+ghost use Rattle.theory.specs.Syntax.{Literal, Term, equal};
+ghost use Rattle.theory.specs.Truth.{Assignment, Interpretation, atomTrue, literalTrue, value};
 ghost use Rattle.theory.specs.Grammar as words;
 ghost use Rattle.syntax.specs.Codes.{codeWord};
-ghost use Rattle.truth.specs.Values.{Chosen, ClauseLent, PlacesIn, WordLent, WordTaken, lentClause, tablesIn};
+ghost use Rattle.truth.specs.Values.{Chosen, ClauseLent, IsClauseValue, IsFunctionValue, IsPredicateValue, IsVariableValue, WordLent, WordTaken};
 
 // The top of the stack, and the truth of the atom read last.
 pub struct Machine {
@@ -29,7 +26,7 @@ pub struct Machine {
 // Variables: the value that the choice has for the letter.
 pub fn variable_value(choice: &[u8], place: &[u8], letter: u8) -> Element
     requires { ⌜ (65 ≤ letter) × ((letter - 65 < length (now place)) × (getD (now place) (letter - 65) 0 < length (now choice))) ⌝ }
-    ensures { λ r. ⌜ ((I : Interpretation) (xs : List ℕ) → PlacesIn xs (now (place .entry)) → letter - 65 < 8 → elem (letter - 65) xs ≡ true → r .0 ≡ value I (assign xs (now (choice .entry))) (variable (letter - 65))) ⌝ }
+    ensures { λ r. ⌜ IsVariableValue (now (choice .entry)) (now (place .entry)) (letter - 65) r ⌝ }
 {
     let x = (letter - ClauseWords::LETTER) as usize;
     let p = place[x] as usize;
@@ -37,23 +34,24 @@ pub fn variable_value(choice: &[u8], place: &[u8], letter: u8) -> Element
 }
 
 // The cell of the symbol with this first cell at the values of its terms.
-pub fn cell_at(base: usize, arguments: &[u8], size: usize) -> Cell
-    requires { ⌜ (base ≤ 12288) × ((size ≤ 8) × ((length (now arguments) ≤ 3) × AllBelow size (now arguments))) ⌝ }
-    ensures { λ r. ⌜ r .0 ≡ base + rank size (now (arguments .entry)) ⌝ }
+pub fn cell_at(base: Cell, arguments: &[u8], size: DomainSize) -> Cell
+    requires { ⌜ (base .0 ≤ 12288) × ((size .0 ≤ 8) × ((length (now arguments) ≤ 3) × AllBelow (size .0) (now arguments))) ⌝ }
+    ensures { λ r. ⌜ r .0 ≡ base .0 + rank (size .0) (now (arguments .entry)) ⌝ }
 {
+    let s = size.0;
     let mut rank: usize = 0;
     let mut i: usize = 0;
     while i < arguments.len() {
-        rank = rank * size + arguments[i] as usize;
+        rank = rank * s + arguments[i] as usize;
         i += 1;
     }
-    Cell(base + rank)
+    Cell(base.0 + rank)
 }
 
 // Functions: the value of a function at the values of its terms.
 pub fn function_value(cells: &[u8], c: Cell) -> Element
     requires { ⌜ c .0 < length (now cells) ⌝ }
-    ensures { λ r. ⌜ ((s : ℕ) (g : Signature) (ρ : Assignment) (f : ℕ) (ts : Terms) → c .0 ≡ cell s g f (values (interpretation s g (now (cells .entry))) ρ ts) → r .0 ≡ value (interpretation s g (now (cells .entry))) ρ (apply f ts)) ⌝ }
+    ensures { λ r. ⌜ IsFunctionValue (now (cells .entry)) c r ⌝ }
 {
     let i = c.0;
     Element(cells[i])
@@ -62,7 +60,7 @@ pub fn function_value(cells: &[u8], c: Cell) -> Element
 // Atomic formulas: the truth of a predicate at the values of its terms.
 pub fn predicate_value(cells: &[u8], c: Cell) -> bool
     requires { ⌜ c .0 < length (now cells) ⌝ }
-    ensures { λ r. ⌜ ((s : ℕ) (g : Signature) (ρ : Assignment) (p : ℕ) (ts : Terms) → c .0 ≡ cell s g p (values (interpretation s g (now (cells .entry))) ρ ts) → r ≡ atomTrue (interpretation s g (now (cells .entry))) ρ (holds p ts)) ⌝ }
+    ensures { λ r. ⌜ IsPredicateValue (now (cells .entry)) c r ⌝ }
 {
     let i = c.0;
     cells[i] == 1
@@ -93,18 +91,20 @@ fn read_symbol(
     functions: &[bool],
     bases: &[usize],
     cells: &[u8],
-    size: usize,
+    size: DomainSize,
     choice: &[u8],
     stack: &mut [u8],
     m: Machine,
 ) -> Machine
-    requires { ⌜ (word < 43) × WordLent word (now place) (tablesIn (now arities) (now functions) (now bases) (now cells)) (now cells) size (now choice) (now stack) m ⌝ }
-    ensures { λ r. ⌜ WordTaken word (now (place .entry)) (tablesIn (now (arities .entry)) (now (functions .entry)) (now (bases .entry)) (now (cells .entry))) (now (cells .entry)) size (now (choice .entry)) (now (stack .entry)) m (now (stack .exit)) r ⌝ }
+    requires { ⌜ (word < 43) × WordLent word (now place) (now arities) (now functions) (now bases) (now cells) (size .0) (now choice) (now stack) m ⌝ }
+    ensures { λ r. ⌜ WordTaken word (now (place .entry)) (now (arities .entry)) (now (functions .entry)) (now (bases .entry)) (now (cells .entry)) (size .0)
+        (now (choice .entry)) (now (stack .entry)) m (now (stack .exit)) r ⌝ }
 {
     let f = word as usize;
     let top = m.top;
     let rest = top + arities[f] as usize;
-    let c = cell_at(bases[f], &stack[top..rest], size);
+    let base = Cell(bases[f]);
+    let c = cell_at(base, &stack[top..rest], size);
     if functions[f] {
         let v = function_value(cells, c);
         stack[rest - 1] = v.0;
@@ -129,13 +129,14 @@ fn read_word(
     functions: &[bool],
     bases: &[usize],
     cells: &[u8],
-    size: usize,
+    size: DomainSize,
     choice: &[u8],
     stack: &mut [u8],
     m: Machine,
 ) -> Machine
-    requires { ⌜ WordLent word (now place) (tablesIn (now arities) (now functions) (now bases) (now cells)) (now cells) size (now choice) (now stack) m ⌝ }
-    ensures { λ r. ⌜ WordTaken word (now (place .entry)) (tablesIn (now (arities .entry)) (now (functions .entry)) (now (bases .entry)) (now (cells .entry))) (now (cells .entry)) size (now (choice .entry)) (now (stack .entry)) m (now (stack .exit)) r ⌝ }
+    requires { ⌜ WordLent word (now place) (now arities) (now functions) (now bases) (now cells) (size .0) (now choice) (now stack) m ⌝ }
+    ensures { λ r. ⌜ WordTaken word (now (place .entry)) (now (arities .entry)) (now (functions .entry)) (now (bases .entry)) (now (cells .entry)) (size .0)
+        (now (choice .entry)) (now (stack .entry)) m (now (stack .exit)) r ⌝ }
 {
     if word < ClauseWords::PLUS {
         return read_symbol(
@@ -189,11 +190,12 @@ pub fn clause_value(
     functions: &[bool],
     bases: &[usize],
     cells: &[u8],
-    size: usize,
+    size: DomainSize,
     choice: &[u8],
 ) -> bool
-    requires { ⌜ ((c : ClauseLent (now words) (now place) (tablesIn (now arities) (now functions) (now bases) (now cells)) (now cells) size) × Chosen (c .variables) size (now choice)) ⌝ }
-    ensures { λ r. ⌜ ((c : ClauseLent (now (words .entry)) (now (place .entry)) (tablesIn (now (arities .entry)) (now (functions .entry)) (now (bases .entry)) (now (cells .entry))) (now (cells .entry)) size) → Chosen (c .variables) size (now (choice .entry)) → r ≡ clauseTrue (interpretation size (c .signature) (now (cells .entry))) (assign (c .variables) (now (choice .entry))) (lentClause c)) ⌝ }
+    requires { ⌜ ((c : ClauseLent (now words) (now place) (now arities) (now functions) (now bases) (now cells) (size .0)) × Chosen (c .variables) (size .0) (now choice)) ⌝ }
+    ensures { λ r. ⌜ IsClauseValue (now (words .entry)) (now (place .entry)) (now (arities .entry)) (now (functions .entry)) (now (bases .entry)) (now (cells .entry)) (size .0)
+        (now (choice .entry)) r ⌝ }
 {
     let mut stack = [0; Problem::MAX_WORDS];
     let mut m = Machine {

@@ -7,7 +7,7 @@ use native.Mathlib.Nat.{suc-mul, zero-mul, mul-le-mul}
 use native.Mathlib.Omega.{arith}
 use borrow.Author.Tests.{eq-eqb, ne-eqb, lt-ltb, le-ltb}
 use lib.Dec.{eqb, ltb}
-use lib.ListN.{length, getD, set, take, drop, replicate, length-append, length-drop, length-take}
+use lib.ListN.{length, getD, set, take, drop, replicate, length-append, length-drop}
 use lib.Seq.{take-suc, drop-cons, getD-drop, drop-drop, take-suc-set}
 use Rattle.theory.specs.Lists.{all, select}
 use Rattle.theory.specs.Syntax.{Kind, function, predicate}
@@ -61,17 +61,6 @@ first-later σ from n m h e k =
     ap (λ (j : ℕ). firstOne (bitsAt σ from j)) k
     ∙ ap firstOne (bits-cons σ from m h)
     ∙ ap (λ (b : Bool). cond b 0 (suc (firstOne (bitsAt σ (suc from) m)))) (ne-eqb (getD σ from 0) 1 e)
-
-pub first-within : (σ : List ℕ) (from n : ℕ) → firstOne (bitsAt σ from n) ≤ n
-first-within σ from n = omega (arith, inside (bitsAt σ from n), length-take n (drop from σ))
-  where
-    inside : (bs : List ℕ) → firstOne bs ≤ length bs
-    inside [] = omega arith
-    inside (b ∷ bs) = go (eqb b 1) (inside bs)
-      where
-        go : (t : Bool) → firstOne bs ≤ length bs → cond t 0 (suc (firstOne bs)) ≤ suc (length bs)
-        go true h = omega arith
-        go false h = omega arith
 
 -- Cells of one kind k, one after the other.
 module _ (s : ℕ) (k : Kind) where

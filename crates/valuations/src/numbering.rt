@@ -4,6 +4,7 @@ use interpretation::vector::power;
 use syntax::limits::Problem;
 use syntax::signature::Signature;
 use syntax::signature::Symbol;
+use syntax::size::DomainSize;
 ghost use mathlib.Core.Path.{_≡_};
 ghost use mathlib.Core.Bool.{cond};
 ghost use mathlib.Core.List.{List};
@@ -32,9 +33,9 @@ pub struct Numbering {
     pub count: u32,
 }
 
-pub fn numbering_of(signature: Signature, size: usize) -> Numbering
-    requires { ⌜ Limited signature × (size ≤ 8) ⌝ }
-    ensures { λ r. ⌜ ((sheet : List ℕ) → NumberingOf (signatureIn sheet signature) size r) ⌝ }
+pub fn numbering_of(signature: Signature, size: DomainSize) -> Numbering
+    requires { ⌜ Limited signature × (size .0 ≤ 8) ⌝ }
+    ensures { λ r. ⌜ ((sheet : List ℕ) → NumberingOf (signatureIn sheet signature) (size .0) r) ⌝ }
 {
     let mut n = Numbering {
         bases: [0; Problem::MAX_SYMBOLS],
@@ -53,21 +54,21 @@ pub fn numbering_of(signature: Signature, size: usize) -> Numbering
 }
 
 // How many variables a cell has.
-pub fn width(function: bool, size: usize) -> u32
-    requires { ⌜ size ≤ 8 ⌝ }
-    ensures { λ r. ⌜ r ≡ theory.width size (kindOf function) ⌝ }
+pub fn width(function: bool, size: DomainSize) -> u32
+    requires { ⌜ size .0 ≤ 8 ⌝ }
+    ensures { λ r. ⌜ r ≡ theory.width (size .0) (kindOf function) ⌝ }
 {
     if function {
-        return size as u32;
+        return size.0 as u32;
     }
     1
 }
 
 // How many variables a symbol has.
-pub fn block_size(symbol: Symbol, size: usize) -> u32
-    requires { ⌜ (symbol .arity ≤ 3) × (size ≤ 8) ⌝ }
-    ensures { λ r. ⌜ r ≡ size ^ symbol .arity * theory.width size (kindOf (symbol .function)) ⌝ }
+pub fn block_size(symbol: Symbol, size: DomainSize) -> u32
+    requires { ⌜ (symbol .arity ≤ 3) × (size .0 ≤ 8) ⌝ }
+    ensures { λ r. ⌜ r ≡ size .0 ^ symbol .arity * theory.width (size .0) (kindOf (symbol .function)) ⌝ }
 {
-    let cells = power(size, symbol.arity as usize) as u32;
+    let cells = power(size.0, symbol.arity as usize) as u32;
     cells * width(symbol.function, size)
 }

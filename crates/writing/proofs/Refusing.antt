@@ -1,26 +1,21 @@
 -- Write's answers, check by check.
 use Prim.Native.Nat.{ℕ, _≤_, _<_}
 use mathlib.Core.Path.{_≡_, refl, sym, ap, _∙_}
-use mathlib.Core.Bool.{Bool, true, false, cond}
+use mathlib.Core.Bool.{Bool, true, false}
 use mathlib.Core.List.{List}
-use native.Mathlib.Omega.{arith}
 use lib.Dec.{leb}
 use lib.ListN.{length}
 use Rattle.theory.specs.Refusals.{Answer, answer, refused, atLine, unplaced, needing, check, _>>=_}
 use Rattle.theory.specs.Refusals as theory
 use Rattle.theory.specs.Problem.{Problem, readProblem}
-use Rattle.theory.specs.Operations.{maxSize, maxInstances, isSize, lengthAnswer, outputAfter, over, contentOf, writtenText}
-use Rattle.theory.proofs.Tests.{leb-true, leb-of-≤, leb-of-<, and-left, and-right}
+use Rattle.theory.specs.Operations.{maxInstances, isSize, lengthAnswer, outputAfter, over, contentOf, writtenText}
+use Rattle.theory.proofs.Tests.{leb-of-≤, leb-of-<}
 use Rattle.theory.proofs.Answers.{bind-step, bind-refused, check-of-true, check-of-false}
 use Rattle.answers.specs.declared.Refusal.{Refusal}
 use Rattle.answers.specs.declared.WriteAnswer.{WriteAnswer}
 use Rattle.answers.specs.declared.WriteAnswer.the-variants.{Written, Refused}
 use Rattle.answers.specs.Answers.{refusalIn}
 use Rattle.answers.specs.Calls.{WritingCall}
-use Rattle.syntax.specs.declared.size.DomainSize.{DomainSize}
-use Rattle.syntax.specs.declared.size.SizeCheck.{SizeCheck}
-use Rattle.syntax.specs.declared.size.SizeCheck.the-variants as size
-use Rattle.syntax.specs.Sizes.{checkedSize}
 use Rattle.writing.specs.Texts.{instancesAt, clausesText, textWithin, textAt}
 
 pub refuses : (a : Answer (List ℕ)) (q : theory.Refusal) (r : Refusal) (out : List ℕ) → a ≡ refused q → refusalIn r ≡ q → WritingCall a (Refused r) out out
@@ -31,24 +26,6 @@ writes a t n out out′ e h o = record { answer = ap answer h ∙ sym (ap length
 
 pub answers-as : (a b : Answer (List ℕ)) (r : WriteAnswer) (out out′ : List ℕ) → a ≡ b → WritingCall b r out out′ → WritingCall a r out out′
 answers-as a b r out out′ e h = record { answer = h .answer ∙ sym (ap lengthAnswer e); left = h .left ∙ sym (ap (λ (b : Answer (List ℕ)). outputAfter b out) e) }
-
--- a size of 1 to 8 is one that the checks take
-pub checked-size : (n : ℕ) (s : DomainSize) → checkedSize n ≡ size.Is s → (isSize n ≡ true) × (s .0 ≡ n)
-checked-size n s = go (isSize n)
-  where
-    go : (b : Bool) → cond b (size.Is (record { 0 = n })) size.Refused ≡ size.Is s → (b ≡ true) × (s .0 ≡ n)
-    go true e = let h : _≡_ {A = DomainSize} (record { 0 = n }) s = cc in (refl, sym (ap (λ (x : DomainSize). x .0) h))
-    go false e = let z : _≡_ {A = ℕ} 0 1 = cc in absurd (omega arith)
-
-pub refused-size : (n : ℕ) → checkedSize n ≡ size.Refused → isSize n ≡ false
-refused-size n = go (isSize n)
-  where
-    go : (b : Bool) → cond b (size.Is (record { 0 = n })) size.Refused ≡ size.Refused → b ≡ false
-    go true e = let z : _≡_ {A = ℕ} 0 1 = cc in absurd (omega arith)
-    go false e = refl
-
-pub size-within : (n : ℕ) → isSize n ≡ true → (1 ≤ n) × (n ≤ maxSize)
-size-within n e = (leb-true 1 n (and-left (leb 1 n) (leb n maxSize) e), leb-true n maxSize (and-right (leb 1 n) (leb n maxSize) e))
 
 module _ (p : Problem) (s room : ℕ) where
   -- 11

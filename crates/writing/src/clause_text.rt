@@ -26,7 +26,7 @@ pub fn write_text(sheet: &[u8], p: Problem, s: DomainSize, output: &mut [u8]) ->
     ensures { λ r. ⌜ WritingCall (textWithin (problemIn (now (sheet .entry)) p) (s .0) (length (now (output .entry)))) r (now (output .entry)) (now (output .exit)) ⌝ }
 {
     let size = s.0 as u32;
-    let n = numbering_of(p.signature, s.0);
+    let n = numbering_of(p.signature, s);
     let m = measured(sheet, p, n, size);
     let clauses = m.count as u32;
     let needed = header_length(n.count, clauses) + m.at;

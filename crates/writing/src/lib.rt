@@ -34,7 +34,7 @@ fn write_at(sheet: &[u8], p: Problem, s: DomainSize, output: &mut [u8]) -> Write
     requires { ⌜ Sized (now sheet) p (s .0) ⌝ }
     ensures { λ r. ⌜ WritingCall (textAt (problemIn (now (sheet .entry)) p) (s .0) (length (now (output .entry)))) r (now (output .entry)) (now (output .exit)) ⌝ }
 {
-    let c = counts_at(sheet, p, s.0);
+    let c = counts_at(sheet, p, s);
     if Counts::MAX_INSTANCES < c.instances {
         return WriteAnswer::Refused(at_line(9, 0));
     }

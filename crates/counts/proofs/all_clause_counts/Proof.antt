@@ -14,7 +14,7 @@ use Rattle.counts.proofs.all_clause_counts.Statement.{statement}
 use Rattle.counts.proofs.all_clause_counts.Tie as tie
 
 abbrev Inv-loop : tie.InvT-loop
-Inv-loop sheet p size total₀ k₀ total k = (k ≤ p .count) × TotalOf (map (clausePart size (signatureIn sheet (p .signature))) (take k (problemIn sheet p .clauses))) (k * (26 * 2 ^ 30)) total
+Inv-loop sheet p size total₀ k₀ total k = (k ≤ p .count) × TotalOf (map (clausePart (size .0) (signatureIn sheet (p .signature))) (take k (problemIn sheet p .clauses))) (k * (26 * 2 ^ 30)) total
 
 abbrev μ-loop : tie.MeasureT-loop
 μ-loop sheet p size total₀ k₀ total k = p .count - k
@@ -45,7 +45,7 @@ loop-again c =
     let l = c .before .before .before .before .loop in
     let b = c .before .clause-counts in (
       omega arith,
-      one-clause (a .size) (signatureIn (a .sheet .now) (a .p .signature)) (problemIn (a .sheet .now) (a .p) .clauses) (l .k) (l .total) (b .result) (c .plus .result)
+      one-clause (a .size .0) (signatureIn (a .sheet .now) (a .p .signature)) (problemIn (a .sheet .now) (a .p) .clauses) (l .k) (l .total) (b .result) (c .plus .result)
           (omega (arith, clause-count (a .sheet .now) (a .p) (z .pre .0))) (l .inv .1) (b .ensures) (c .plus .ensures .0) (c .plus .ensures .1),
     )
 
@@ -54,7 +54,7 @@ returns c =
     let z = c .before .before .before .before in
     let a = z .args in
     let l = c .before .before .loop in
-    all-clauses (a .size) (signatureIn (a .sheet .now) (a .p .signature)) (problemIn (a .sheet .now) (a .p) .clauses) (l .k) (l .total)
+    all-clauses (a .size .0) (signatureIn (a .sheet .now) (a .p .signature)) (problemIn (a .sheet .now) (a .p) .clauses) (l .k) (l .total)
     (omega (arith, clause-count (a .sheet .now) (a .p) (z .pre .0))) (omega (arith, z .pre .0 .count)) (l .inv .1)
 
 pub all-clause-counts-spec : {M : Type 1} → statement M

@@ -42,7 +42,7 @@ mul-t13 c =
     let f = c .before .before .flatten in
     omega (
       arith,
-      literals-few g (clauseIn g (w .result)) (f .result) (f .ensures h) (w .ensures .accepted .variables) (w .ensures .accepted .literals) (a .size) (z .pre .2)
+      literals-few g (clauseIn g (w .result)) (f .result) (f .ensures h) (w .ensures .accepted .variables) (w .ensures .accepted .literals) (a .size .0) (z .pre .2)
           (c .before .power .result) (c .before .power .ensures),
     )
 
@@ -54,7 +54,7 @@ returns c =
     let h = words-within (a .sheet .now) (a .p) (z .pre .0) (a .k) (w .result) (c .before .before .before .before .arities .result) (w .ensures) (c .before .before .before .before .arities .ensures) in
     let g = signatureIn (a .sheet .now) (a .p .signature) in
     let f = c .before .before .flatten in
-    clause-total g (clauseIn g (w .result)) (f .result) (f .ensures h) (w .ensures .accepted .variables) (w .ensures .accepted .literals) (a .size) (z .pre .2)
+    clause-total g (clauseIn g (w .result)) (f .result) (f .ensures h) (w .ensures .accepted .variables) (w .ensures .accepted .literals) (a .size .0) (z .pre .2)
     (c .before .power .result) (c .before .power .ensures) _ (w .ensures .clause)
 
 pub clause-counts-spec : {M : Type 1} → statement M

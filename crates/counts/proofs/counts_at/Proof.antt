@@ -25,7 +25,7 @@ returns c =
     let f = c .before .before .function-counts in
     let d = c .before .all-clause-counts in
     let t = both-total _ _ _ _ (f .result) (d .result) (c .plus .result) (f .ensures (a .sheet .now)) (d .ensures) (c .plus .ensures .0) (c .plus .ensures .1) in
-    let e = problem-total (a .sheet .now) (a .p) (z .pre .0) (a .size) (c .plus .result) _ t in
+    let e = problem-total (a .sheet .now) (a .p) (z .pre .0) (a .size .0) (c .plus .result) _ t in
     (e .0, (e .1, (omega (arith, t .few-instances), omega (arith, t .few-literals))))
 
 pub counts-at-spec : {M : Type 1} → statement M

@@ -13,7 +13,7 @@ use Rattle.counts.proofs.function_counts.Statement.{statement}
 use Rattle.counts.proofs.function_counts.Tie as tie
 
 abbrev Inv-loop : tie.InvT-loop
-Inv-loop size signature total₀ i₀ total i = (i ≤ signature .count) × ((sheet : List ℕ) → TotalOf (functionsBefore size (signatureIn sheet signature) i) (i * 2 ^ 15) total)
+Inv-loop size signature total₀ i₀ total i = (i ≤ signature .count) × ((sheet : List ℕ) → TotalOf (functionsBefore (size .0) (signatureIn sheet signature) i) (i * 2 ^ 15) total)
 
 abbrev μ-loop : tie.MeasureT-loop
 μ-loop size signature total₀ i₀ total i = signature .count - i
@@ -54,8 +54,8 @@ loop-again c =
     let e = b .ensures in (
       omega arith,
       λ sheet.
-          one-function (z .args .size) (signatureIn sheet y) (l .i) (l .total) (b .result) (c .plus .result) (l .inv .1 sheet)
-          (symbol-total (z .args .size) (signatureIn sheet y) (l .i) sheet (getD (y .symbols) (l .i) blank) (b .result) (symbolAt-signatureIn y (z .pre .0) sheet (l .i) (omega arith))
+          one-function (z .args .size .0) (signatureIn sheet y) (l .i) (l .total) (b .result) (c .plus .result) (l .inv .1 sheet)
+          (symbol-total (z .args .size .0) (signatureIn sheet y) (l .i) sheet (getD (y .symbols) (l .i) blank) (b .result) (symbolAt-signatureIn y (z .pre .0) sheet (l .i) (omega arith))
           (e .0) (e .1 .0) (e .1 .1 .0) (e .1 .1 .1)) (c .plus .ensures .0) (c .plus .ensures .1),
     )
 
@@ -65,7 +65,7 @@ returns c =
     let y = z .args .t1 in
     let l = c .before .loop in
     λ sheet.
-    all-functions (z .args .size) (signatureIn sheet y) (l .i) (l .total) (omega (arith, count-signatureIn y (z .pre .0) sheet)) (omega (arith, z .pre .0 .count)) (l .inv .1 sheet)
+    all-functions (z .args .size .0) (signatureIn sheet y) (l .i) (l .total) (omega (arith, count-signatureIn y (z .pre .0) sheet)) (omega (arith, z .pre .0 .count)) (l .inv .1 sheet)
 
 pub function-counts-spec : {M : Type 1} → statement M
 function-counts-spec =

@@ -1,4 +1,4 @@
--- `unequal_at` meets its contract: no place before i is one.
+-- `unequal_at` meets its contract: no place before `at` is one.
 use Prim.Native.Nat.{_≤_, _<_, _+_, _-_}
 use mathlib.Core.Path.{_≡_, sym, _∙_}
 use native.Mathlib.Nat.{zero-add}
@@ -13,10 +13,10 @@ use Rattle.merging.proofs.unequal_at.Statement.{statement}
 use Rattle.merging.proofs.unequal_at.Tie as tie
 
 abbrev Inv-loop : tie.InvT-loop
-Inv-loop w i₀ i = (i ≤ w .count) × (unequalPlace (wordsIn w) ≡ i + unequalPlace (drop i (wordsIn w)))
+Inv-loop w at₀ at = (at ≤ w .count) × (unequalPlace (wordsIn w) ≡ at + unequalPlace (drop at (wordsIn w)))
 
 abbrev μ-loop : tie.MeasureT-loop
-μ-loop w i₀ i = w .count - i
+μ-loop w at₀ at = w .count - at
 
 loop-holds : tie.Need-loop-holds Inv-loop μ-loop
 loop-holds c = (omega arith, sym (zero-add (unequalPlace (wordsIn (c .args .t1)))))
@@ -53,11 +53,11 @@ returns c =
     let l = c .before .before .before .before .before .before .before in
     let w = l .before .args .t1 in
     let n : length (w .words) ≡ 64 = search needs in
-    let h : l .loop .i + 3 < w .count = omega arith in
-    sym (place-hit w (omega arith) (l .loop .i) h (l .loop .inv .1) (starts-at w (omega arith) (l .loop .i) h ∙ sym (c .before .is-unequal .ensures) ∙ c .if1 .taken))
+    let h : l .loop .at + 3 < w .count = omega arith in
+    sym (place-hit w (omega arith) (l .loop .at) h (l .loop .inv .1) (starts-at w (omega arith) (l .loop .at) h ∙ sym (c .before .is-unequal .ensures) ∙ c .if1 .taken))
 
-add-i : tie.Need-add-i Inv-loop μ-loop
-add-i c = search needs
+add-at : tie.Need-add-at Inv-loop μ-loop
+add-at c = search needs
 
 loop-less : tie.Need-loop-less Inv-loop μ-loop
 loop-less c = search needs
@@ -67,16 +67,16 @@ loop-again c =
     let l = c .before .before .before .before .before .before .before in
     let w = l .before .args .t1 in
     let n : length (w .words) ≡ 64 = search needs in
-    let h : l .loop .i + 3 < w .count = omega arith in (
+    let h : l .loop .at + 3 < w .count = omega arith in (
       omega arith,
-      rw add-one (place-miss w (omega arith) (l .loop .i) h (l .loop .inv .1) (starts-at w (omega arith) (l .loop .i) h ∙ sym (c .before .is-unequal .ensures) ∙ c .if1 .left)),
+      rw add-one (place-miss w (omega arith) (l .loop .at) h (l .loop .inv .1) (starts-at w (omega arith) (l .loop .at) h ∙ sym (c .before .is-unequal .ensures) ∙ c .if1 .left)),
     )
 
 returns-2 : tie.Need-returns-2 Inv-loop μ-loop
 returns-2 c =
     let w = c .before .before .args .t1 in
     let n : length (w .words) ≡ 64 = search needs in
-    sym (place-none w (omega arith) (c .before .loop .i) (omega arith) (omega arith) (c .before .loop .inv .1))
+    sym (place-none w (omega arith) (c .before .loop .at) (omega arith) (omega arith) (c .before .loop .inv .1))
 
 pub unequal-at-spec : {M : Type 1} → statement M
 unequal-at-spec =
@@ -95,7 +95,7 @@ unequal-at-spec =
     element-copy-out-is-unequal-4
     is-unequal-requires
     returns
-    add-i
+    add-at
     loop-less
     loop-again
     returns-2)

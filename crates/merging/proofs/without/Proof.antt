@@ -1,23 +1,21 @@
--- `without` meets its contract: the first i of the codes left are written.
+-- `without` meets its contract: the first i codes are renamed.
 use Prim.Native.Nat.{ℕ, _≤_, _+_, _-_}
-use mathlib.Core.List.{List}
-use mathlib.Core.Path.{_≡_, sym, ap, _∙_}
+use mathlib.Core.Path.{_≡_, refl, ap, _∙_}
+use mathlib.Core.List.{List, map}
 use native.Mathlib.Numerals.{add-one}
 use native.Mathlib.Omega.{arith}
 use lib.ListN.{length, getD, take, length-set}
-use lib.Seq.{take-length}
 use borrow.Author.Needs.{needs}
-use Rattle.merging.specs.Merged.{renamedCode, withoutAt}
-use Rattle.merging.proofs.Deleting.{keptFrom-below, length-left, left-more}
+use Rattle.merging.specs.Merged.{renamedCode, deletedAt}
+use Rattle.merging.proofs.Deleting.{renamedTo, renamed-step, renamed-all, withoutAt-first}
 use Rattle.merging.proofs.without.Statement.{statement}
 use Rattle.merging.proofs.without.Tie as tie
 
 abbrev Inv-loop : tie.InvT-loop
-Inv-loop at w x y count rest₀ i₀ rest i =
-    (i ≤ count) × (rest .count ≡ count) × (length (rest .words) ≡ 64) × (take i (rest .words) ≡ take i (withoutAt (take (w .count) (w .words)) at))
+Inv-loop at w₀ x y i₀ w i = (i ≤ w .count) × (w .count ≡ w₀ .count) × (length (w .words) ≡ 64) × (w .words ≡ renamedTo (renamedCode x y) (w₀ .words) i)
 
 abbrev μ-loop : tie.MeasureT-loop
-μ-loop at w x y count rest₀ i₀ rest i = count - i
+μ-loop at w₀ x y i₀ w i = w .count - i
 
 add-x : tie.Need-add-x Inv-loop μ-loop
 add-x c = search needs
@@ -31,26 +29,17 @@ add-y c = search needs
 element-copy-out-y : tie.Need-element-copy-out-y Inv-loop μ-loop
 element-copy-out-y c = search needs
 
-sub-count : tie.Need-sub-count Inv-loop μ-loop
-sub-count c = search needs
-
 loop-holds : tie.Need-loop-holds Inv-loop μ-loop
-loop-holds c = search needs
-
-kept-from-requires : tie.Need-kept-from-requires Inv-loop μ-loop
-kept-from-requires c κs = search needs
+loop-holds c = (omega arith, refl, search needs, refl)
 
 element-copy-out-renamed : tie.Need-element-copy-out-renamed Inv-loop μ-loop
-element-copy-out-renamed c =
-    let s = c .before .before .before .before .before in
-    let a = s .args in
-    omega (arith, c .kept-from .ensures, keptFrom-below (a .at) (c .before .before .loop .i) (a .t1 .count) (s .pre .1) (c .before .loop-test .taken), s .pre .0)
+element-copy-out-renamed c = omega (arith, c .before .loop .inv .1, c .loop-test .taken, c .before .before .before .before .pre .0)
 
 renamed-requires : tie.Need-renamed-requires Inv-loop μ-loop
 renamed-requires c κs = search needs
 
-element-write-rest : tie.Need-element-write-rest Inv-loop μ-loop
-element-write-rest c = search needs
+element-write-w : tie.Need-element-write-w Inv-loop μ-loop
+element-write-w c = omega (arith, c .before .before .before .loop .inv .1, c .before .before .loop-test .taken, c .before .before .before .before .before .before .pre .0)
 
 add-i : tie.Need-add-i Inv-loop μ-loop
 add-i c = search needs
@@ -60,28 +49,38 @@ loop-less c = search needs
 
 loop-again : tie.Need-loop-again Inv-loop μ-loop
 loop-again c =
-    let s = c .before .before .before .before .before .before .before in
+    let l = c .before .before .before .loop in
+    let s = c .before .before .before .before .before .before in
     let a = s .args in
-    let l = c .before .before .before .before .loop in
     let n : length (a .t1 .words) ≡ 64 = search needs in
-    let r = c .renamed .ensures ∙ ap (λ (j : ℕ). renamedCode (getD (a .t1 .words) (a .at + 2) 0) (getD (a .t1 .words) (a .at + 3) 0) (getD (a .t1 .words) j 0)) (c .before .before .kept-from .ensures) in (
-      omega arith,
+    let f : ℕ → ℕ = renamedCode (getD (a .t1 .words) (a .at + 2) 0) (getD (a .t1 .words) (a .at + 3) 0) in
+    let t = c .before .before .loop-test .taken in (
+      omega (arith, t),
       l .inv .1,
       simp length-set (l .inv .2),
-      rw (add-one, r) (left-more (a .t1 .words) (a .t1 .count) (a .at) (omega arith) (s .pre .1) (l .rest .words) (l .i) (omega arith) (omega arith) (l .inv .3)),
+      rw (add-one, c .renamed .ensures) (renamed-step f (a .t1 .words) (l .i) (omega (arith, t, l .inv .1, s .pre .0)) (l .w .words) (l .inv .3)),
     )
+
+deleted-requires : tie.Need-deleted-requires Inv-loop μ-loop
+deleted-requires c κs =
+    let s = c .before .before .before .before in
+    (omega (arith, c .before .loop .inv .1, s .pre .0), omega (arith, c .before .loop .inv .1, s .pre .1))
 
 returns : tie.Need-returns Inv-loop μ-loop
 returns c =
-    let s = c .before .before .before .before in
+    let l = c .before .before .loop in
+    let s = c .before .before .before .before .before in
     let a = s .args in
-    let l = c .before .loop in
     let n : length (a .t1 .words) ≡ 64 = search needs in
-    let w : List ℕ = withoutAt (take (a .t1 .count) (a .t1 .words)) (a .at) in
-    let k : length w ≡ a .t1 .count - 4 = length-left (a .t1 .words) (a .t1 .count) (a .at) (omega arith) (s .pre .1) in
-    let e : l .i ≡ a .t1 .count - 4 = omega arith in
-    let f : l .rest .count ≡ l .i = l .inv .1 ∙ sym e in
-    (l .inv .1, ap (λ (j : ℕ). take j (l .rest .words)) f ∙ l .inv .3 ∙ ap (λ (j : ℕ). take j w) (e ∙ sym k) ∙ take-length w)
+    let f : ℕ → ℕ = renamedCode (getD (a .t1 .words) (a .at + 2) 0) (getD (a .t1 .words) (a .at + 3) 0) in
+    let e : l .i ≡ a .t1 .count = omega (arith, l .inv .0, l .inv .1, c .before .loop-test .left) in
+    let all : take (l .w .count) (l .w .words) ≡ map f (take (a .t1 .count) (a .t1 .words)) =
+    ap (λ (j : ℕ). take j (l .w .words)) (l .inv .1)
+    ∙ ap (take (a .t1 .count)) (l .inv .3 ∙ ap (renamedTo f (a .t1 .words)) e)
+    ∙ renamed-all f (a .t1 .words) (a .t1 .count) (omega (arith, s .pre .0)) in (
+      c .deleted .ensures .0 ∙ ap (λ (j : ℕ). j - 4) (l .inv .1),
+      c .deleted .ensures .1 ∙ ap (λ (ns : List ℕ). deletedAt ns (a .at)) all ∙ withoutAt-first (a .t1 .words) (a .t1 .count) (a .at) (s .pre .1),
+    )
 
 pub without-spec : {M : Type 1} → statement M
 without-spec =
@@ -93,13 +92,12 @@ without-spec =
     element-copy-out-x
     add-y
     element-copy-out-y
-    sub-count
     loop-holds
-    kept-from-requires
     element-copy-out-renamed
     renamed-requires
-    element-write-rest
+    element-write-w
     add-i
     loop-less
     loop-again
+    deleted-requires
     returns)

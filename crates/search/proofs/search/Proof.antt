@@ -1,9 +1,10 @@
 -- `search` meets its contract. The invariant of its loop: the whole walk goes on from the trail and its open choices. The measure is the trail's potential.
-use mathlib.Core.Path.{_≡_, refl, _∙_}
+use mathlib.Core.Path.{_≡_, refl, sym, _∙_}
 use mathlib.Core.Bool.{Bool}
 use mathlib.Core.List.{List}
 use Prim.Native.Nat.{ℕ}
 use native.Mathlib.Omega.{arith}
+use borrow.Author.Needs.{needs}
 use borrow.Author.Tests.{not-true, not-false}
 use lib.ListN.{length}
 use Rattle.theory.specs.Propositional.{PropClause}
@@ -12,7 +13,8 @@ use Rattle.propagation.specs.WorkArea.{trail}
 use Rattle.propagation.specs.Advance.{Propagated}
 use Rattle.search.specs.Search.{Started}
 use Rattle.search.proofs.Potential.{potential}
-use Rattle.search.proofs.Searching.{Searching, searching-start, search-none, search-back, back-falls₁, search-found, choice-pushable, search-choice, choice-falls₁}
+use Rattle.search.proofs.LowestUnset.{all-set, variable-is}
+use Rattle.search.proofs.Searching.{Searching, searching-start, regions, search-none, search-back, back-falls₁, search-found, choice-pushable, inside, search-choice, choice-falls₁}
 use Rattle.search.proofs.search.Statement.{statement}
 use Rattle.search.proofs.search.Tie as tie
 
@@ -95,50 +97,61 @@ unset-requires : tie.Need-unset-requires Inv-loop μ-loop
 unset-requires c κs =
     let p = c .before .before .before .before in
     let s = p .before .before .before .before in
-    omega (arith, gone p (s .pre .clauses) (s .pre .first) (s .pre .started) .held .room)
+    regions (gone p (s .pre .clauses) (s .pre .first) (s .pre .started) .held)
+
+enum-known-variable : tie.Need-enum-known-variable Inv-loop μ-loop
+enum-known-variable c = search needs
+
+enum-told : tie.Need-enum-told Inv-loop μ-loop
+enum-told c = search needs
 
 same-length-2 : tie.Need-same-length-2 Inv-loop μ-loop
 same-length-2 c =
-    let p = c .before .before .before .before .before .before in
+    let p = c .before .before .before .before .before .before .before in
     p .propagate .kept .0 ∙ p .before .before .loop .inv .1
 
 returns-2 : tie.Need-returns-2 Inv-loop μ-loop
 returns-2 c cs first k =
-    let u = c .before in
+    let u = c .before .before in
     let t = u .before .before in
     let p = t .before .before .before in
     let l = p .before .before .loop in
-    let a = p .before .before .before .before .args in
     search-found _ cs first _ _ _ _ (l .inv .0 cs first k) _ _ _ _ (gone p cs first k)
-    (t .if1 .left) _ (u .unset .ensures) (c .if3 .taken)
+    (t .if1 .left) (all-set _ (sym (u .unset .ensures) ∙ c .enum-told .given .1))
 
 first-requires : tie.Need-first-requires Inv-loop μ-loop
 first-requires c κs =
-    let e = c .before .before in
-    let u = e .before in
-    let p = u .before .before .before .before .before in
-    let s = p .before .before .before .before in
-    let h = gone p (s .pre .clauses) (s .pre .first) (s .pre .started) .held in
-    (omega (arith, u .unset .ensures .within, e .if3 .left), (h .small, omega (arith, h .room)))
-
-push-requires : tie.Need-push-requires Inv-loop μ-loop
-push-requires c κs =
     let e = c .before .before .before in
-    let u = e .before in
+    let u = e .before .before in
     let t = u .before .before in
     let p = t .before .before .before in
     let l = p .before .before .loop in
     let s = p .before .before .before .before in
-    let a = s .args in
+    let cs = s .pre .clauses in
+    let first = s .pre .first in
+    let k = s .pre .started in (
+      regions (gone p cs first k .held),
+      inside _ cs first _ _ _ _ (l .inv .0 cs first k) _ _ _ _ (gone p cs first k)
+          (t .if1 .left) _ (variable-is _ _ (sym (u .unset .ensures) ∙ e .variable .given .1)),
+    )
+
+push-requires : tie.Need-push-requires Inv-loop μ-loop
+push-requires c κs =
+    let e = c .before .before .before .before in
+    let u = e .before .before in
+    let t = u .before .before in
+    let p = t .before .before .before in
+    let l = p .before .before .loop in
+    let s = p .before .before .before .before in
     let cs = s .pre .clauses in
     let first = s .pre .first in
     let k = s .pre .started in
     choice-pushable _ cs first _ _ _ _ (l .inv .0 cs first k) _ _ _ _ (gone p cs first k)
-    (t .if1 .left) _ (u .unset .ensures) (e .if3 .left) _ (c .first .ensures)
+    (t .if1 .left) _ (variable-is _ _ (sym (u .unset .ensures) ∙ e .variable .given .1)) _ (c .first .ensures) _ (omega arith)
 
 add-entries : tie.Need-add-entries Inv-loop μ-loop
 add-entries c =
-    let p = c .before .before .before .before .before .before .before .before .before .before .before .before in
+    let p = c .before .before .before .before .before .before .before .before .before .before .before .before .before .before in
     let s = p .before .before .before .before in
     let h = gone p (s .pre .clauses) (s .pre .first) (s .pre .started) .held in
     omega (arith, h .len-v, h .small)
@@ -147,32 +160,30 @@ loop-less-2 : tie.Need-loop-less-2 Inv-loop μ-loop
 loop-less-2 c =
     let y = c .before .before in
     let f = y .before in
-    let e = f .before .before .before in
-    let u = e .before in
+    let e = f .before .before .before .before in
+    let u = e .before .before in
     let t = u .before .before in
     let p = t .before .before .before in
     let l = p .before .before .loop in
     let s = p .before .before .before .before in
-    let a = s .args in
     let cs = s .pre .clauses in
     let first = s .pre .first in
     let k = s .pre .started in
     choice-falls₁ _ cs first _ _ _ _ (l .inv .0 cs first k) _ _ _ _ (gone p cs first k)
-    (t .if1 .left) _ (u .unset .ensures) (e .if3 .left) _ (f .first .ensures) _ (y .push .ensures)
+    (t .if1 .left) _ (variable-is _ _ (sym (u .unset .ensures) ∙ e .variable .given .1)) _ (f .first .ensures) _ (y .push .ensures)
 
 loop-again-2 : tie.Need-loop-again-2 Inv-loop μ-loop
 loop-again-2 c =
     let y = c .before .before in
     let f = y .before in
-    let e = f .before .before .before in
-    let u = e .before in
+    let e = f .before .before .before .before in
+    let u = e .before .before in
     let t = u .before .before in
     let p = t .before .before .before in
-    let l = p .before .before .loop in
-    let a = p .before .before .before .before .args in (
+    let l = p .before .before .loop in (
       λ cs first k.
           search-choice _ cs first _ _ _ _ (l .inv .0 cs first k) _ _ _ _ (gone p cs first k)
-          (t .if1 .left) _ (u .unset .ensures) (e .if3 .left) _ (f .first .ensures) _ (y .push .ensures),
+          (t .if1 .left) _ (variable-is _ _ (sym (u .unset .ensures) ∙ e .variable .given .1)) _ (f .first .ensures) _ (y .push .ensures),
       y .push .kept .0 ∙ p .propagate .kept .0 ∙ l .inv .1,
     )
 
@@ -190,6 +201,8 @@ search-spec =
     loop-less
     loop-again
     unset-requires
+    enum-known-variable
+    enum-told
     same-length-2
     returns-2
     first-requires

@@ -1,10 +1,12 @@
--- `unset` meets its contract.
-use mathlib.Core.Path.{_≡_}
+-- `unset` meets its contract. The invariant of its loop: the variables below have values.
+use mathlib.Core.Path.{_≡_, sym, ap}
 use Prim.Native.Nat.{ℕ, _-_, _≤_, _<_}
 use native.Mathlib.Nat.{not-suc-le-zero}
 use native.Mathlib.Omega.{arith}
 use borrow.Author.Count.{below-more}
 use lib.ListN.{getD}
+use Rattle.search.specs.Search.{lowestOf}
+use Rattle.search.proofs.LowestUnset.{lowest-found, lowest-missing}
 use Rattle.search.proofs.unset.Statement.{statement}
 use Rattle.search.proofs.unset.Tie as tie
 
@@ -23,10 +25,14 @@ mul-if1 c = omega arith
 shared-slice-read-if1 : tie.Need-shared-slice-read-if1 Inv-loop μ-loop
 shared-slice-read-if1 c = omega arith
 
+cast-t8 : tie.Need-cast-t8 Inv-loop μ-loop
+cast-t8 c = omega arith
+
 returns : tie.Need-returns Inv-loop μ-loop
 returns c =
     let l = c .before .before .before .loop in
-    record { within = l .inv .0; below = l .inv .1; unset = λ h. c .if1 .taken }
+    let s = c .before .before .before .before in
+    sym (ap lowestOf (lowest-found (s .args .v) (s .args .work .now) (omega (arith, s .pre .room)) (l .variable) (c .before .before .loop-test .taken) (c .if1 .taken) (l .inv .1)))
 
 add-variable : tie.Need-add-variable Inv-loop μ-loop
 add-variable c = omega arith
@@ -40,7 +46,10 @@ loop-again c = (omega arith, below-more _ _ (c .before .before .before .loop .in
 returns-2 : tie.Need-returns-2 Inv-loop μ-loop
 returns-2 c =
     let l = c .before .loop in
-    record { within = l .inv .0; below = l .inv .1; unset = λ h. absurd (omega (arith, h, c .loop-test .left)) }
+    let s = c .before .before in
+    sym
+    (ap lowestOf
+    (lowest-missing (s .args .v) (s .args .work .now) (omega (arith, s .pre .room)) (λ y h. l .inv .1 y (omega (arith, h, c .loop-test .left)))))
 
 pub unset-spec : {M : Type 1} → statement M
 unset-spec =
@@ -51,6 +60,7 @@ unset-spec =
     loop-holds
     mul-if1
     shared-slice-read-if1
+    cast-t8
     returns
     add-variable
     loop-less

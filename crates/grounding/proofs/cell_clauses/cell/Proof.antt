@@ -21,16 +21,16 @@ array-share-prefix-some : tie.Need-array-share-prefix-some
 array-share-prefix-some c = search needs
 
 slice-aggregate-take-clause : tie.Need-slice-aggregate-take-clause
-slice-aggregate-take-clause c = let a = c .before .before .before .before .args in length-some (a .size) (1 + a .x) (take (a .size) (c .before .some-result .result)) (c .before .some-result .ensures)
+slice-aggregate-take-clause c = let a = c .before .before .before .before .args in length-some (a .size .0) (1 + a .x .0) (take (a .size .0) (c .before .some-result .result)) (c .before .some-result .ensures)
 
 take-clause-requires : tie.Need-take-clause-requires
 take-clause-requires c κs =
     let s = c .before .before .before .before .before .before in
     let a = s .args in
     let x = state (a .start) (a .out .now) (a .work .now) in
-    let some = someResult (a .size) (1 + a .x) in
-    let two = notTwo (a .size) (1 + a .x) in
-    let c₁ = propClauseOf (take (a .size) (c .before .before .before .some-result .result)) in
+    let some = someResult (a .size .0) (1 + a .x .0) in
+    let two = notTwo (a .size .0) (1 + a .x .0) in
+    let c₁ = propClauseOf (take (a .size .0) (c .before .before .before .some-result .result)) in
     let e = ap (λ (c : PropClause). c ∷ []) (c .before .before .before .some-result .ensures) in
     consumes-same (a .mode) (a .v) (some ∷ []) (c₁ ∷ []) x (sym e) (first-consumes (a .mode) (a .v) (some ∷ []) two x (s .pre .1))
 
@@ -39,9 +39,9 @@ not-two-requires c κs =
     let s = c .before .before .before .before .before .before .before .before .before .before .before .before .before in
     let a = s .args in
     let x = state (a .start) (a .out .now) (a .work .now) in
-    let some = someResult (a .size) (1 + a .x) in
-    let two = notTwo (a .size) (1 + a .x) in
-    let c₁ = propClauseOf (take (a .size) (c .before .before .before .before .before .before .before .before .before .before .some-result .result)) in
+    let some = someResult (a .size .0) (1 + a .x .0) in
+    let two = notTwo (a .size .0) (1 + a .x .0) in
+    let c₁ = propClauseOf (take (a .size .0) (c .before .before .before .before .before .before .before .before .before .before .some-result .result)) in
     let e = ap (λ (c : PropClause). c ∷ []) (c .before .before .before .before .before .before .before .before .before .before .some-result .ensures) in
     let t = c .before .before .before .before .before .before .take-clause in
     let z = state (t .result) (t .last .1 .1 .1 .0) (t .last .1 .1 .1 .1 .0) in
@@ -58,9 +58,9 @@ returns c =
     let s = c .before .before .before .before .before .before .before .before .before .before .before .before .before .before .before .before .before .before in
     let a = s .args in
     let x = state (a .start) (a .out .now) (a .work .now) in
-    let some = someResult (a .size) (1 + a .x) in
-    let two = notTwo (a .size) (1 + a .x) in
-    let c₁ = propClauseOf (take (a .size) (c .before .before .before .before .before .before .before .before .before .before .before .before .before .before .before .some-result .result)) in
+    let some = someResult (a .size .0) (1 + a .x .0) in
+    let two = notTwo (a .size .0) (1 + a .x .0) in
+    let c₁ = propClauseOf (take (a .size .0) (c .before .before .before .before .before .before .before .before .before .before .before .before .before .before .before .some-result .result)) in
     let e = ap (λ (c : PropClause). c ∷ []) (c .before .before .before .before .before .before .before .before .before .before .before .before .before .before .before .some-result .ensures) in
     let t = c .before .before .before .before .before .before .before .before .before .before .before .take-clause in
     let z = state (t .result) (t .last .1 .1 .1 .0) (t .last .1 .1 .1 .1 .0) in

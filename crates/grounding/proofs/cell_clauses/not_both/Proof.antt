@@ -12,14 +12,14 @@ use borrow.Author.Needs.{needs}
 use Rattle.grounding.proofs.cell_clauses.not_both.Statement.{statement}
 use Rattle.grounding.proofs.cell_clauses.not_both.Tie as tie
 
-add-t11 : tie.Need-add-t11
-add-t11 c = search needs
+result-is-requires : tie.Need-result-is-requires
+result-is-requires c κs = search needs
 
 literal-requires : tie.Need-literal-requires
 literal-requires c κs = search needs
 
-add-t14 : tie.Need-add-t14
-add-t14 c = search needs
+result-is-requires-2 : tie.Need-result-is-requires-2
+result-is-requires-2 c κs = search needs
 
 literal-requires-2 : tie.Need-literal-requires-2
 literal-requires-2 c κs = search needs
@@ -29,13 +29,14 @@ slice-aggregate-take-clause c = search needs
 
 take-clause-requires : tie.Need-take-clause-requires
 take-clause-requires c κs =
-    let s = c .before .before .before .before .before .before .before in
+    let s = c .before .before .before .before .before .before .before .before .before in
     let a = s .args in
     let x = state (a .start) (a .out .now) (a .work .now) in
-    let u = c .before .before .before .before .literal .result in
-    let w = c .before .before .before .literal2 .result in
-    let e = pair-clause (a .x) (a .d) (a .e) u w (c .before .before .before .before .literal .ensures) (c .before .before .before .literal2 .ensures) in
-    consumes-same (a .mode) (a .v) (notBoth (1 + a .x) (a .d) (a .e) ∷ []) (propClauseOf (u ∷ w ∷ []) ∷ []) x (ap (λ (c : PropClause). c ∷ []) (sym e)) (s .pre .1)
+    let q = c .before .before .before in
+    let u = q .before .before .literal .result in
+    let w = q .literal2 .result in
+    let e = pair-clause (a .x .0) (a .d .0) (a .e .0) _ _ u w (q .before .before .before .result-is .ensures) (q .before .result-is2 .ensures) (q .before .before .literal .ensures) (q .literal2 .ensures) in
+    consumes-same (a .mode) (a .v) (notBoth (1 + a .x .0) (a .d .0) (a .e .0) ∷ []) (propClauseOf (u ∷ w ∷ []) ∷ []) x (ap (λ (c : PropClause). c ∷ []) (sym e)) (s .pre .1)
 
 same-length : tie.Need-same-length
 same-length c = search needs
@@ -45,22 +46,23 @@ same-length-2 c = search needs
 
 returns : tie.Need-returns
 returns c =
-    let s = c .before .before .before .before .before .before .before .before .before .before .before .before in
+    let s = c .before .before .before .before .before .before .before .before .before .before .before .before .before .before in
     let a = s .args in
     let x = state (a .start) (a .out .now) (a .work .now) in
-    let u = c .before .before .before .before .before .before .before .before .before .literal .result in
-    let w = c .before .before .before .before .before .before .before .before .literal2 .result in
-    let e = pair-clause (a .x) (a .d) (a .e) u w (c .before .before .before .before .before .before .before .before .before .literal .ensures) (c .before .before .before .before .before .before .before .before .literal2 .ensures) in
+    let q = c .before .before .before .before .before .before .before .before in
+    let u = q .before .before .literal .result in
+    let w = q .literal2 .result in
+    let e = pair-clause (a .x .0) (a .d .0) (a .e .0) _ _ u w (q .before .before .before .result-is .ensures) (q .before .result-is2 .ensures) (q .before .before .literal .ensures) (q .literal2 .ensures) in
     let t = c .before .before .before .before .take-clause in
-    consumed-same (a .mode) (a .v) (propClauseOf (u ∷ w ∷ []) ∷ []) (notBoth (1 + a .x) (a .d) (a .e) ∷ []) x (state (t .result) (t .last .1 .1 .1 .0) (t .last .1 .1 .1 .1 .0)) (ap (λ (c : PropClause). c ∷ []) e) (t .ensures)
+    consumed-same (a .mode) (a .v) (propClauseOf (u ∷ w ∷ []) ∷ []) (notBoth (1 + a .x .0) (a .d .0) (a .e .0) ∷ []) x (state (t .result) (t .last .1 .1 .1 .0) (t .last .1 .1 .1 .1 .0)) (ap (λ (c : PropClause). c ∷ []) e) (t .ensures)
 
 pub not-both-spec : {M : Type 1} → statement M
 not-both-spec =
     tie.close
     (tie.spec
-    add-t11
+    result-is-requires
     literal-requires
-    add-t14
+    result-is-requires-2
     literal-requires-2
     slice-aggregate-take-clause
     take-clause-requires

@@ -12,28 +12,31 @@ use Rattle.grounding.proofs.cell_clauses.not_two.Statement.{statement}
 use Rattle.grounding.proofs.cell_clauses.not_two.Tie as tie
 
 abbrev Inv-loop : tie.InvT-loop
-Inv-loop mode v x size out₀ work₀ p₀ d₀ out work p d = (d ≤ size) × (length out ≡ length out₀) × (length work ≡ length work₀) × Consumed mode v (concatMap (notWith size (1 + x)) (upTo d)) (state p₀ out₀ work₀) (state p out work)
+Inv-loop mode v x size out₀ work₀ n p₀ d₀ out work p d = (d ≤ size .0) × (length out ≡ length out₀) × (length work ≡ length work₀) × Consumed mode v (concatMap (notWith (size .0) (1 + x .0)) (upTo d)) (state p₀ out₀ work₀) (state p out work)
 
 abbrev μ-loop : tie.MeasureT-loop
-μ-loop mode v x size out₀ work₀ p₀ d₀ out work p d = size - d
+μ-loop mode v x size out₀ work₀ n p₀ d₀ out work p d = size .0 - d
+
+cast-n : tie.Need-cast-n Inv-loop μ-loop
+cast-n c = search needs
 
 loop-holds : tie.Need-loop-holds Inv-loop μ-loop
 loop-holds c =
-    let s = c .before .before in
+    let s = c .before .before .before in
     let a = s .args in
     let x = state (a .start) (a .out .now) (a .work .now) in
-    let f = notWith (a .size) (1 + a .x) in
-    (omega arith, refl, refl, begun-consumed (a .mode) (a .v) f 0 (a .size) x 0 refl)
+    let f = notWith (a .size .0) (1 + a .x .0) in
+    (omega arith, refl, refl, begun-consumed (a .mode) (a .v) f 0 (a .size .0) x 0 refl)
 
 not-with-requires : tie.Need-not-with-requires Inv-loop μ-loop
 not-with-requires c κs =
-    let s = c .before .before .before .before .before .before in
+    let s = c .before .before .before .before .before .before .before in
     let a = s .args in
     let x = state (a .start) (a .out .now) (a .work .now) in
-    let f = notWith (a .size) (1 + a .x) in
+    let f = notWith (a .size .0) (1 + a .x .0) in
     let l = c .before .before .before .loop in
     let y = state (l .p) (l .out) (l .work) in
-    ((s .pre .0 .0, s .pre .0 .1, omega arith), next-consumes (a .mode) (a .v) f 0 (a .size) x (l .d) (l .d) y (omega arith) (omega arith) (s .pre .1) (l .inv .3))
+    ((s .pre .0 .0, s .pre .0 .1, omega arith), next-consumes (a .mode) (a .v) f 0 (a .size .0) x (l .d) (l .d) y (omega arith) (omega arith) (s .pre .1) (l .inv .3))
 
 add-d : tie.Need-add-d Inv-loop μ-loop
 add-d c = search needs
@@ -43,10 +46,10 @@ loop-less c = search needs
 
 loop-again : tie.Need-loop-again Inv-loop μ-loop
 loop-again c =
-    let s = c .before .before .before .before .before .before .before .before .before .before .before in
+    let s = c .before .before .before .before .before .before .before .before .before .before .before .before in
     let a = s .args in
     let x = state (a .start) (a .out .now) (a .work .now) in
-    let f = notWith (a .size) (1 + a .x) in
+    let f = notWith (a .size .0) (1 + a .x .0) in
     let l = c .before .before .before .before .before .before .before .before .loop in
     let y = state (l .p) (l .out) (l .work) in
     let t = c .before .before .before .before .not-with in
@@ -54,7 +57,7 @@ loop-again c =
       omega arith,
       t .kept .1 .1 .1 .1 .1 .0 ∙ l .inv .1,
       t .kept .1 .1 .1 .1 .1 .1 .0 ∙ l .inv .2,
-      more-consumed (a .mode) (a .v) f 0 (a .size) x (l .d) (l .d + 1) (l .d) y z (omega arith) (omega arith) (l .inv .3) (t .ensures),
+      more-consumed (a .mode) (a .v) f 0 (a .size .0) x (l .d) (l .d + 1) (l .d) y z (omega arith) (omega arith) (l .inv .3) (t .ensures),
     )
 
 same-length : tie.Need-same-length Inv-loop μ-loop
@@ -65,13 +68,13 @@ same-length-2 c = search needs
 
 returns : tie.Need-returns Inv-loop μ-loop
 returns c =
-    let s = c .before .before .before .before in
+    let s = c .before .before .before .before .before in
     let a = s .args in
     let x = state (a .start) (a .out .now) (a .work .now) in
-    let f = notWith (a .size) (1 + a .x) in
+    let f = notWith (a .size .0) (1 + a .x .0) in
     let l = c .before .loop in
     let y = state (l .p) (l .out) (l .work) in
-    all-consumed (a .mode) (a .v) f 0 (a .size) x (l .d) y (omega arith) (l .inv .3)
+    all-consumed (a .mode) (a .v) f 0 (a .size .0) x (l .d) y (omega arith) (l .inv .3)
 
 pub not-two-spec : {M : Type 1} → statement M
 not-two-spec =
@@ -79,6 +82,7 @@ not-two-spec =
     (tie.spec
     Inv-loop
     μ-loop
+    cast-n
     loop-holds
     not-with-requires
     add-d

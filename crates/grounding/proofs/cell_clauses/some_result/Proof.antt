@@ -12,22 +12,22 @@ use Rattle.grounding.proofs.cell_clauses.some_result.Statement.{stateme
 use Rattle.grounding.proofs.cell_clauses.some_result.Tie as tie
 
 abbrev Inv-loop : tie.InvT-loop
-Inv-loop x size some₀ d₀ some d = (d ≤ size) × (length some ≡ 8) × (propClauseOf (take d some) ≡ someResult d (1 + x))
+Inv-loop x size some₀ d₀ some d = (d ≤ size .0) × (length some ≡ 8) × (propClauseOf (take d some) ≡ someResult d (1 + x .0))
 
 abbrev μ-loop : tie.MeasureT-loop
-μ-loop x size some₀ d₀ some d = size - d
+μ-loop x size some₀ d₀ some d = size .0 - d
 
 loop-holds : tie.Need-loop-holds Inv-loop μ-loop
 loop-holds c = (omega arith, refl, refl)
 
-add-t7 : tie.Need-add-t7 Inv-loop μ-loop
-add-t7 c = search needs
+cast-t8 : tie.Need-cast-t8 Inv-loop μ-loop
+cast-t8 c = search needs
+
+result-is-requires : tie.Need-result-is-requires Inv-loop μ-loop
+result-is-requires c κs = search needs
 
 literal-requires : tie.Need-literal-requires Inv-loop μ-loop
 literal-requires c κs = search needs
-
-cast-some : tie.Need-cast-some Inv-loop μ-loop
-cast-some c = search needs
 
 mul-some : tie.Need-mul-some Inv-loop μ-loop
 mul-some c = search needs
@@ -43,18 +43,18 @@ loop-less c = search needs
 
 loop-again : tie.Need-loop-again Inv-loop μ-loop
 loop-again c =
-    let l = c .before .before .loop in
-    let a = c .before .before .before .args in (
+    let l = c .before .before .before .before .loop in
+    let a = c .before .before .before .before .before .args in (
       omega arith,
       length-set (l .some) (l .d) (c .literal .result) ∙ l .inv .1,
-      rw add-one (result-more (a .x) (l .d) (c .literal .result) (l .some) (omega arith) (l .inv .2) (c .literal .ensures)),
+      rw add-one (result-more (a .x .0) (l .d) (c .before .result-is .result .0) (c .literal .result) (l .some) (omega arith) (l .inv .2) (c .before .result-is .ensures) (c .literal .ensures)),
     )
 
 returns : tie.Need-returns Inv-loop μ-loop
 returns c =
-    let l = c .before .loop in
-    let a = c .before .before .args in
-    let e : l .d ≡ a .size = omega arith in
+    let l = c .before .before .loop in
+    let a = c .before .before .before .args in
+    let e : l .d ≡ a .size .0 = omega arith in
     rw (← e) (l .inv .2)
 
 pub some-result-spec : {M : Type 1} → statement M
@@ -64,9 +64,9 @@ some-result-spec =
     Inv-loop
     μ-loop
     loop-holds
-    add-t7
+    cast-t8
+    result-is-requires
     literal-requires
-    cast-some
     mul-some
     array-write-some
     add-d

@@ -15,40 +15,43 @@ use Rattle.grounding.proofs.cell_clauses.table_cells.Statement.{stateme
 use Rattle.grounding.proofs.cell_clauses.table_cells.Tie as tie
 
 abbrev Inv-loop : tie.InvT-loop
-Inv-loop mode v base cells size out₀ work₀ p₀ r₀ out work p r = (r ≤ cells) × (length out ≡ length out₀) × (length work ≡ length work₀) × Consumed mode v (concatMap (λ r. cellClauses size (1 + (base + r * size))) (upTo r)) (state p₀ out₀ work₀) (state p out work)
+Inv-loop mode v base cells size out₀ work₀ width p₀ r₀ out work p r = (r ≤ cells) × (length out ≡ length out₀) × (length work ≡ length work₀) × Consumed mode v (concatMap (λ r. cellClauses (size .0) (1 + (base .0 + r * size .0))) (upTo r)) (state p₀ out₀ work₀) (state p out work)
 
 abbrev μ-loop : tie.MeasureT-loop
-μ-loop mode v base cells size out₀ work₀ p₀ r₀ out work p r = cells - r
+μ-loop mode v base cells size out₀ work₀ width p₀ r₀ out work p r = cells - r
+
+cast-width : tie.Need-cast-width Inv-loop μ-loop
+cast-width c = search needs
 
 loop-holds : tie.Need-loop-holds Inv-loop μ-loop
 loop-holds c =
-    let s = c .before .before in
+    let s = c .before .before .before in
     let a = s .args in
     let x = state (a .start) (a .out .now) (a .work .now) in
-    let f : ℕ → List PropClause = λ r. cellClauses (a .size) (1 + (a .base + r * a .size)) in
+    let f : ℕ → List PropClause = λ r. cellClauses (a .size .0) (1 + (a .base .0 + r * a .size .0)) in
     (omega arith, refl, refl, begun-consumed (a .mode) (a .v) f 0 (a .cells) x 0 refl)
 
-mul-cell : tie.Need-mul-cell Inv-loop μ-loop
-mul-cell c =
-    let a = c .before .before .before .before .args in
+mul-t13 : tie.Need-mul-t13 Inv-loop μ-loop
+mul-t13 c =
+    let a = c .before .before .before .before .before .args in
     let l = c .before .loop in
-    omega (arith, row-small (l .r) (a .size) (omega arith) (c .before .before .before .before .pre .0 .0))
+    omega (arith, row-small (l .r) (a .size .0) (omega arith) (c .before .before .before .before .before .pre .0 .0))
 
-add-cell : tie.Need-add-cell Inv-loop μ-loop
-add-cell c =
-    let a = c .before .before .before .before .args in
-    let l = c .before .loop in
-    omega (arith, row-small (l .r) (a .size) (omega arith) (c .before .before .before .before .pre .0 .0))
+add-t14 : tie.Need-add-t14 Inv-loop μ-loop
+add-t14 c =
+    let a = c .before .before .before .before .before .before .args in
+    let l = c .before .before .loop in
+    omega (arith, row-small (l .r) (a .size .0) (omega arith) (c .before .before .before .before .before .before .pre .0 .0))
 
 cell-requires : tie.Need-cell-requires Inv-loop μ-loop
 cell-requires c κs =
-    let s = c .before .before .before .before .before .before in
+    let s = c .before .before .before .before .before .before .before .before in
     let a = s .args in
     let x = state (a .start) (a .out .now) (a .work .now) in
-    let f : ℕ → List PropClause = λ r. cellClauses (a .size) (1 + (a .base + r * a .size)) in
-    let l = c .before .before .before .loop in
+    let f : ℕ → List PropClause = λ r. cellClauses (a .size .0) (1 + (a .base .0 + r * a .size .0)) in
+    let l = c .before .before .before .before .loop in
     let y = state (l .p) (l .out) (l .work) in
-    ((s .pre .0 .0, omega (arith, row-small (l .r) (a .size) (omega arith) (s .pre .0 .0))), next-consumes (a .mode) (a .v) f 0 (a .cells) x (l .r) (l .r) y (omega arith) (omega arith) (s .pre .1) (l .inv .3))
+    ((s .pre .0 .0, omega (arith, row-small (l .r) (a .size .0) (omega arith) (s .pre .0 .0))), next-consumes (a .mode) (a .v) f 0 (a .cells) x (l .r) (l .r) y (omega arith) (omega arith) (s .pre .1) (l .inv .3))
 
 add-r : tie.Need-add-r Inv-loop μ-loop
 add-r c = search needs
@@ -58,11 +61,11 @@ loop-less c = search needs
 
 loop-again : tie.Need-loop-again Inv-loop μ-loop
 loop-again c =
-    let s = c .before .before .before .before .before .before .before .before .before .before .before in
+    let s = c .before .before .before .before .before .before .before .before .before .before .before .before .before in
     let a = s .args in
     let x = state (a .start) (a .out .now) (a .work .now) in
-    let f : ℕ → List PropClause = λ r. cellClauses (a .size) (1 + (a .base + r * a .size)) in
-    let l = c .before .before .before .before .before .before .before .before .loop in
+    let f : ℕ → List PropClause = λ r. cellClauses (a .size .0) (1 + (a .base .0 + r * a .size .0)) in
+    let l = c .before .before .before .before .before .before .before .before .before .loop in
     let y = state (l .p) (l .out) (l .work) in
     let t = c .before .before .before .before .cell in
     let z = state (t .result) (t .last .1 .1 .1 .1 .0) (t .last .1 .1 .1 .1 .1 .0) in (
@@ -80,10 +83,10 @@ same-length-2 c = search needs
 
 returns : tie.Need-returns Inv-loop μ-loop
 returns c =
-    let s = c .before .before .before .before in
+    let s = c .before .before .before .before .before in
     let a = s .args in
     let x = state (a .start) (a .out .now) (a .work .now) in
-    let f : ℕ → List PropClause = λ r. cellClauses (a .size) (1 + (a .base + r * a .size)) in
+    let f : ℕ → List PropClause = λ r. cellClauses (a .size .0) (1 + (a .base .0 + r * a .size .0)) in
     let l = c .before .loop in
     let y = state (l .p) (l .out) (l .work) in
     all-consumed (a .mode) (a .v) f 0 (a .cells) x (l .r) y (omega arith) (l .inv .3)
@@ -94,9 +97,10 @@ table-cells-spec =
     (tie.spec
     Inv-loop
     μ-loop
+    cast-width
     loop-holds
-    mul-cell
-    add-cell
+    mul-t13
+    add-t14
     cell-requires
     add-r
     loop-less

@@ -22,9 +22,6 @@ abbrev μ-loop : tie.MeasureT-loop
 power-requires : tie.Need-power-requires Inv-loop μ-loop
 power-requires c κs = search needs
 
-cast-first : tie.Need-cast-first Inv-loop μ-loop
-cast-first c = search needs
-
 first-requires : tie.Need-first-requires Inv-loop μ-loop
 first-requires c κs = search needs
 
@@ -36,7 +33,7 @@ loop-holds c =
       c .before .power .ensures,
       refl,
       refl,
-      begun-choice (a .size) (a .variables) (c .first .result) (s .pre .0 .3) (c .first .ensures),
+      begun-choice (a .size) (a .variables) (c .first .result) (s .pre .0 .4) (s .pre .0 .3) (c .first .ensures),
       λ o. no-choice (a .mode) (a .v) (state (a .start) (a .out .now) (a .work .now)) o,
     )
 
@@ -100,7 +97,6 @@ clause-instances-spec =
     Inv-loop
     μ-loop
     power-requires
-    cast-first
     first-requires
     loop-holds
     slice-aggregate-one-instance

@@ -14,13 +14,13 @@ use Rattle.interpretation.proofs.tables.tables_of.Statement.{statement}
 use Rattle.interpretation.proofs.tables.tables_of.Tie as tie
 
 abbrev Inv-loop : tie.InvT-loop
-Inv-loop size signature t₀ i₀ t i = (i ≤ signature .count) × ((sheet : List ℕ) → Tabled (signatureIn sheet signature) size t i)
+Inv-loop size signature t₀ i₀ t i = (i ≤ signature .count) × ((sheet : List ℕ) → Tabled (signatureIn sheet signature) (size .0) t i)
 
 abbrev μ-loop : tie.MeasureT-loop
 μ-loop size signature t₀ i₀ t i = signature .count - i
 
 loop-holds : tie.Need-loop-holds Inv-loop μ-loop
-loop-holds c = (omega arith, λ sheet. none-tabled (signatureIn sheet (c .args .t1)) (c .args .size))
+loop-holds c = (omega arith, λ sheet. none-tabled (signatureIn sheet (c .args .t1)) (c .args .size .0))
 
 mul-symbol : tie.Need-mul-symbol Inv-loop μ-loop
 mul-symbol c = search needs
@@ -59,7 +59,7 @@ add-t c =
       l .inv .1 [] .within,
       c .power .ensures,
       s .pre .0 .count,
-      table-within (s .args .size) (y .arity) (s .pre .1) (arity-at (s .args .t1) (s .pre .0) (l .i) (omega arith)),
+      table-within (s .args .size .0) (y .arity) (s .pre .1) (arity-at (s .args .t1) (s .pre .0) (l .i) (omega arith)),
     )
 
 add-i : tie.Need-add-i Inv-loop μ-loop
@@ -77,7 +77,7 @@ loop-again c =
       omega arith,
       λ sheet.
           rw (add-one, c .power .ensures)
-          (one-tabled (signatureIn sheet y) (s .args .size) (l .t) (l .i) (getD (y .symbols) (l .i) blank) sheet (l .inv .1 sheet) (symbolAt-signatureIn y (s .pre .0) sheet (l .i) (omega arith))
+          (one-tabled (signatureIn sheet y) (s .args .size .0) (l .t) (l .i) (getD (y .symbols) (l .i) blank) sheet (l .inv .1 sheet) (symbolAt-signatureIn y (s .pre .0) sheet (l .i) (omega arith))
           (omega (arith, count-signatureIn y (s .pre .0) sheet)) (omega (arith, s .pre .0 .count)) (s .pre .1) a),
     )
 
@@ -87,7 +87,7 @@ returns c =
     let y = s .args .t1 in
     λ sheet.
     let e : c .before .loop .i ≡ length (signatureIn sheet y) = omega (arith, count-signatureIn y (s .pre .0) sheet) in
-    all-tabled (signatureIn sheet y) (s .args .size) (c .before .loop .t) (omega (arith, count-signatureIn y (s .pre .0) sheet, s .pre .0 .count)) (rw e at (c .before .loop .inv .1 sheet))
+    all-tabled (signatureIn sheet y) (s .args .size .0) (c .before .loop .t) (omega (arith, count-signatureIn y (s .pre .0) sheet, s .pre .0 .count)) (rw e at (c .before .loop .inv .1 sheet))
 
 pub tables-of-spec : {M : Type 1} → statement M
 tables-of-spec =

@@ -10,20 +10,20 @@ use Rattle.interpretation.proofs.vector.power.Statement.{statement}
 use Rattle.interpretation.proofs.vector.power.Tie as tie
 
 abbrev Inv-loop : tie.InvT-loop
-Inv-loop size count n₀ i₀ n i = (i ≤ count) × (n ≡ size ^ i)
+Inv-loop base count n₀ i₀ n i = (i ≤ count) × (n ≡ base ^ i)
 
 abbrev μ-loop : tie.MeasureT-loop
-μ-loop size count n₀ i₀ n i = count - i
+μ-loop base count n₀ i₀ n i = count - i
 
 loop-holds : tie.Need-loop-holds Inv-loop μ-loop
-loop-holds c = (omega arith, sym (pow-zero (c .args .size)))
+loop-holds c = (omega arith, sym (pow-zero (c .args .base)))
 
 mul-n : tie.Need-mul-n Inv-loop μ-loop
 mul-n c =
     let a = c .before .before .args in
     let l = c .before .loop in
-    let e : l .n * a .size ≡ a .size ^ suc (l .i) = ap (λ (n : ℕ). n * a .size) (l .inv .1) ∙ sym (pow-suc (a .size) (l .i)) in
-    omega (arith, power-within (a .size) (suc (l .i)) (c .before .before .pre .0) (omega (arith, c .before .before .pre .1)))
+    let e : l .n * a .base ≡ a .base ^ suc (l .i) = ap (λ (n : ℕ). n * a .base) (l .inv .1) ∙ sym (pow-suc (a .base) (l .i)) in
+    omega (arith, power-within (a .base) (suc (l .i)) (c .before .before .pre .0) (omega (arith, c .before .before .pre .1)))
 
 add-i : tie.Need-add-i Inv-loop μ-loop
 add-i c = search needs
@@ -35,7 +35,7 @@ loop-again : tie.Need-loop-again Inv-loop μ-loop
 loop-again c =
     let a = c .before .before .args in
     let l = c .before .loop in
-    (omega arith, rw (add-one, pow-suc) (ap (λ (n : ℕ). n * a .size) (l .inv .1)))
+    (omega arith, rw (add-one, pow-suc) (ap (λ (n : ℕ). n * a .base) (l .inv .1)))
 
 returns : tie.Need-returns Inv-loop μ-loop
 returns c =

@@ -42,7 +42,12 @@ first-choice-requires c κs =
     let s = c .before .before .before .before .before .before .before .before .before .before .before .before .before in
     let j = s .pre .1 in
     let v = c .before .before .before .before .before .before .before .before .before .before .before .variables-of in
-    (judged-lent j (search needs) (v .result) (v .ensures) (search needs), (v .ensures .count, (omega (arith, v .ensures .count, few-variables j (search needs)), j .positive)))
+    record {
+      clause = judged-lent j (search needs) (v .result) (v .ensures) (search needs);
+      counted = v .ensures .count;
+      few = omega (arith, v .ensures .count, few-variables j (search needs));
+      positive = j .positive;
+    }
 
 returns : tie.Need-returns
 returns c g j =

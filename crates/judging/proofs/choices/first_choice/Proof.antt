@@ -5,19 +5,15 @@ use Prim.Native.Nat.{_-_, _^_}
 use mathlib.Core.Path.{_≡_}
 use native.Mathlib.Numerals.{add-one}
 use native.Mathlib.Omega.{arith}
-use Rattle.truth.specs.Values.{tablesIn}
 use Rattle.judging.proofs.Passing.{Passed, passed-chosen, passed-fails, passed-none, passed-next, none-passed}
 use Rattle.judging.proofs.choices.first_choice.Statement.{statement}
 use Rattle.judging.proofs.choices.first_choice.Tie as tie
 
 abbrev Inv-loop : tie.InvT-loop
-Inv-loop words place arities functions bases cells size count values₀ choices i₀ values i = Passed words place (tablesIn arities functions bases cells) cells size count values i × (choices ≡ size ^ count)
+Inv-loop words place arities functions bases cells size count values₀ choices i₀ values i = Passed words place arities functions bases cells (size .0) count values i × (choices ≡ size .0 ^ count)
 
 abbrev μ-loop : tie.MeasureT-loop
 μ-loop words place arities functions bases cells size count values₀ choices i₀ values i = choices - i
-
-cast-first : tie.Need-cast-first Inv-loop μ-loop
-cast-first c = search needs
 
 first-requires : tie.Need-first-requires Inv-loop μ-loop
 first-requires c κs = search needs
@@ -28,7 +24,7 @@ power-requires c κs = search needs
 loop-holds : tie.Need-loop-holds Inv-loop μ-loop
 loop-holds c =
     let s = c .before .before .before .before .before .before .before .before in
-    (none-passed _ _ _ _ _ _ _ (s .pre .1 .1 .1) (s .pre .1 .1 .0) (c .before .first .ensures), c .power .ensures)
+    (none-passed _ _ _ _ _ _ _ _ _ (s .pre .positive) (s .pre .clause .lent .size) (s .pre .few) (c .before .first .ensures), c .power .ensures)
 
 sub-clause-value : tie.Need-sub-clause-value Inv-loop μ-loop
 sub-clause-value c = search needs
@@ -37,12 +33,12 @@ part-clause-value-start : tie.Need-part-clause-value-start Inv-loop μ-loop
 part-clause-value-start c = search needs
 
 part-clause-value-end : tie.Need-part-clause-value-end Inv-loop μ-loop
-part-clause-value-end c = omega (arith, c .before .before .before .loop .inv .0 .reached .long, c .before .before .before .before .before .before .before .before .before .before .before .before .pre .1 .1 .0)
+part-clause-value-end c = omega (arith, c .before .before .before .loop .inv .0 .reached .long, c .before .before .before .before .before .before .before .before .before .before .before .before .pre .few)
 
 clause-value-requires : tie.Need-clause-value-requires Inv-loop μ-loop
 clause-value-requires c κs =
     let s = c .before .before .before .before .before .before .before .before .before .before .before .before .before in
-    (s .pre .0, passed-chosen (c .before .before .before .before .loop .inv .0) _ (s .pre .1 .0))
+    (s .pre .clause, passed-chosen (c .before .before .before .before .loop .inv .0) _ (s .pre .counted))
 
 returns : tie.Need-returns Inv-loop μ-loop
 returns c w e =
@@ -76,7 +72,6 @@ first-choice-spec =
     (tie.spec
     Inv-loop
     μ-loop
-    cast-first
     first-requires
     power-requires
     loop-holds

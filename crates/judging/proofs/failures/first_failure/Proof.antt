@@ -7,7 +7,7 @@ use Rattle.judging.proofs.failures.first_failure.Statement.{statement}
 use Rattle.judging.proofs.failures.first_failure.Tie as tie
 
 abbrev Inv-loop : tie.InvT-loop
-Inv-loop sheet p t cells size k₀ k = Unfailed sheet p cells size k
+Inv-loop sheet p t cells size k₀ k = Unfailed sheet p cells (size .0) k
 
 abbrev μ-loop : tie.MeasureT-loop
 μ-loop sheet p t cells size k₀ k = p .count - k

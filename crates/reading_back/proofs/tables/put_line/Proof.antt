@@ -5,13 +5,13 @@ use mathlib.Core.Path.{_≡_, sym, ap, _∙_, subst}
 use mathlib.Core.List.{List}
 use native.Mathlib.Nat.{one-le-pow}
 use native.Mathlib.Omega.{arith}
-use lib.ListN.{length, replicate, drop}
+use lib.ListN.{length}
 use Rattle.theory.specs.Vectors.{AllBelow}
 use Rattle.theory.specs.Propositional.{width}
 use Rattle.theory.specs.CaseText.{tableText}
-use Rattle.theory.specs.Valuation.{valuesOf}
 use Rattle.syntax.specs.Signatures.{kindOf, symbolIn}
 use Rattle.text.specs.Put.{put}
+use Rattle.valuations.specs.Cells.{cellValues}
 use Rattle.valuations.proofs.Numbered.{block-within}
 use Rattle.reading_back.specs.Bits.{bitsHeld, tableIn}
 use Rattle.reading_back.proofs.tables.put_line.Statement.{statement}
@@ -21,26 +21,26 @@ table-held-requires : tie.Need-table-held-requires
 table-held-requires c κs =
     let s = c .before .before .before .before .before .before .before .before in
     let a = s .args in
-    let h = s .pre .0 .0 in
-    let e : length (a .table .now) * width (a .size) (kindOf (a .symbol .function)) ≡ a .size ^ a .symbol .arity * width (a .size) (kindOf (a .symbol .function)) =
-    ap (λ (n : ℕ). n * width (a .size) (kindOf (a .symbol .function))) (s .pre .0 .1 .1) in
-    ((h .size, omega (arith, block-within (a .size) (a .symbol .arity) (a .symbol .function) (h .size) (h .arity), s .pre .0 .1 .0)), omega (arith, h .block))
+    let h = s .pre .0 in
+    let e : length (a .table .now) * width (a .size .0) (kindOf (a .symbol .function)) ≡ a .size .0 ^ a .symbol .arity * width (a .size .0) (kindOf (a .symbol .function)) =
+    ap (λ (n : ℕ). n * width (a .size .0) (kindOf (a .symbol .function))) (s .pre .1 .0 .1) in
+    ((h .size, omega (arith, block-within (a .size .0) (a .symbol .arity) (a .symbol .function) (h .size) (h .arity), s .pre .1 .0 .0)), (omega (arith, h .block), h .numbered))
 
 put-table-requires : tie.Need-put-table-requires
 put-table-requires c κs =
     let s = c .before .before .before .before .before .before .before .before .before .before .before .before .before .before .before in
     let a = s .args in
-    let h = s .pre .0 .0 in
+    let h = s .pre .0 in
     let t = c .before .before .before .before .before .before .table-held in
     let bits = bitsHeld (a .setting .now) (a .values .now) in
-    let e : t .last .1 .1 .1 .1 .1 .1 .0 ≡ tableIn (a .size) (a .symbol) (a .from) bits =
-    t .ensures ∙ ap (λ (n : ℕ). valuesOf (a .size) (replicate n (kindOf (a .symbol .function))) (drop (a .from) bits)) (s .pre .0 .1 .1) in (
+    let e : t .last .1 .1 .1 .1 .1 .1 .0 ≡ tableIn (a .size .0) (a .symbol) (a .from .0) bits =
+    t .ensures ∙ ap (λ (n : ℕ). cellValues (a .size .0) (kindOf (a .symbol .function)) n (a .from .0) bits) (s .pre .1 .0 .1) in (
       h .name,
       (
-        omega (arith, t .kept .1 .1 .1 .1 .1 .1 .0, s .pre .0 .1 .1, one-le-pow (a .symbol .arity) (a .size) (h .positive)),
+        omega (arith, t .kept .1 .1 .1 .1 .1 .1 .0, s .pre .1 .0 .1, one-le-pow (a .symbol .arity) (a .size .0) (h .positive)),
         (
           subst (AllBelow 8) (sym e) (h .below),
-          subst (λ (l : List ℕ). a .at + length (tableText (symbolIn (a .sheet .now) (a .symbol)) l) ≤ length (a .out .now)) (sym e) (s .pre .1),
+          subst (λ (l : List ℕ). a .at + length (tableText (symbolIn (a .sheet .now) (a .symbol)) l) ≤ length (a .out .now)) (sym e) (s .pre .1 .1),
         ),
       ),
     )
@@ -61,8 +61,8 @@ returns c =
     let t = c .before .before .before .before .before .before .before .before .before .table-held in
     let p = c .before .before .put-table in
     let bits = bitsHeld (a .setting .now) (a .values .now) in
-    let e : t .last .1 .1 .1 .1 .1 .1 .0 ≡ tableIn (a .size) (a .symbol) (a .from) bits =
-    t .ensures ∙ ap (λ (n : ℕ). valuesOf (a .size) (replicate n (kindOf (a .symbol .function))) (drop (a .from) bits)) (s .pre .0 .1 .1) in (
+    let e : t .last .1 .1 .1 .1 .1 .1 .0 ≡ tableIn (a .size .0) (a .symbol) (a .from .0) bits =
+    t .ensures ∙ ap (λ (n : ℕ). cellValues (a .size .0) (kindOf (a .symbol .function)) n (a .from .0) bits) (s .pre .1 .0 .1) in (
       p .ensures .0 ∙ ap (λ (l : List ℕ). put (a .out .now) (a .at) (tableText (symbolIn (a .sheet .now) (a .symbol)) l)) e,
       p .ensures .1 ∙ ap (λ (l : List ℕ). a .at + length (tableText (symbolIn (a .sheet .now) (a .symbol)) l)) e,
     )

@@ -27,14 +27,14 @@ part-table-start c = search needs
 part-table-end : tie.Need-part-table-end
 part-table-end c =
     let s = c .before .before .before .before .before .before .before in
-    omega (arith, c .before .power .ensures, table-within (s .args .size) (s .args .symbol .arity) (s .pre .0 .size) (s .pre .0 .arity))
+    omega (arith, c .before .power .ensures, table-within (s .args .size .0) (s .args .symbol .arity) (s .pre .0 .size) (s .pre .0 .arity))
 
 put-line-requires : tie.Need-put-line-requires
 put-line-requires c κs =
     let s = c .before .before .before .before .before .before .before .before .before in
     let p = c .before .before .before .power in
-    let small : p .result ≤ 512 = omega (arith, p .ensures, table-within (s .args .size) (s .args .symbol .arity) (s .pre .0 .size) (s .pre .0 .arity)) in
-    ((s .pre .0, (omega arith, part-length (p .result) (replicate 512 0) small ∙ p .ensures)), s .pre .1)
+    let small : p .result ≤ 512 = omega (arith, p .ensures, table-within (s .args .size .0) (s .args .symbol .arity) (s .pre .0 .size) (s .pre .0 .arity)) in
+    (s .pre .0, ((omega arith, part-length (p .result) (replicate 512 0) small ∙ p .ensures), s .pre .1))
 
 same-length : tie.Need-same-length
 same-length c = search needs

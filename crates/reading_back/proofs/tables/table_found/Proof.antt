@@ -22,16 +22,19 @@ mul-count c =
     let s = c .before .before .before .before in
     let a = s .args in
     let w = c .width in
-    let e : length (a .table .now) * w .result ≡ length (a .table .now) * width (a .size) (kindOf (a .function)) = ap (λ (n : ℕ). length (a .table .now) * n) (w .ensures) in
+    let e : length (a .table .now) * w .result ≡ length (a .table .now) * width (a .size .0) (kindOf (a .function)) = ap (λ (n : ℕ). length (a .table .now) * n) (w .ensures) in
     omega (arith, s .pre .0 .1, s .good)
+
+cast-start : tie.Need-cast-start
+cast-start c = search needs
 
 add-end : tie.Need-add-end
 add-end c =
-    let s = c .before .before .before .before in
+    let s = c .before .before .before .before .before in
     let a = s .args in
-    let w = c .width in
-    let e : length (a .table .now) * w .result ≡ length (a .table .now) * width (a .size) (kindOf (a .function)) = ap (λ (n : ℕ). length (a .table .now) * n) (w .ensures) in
-    omega (arith, s .pre .1, s .good)
+    let w = c .before .width in
+    let e : length (a .table .now) * w .result ≡ length (a .table .now) * width (a .size .0) (kindOf (a .function)) = ap (λ (n : ℕ). length (a .table .now) * n) (w .ensures) in
+    omega (arith, s .pre .1 .0, s .good)
 
 mul-read-values : tie.Need-mul-read-values
 mul-read-values c = search needs
@@ -44,11 +47,11 @@ part-read-values-start c = search needs
 
 part-read-values-end : tie.Need-part-read-values-end
 part-read-values-end c =
-    let s = c .before .before .before .before in
+    let s = c .before .before .before .before .before in
     let a = s .args in
-    let w = c .width in
-    let e : length (a .table .now) * w .result ≡ length (a .table .now) * width (a .size) (kindOf (a .function)) = ap (λ (n : ℕ). length (a .table .now) * n) (w .ensures) in
-    omega (arith, s .pre .1)
+    let w = c .before .width in
+    let e : length (a .table .now) * w .result ≡ length (a .table .now) * width (a .size .0) (kindOf (a .function)) = ap (λ (n : ℕ). length (a .table .now) * n) (w .ensures) in
+    omega (arith, s .pre .1 .0)
 
 sub-read-values-2 : tie.Need-sub-read-values-2
 sub-read-values-2 c = search needs
@@ -58,10 +61,10 @@ part-read-values-start-2 c = search needs
 
 part-read-values-end-2 : tie.Need-part-read-values-end-2
 part-read-values-end-2 c =
-    let s = c .before .before .before .before .before in
+    let s = c .before .before .before .before .before .before in
     let a = s .args in
-    let w = c .before .width in
-    let e : length (a .table .now) * w .result ≡ length (a .table .now) * width (a .size) (kindOf (a .function)) = ap (λ (n : ℕ). length (a .table .now) * n) (w .ensures) in
+    let w = c .before .before .width in
+    let e : length (a .table .now) * w .result ≡ length (a .table .now) * width (a .size .0) (kindOf (a .function)) = ap (λ (n : ℕ). length (a .table .now) * n) (w .ensures) in
     omega (arith, s .pre .0 .1)
 
 read-values-requires : tie.Need-read-values-requires
@@ -75,10 +78,10 @@ part-read-table-start c = search needs
 
 part-read-table-end : tie.Need-part-read-table-end
 part-read-table-end c =
-    let s = c .before .before .before .before .before .before .before .before .before .before in
+    let s = c .before .before .before .before .before .before .before .before .before .before .before in
     let a = s .args in
-    let w = c .before .before .before .before .before .before .width in
-    let e : length (a .table .now) * w .result ≡ length (a .table .now) * width (a .size) (kindOf (a .function)) = ap (λ (n : ℕ). length (a .table .now) * n) (w .ensures) in
+    let w = c .before .before .before .before .before .before .before .width in
+    let e : length (a .table .now) * w .result ≡ length (a .table .now) * width (a .size .0) (kindOf (a .function)) = ap (λ (n : ℕ). length (a .table .now) * n) (w .ensures) in
     let r = c .before .before .before .read-values in
     let n : ℕ = length (a .table .now) * w .result in
     let kept : length (r .last .1 .0) ≡ n = part-kept n (a .bits .now) (r .last .1 .0) (omega (arith, s .pre .0 .1)) (r .kept .1 .0) in
@@ -86,14 +89,15 @@ part-read-table-end c =
 
 read-table-requires : tie.Need-read-table-requires
 read-table-requires c κs =
-    let s = c .before .before .before .before .before .before .before .before .before .before .before .before in
+    let s = c .before .before .before .before .before .before .before .before .before .before .before .before .before in
     let a = s .args in
-    let w = c .before .before .before .before .before .before .before .before .width in
-    let e : length (a .table .now) * w .result ≡ length (a .table .now) * width (a .size) (kindOf (a .function)) = ap (λ (n : ℕ). length (a .table .now) * n) (w .ensures) in
+    let w = c .before .before .before .before .before .before .before .before .before .width in
+    let e : length (a .table .now) * w .result ≡ length (a .table .now) * width (a .size .0) (kindOf (a .function)) = ap (λ (n : ℕ). length (a .table .now) * n) (w .ensures) in
     let r = c .before .before .before .before .before .read-values in
     let n : ℕ = length (a .table .now) * w .result in
     let kept : length (r .last .1 .0) ≡ n = part-kept n (a .bits .now) (r .last .1 .0) (omega (arith, s .pre .0 .1)) (r .kept .1 .0) in
-    (s .pre .0 .0, omega (arith, ap length (front-again n (r .last .1 .0) (drop (n - 0) (a .bits .now)) kept)))
+    let front = ap length (front-again n (r .last .1 .0) (drop (n - 0) (a .bits .now)) kept) in
+    ((s .pre .0 .0, omega (arith, front, s .pre .1)), omega (arith, front))
 
 same-length : tie.Need-same-length
 same-length c = search needs
@@ -103,17 +107,17 @@ same-length-2 c = search needs
 
 returns : tie.Need-returns
 returns c =
-    let s = c .before .before .before .before .before .before .before .before .before .before .before .before .before .before .before in
+    let s = c .before .before .before .before .before .before .before .before .before .before .before .before .before .before .before .before in
     let a = s .args in
-    let w = c .before .before .before .before .before .before .before .before .before .before .before .width in
-    let e : length (a .table .now) * w .result ≡ length (a .table .now) * width (a .size) (kindOf (a .function)) = ap (λ (n : ℕ). length (a .table .now) * n) (w .ensures) in
+    let w = c .before .before .before .before .before .before .before .before .before .before .before .before .width in
+    let e : length (a .table .now) * w .result ≡ length (a .table .now) * width (a .size .0) (kindOf (a .function)) = ap (λ (n : ℕ). length (a .table .now) * n) (w .ensures) in
     let r = c .before .before .before .before .before .before .before .before .read-values in
     let n : ℕ = length (a .table .now) * w .result in
     let kept : length (r .last .1 .0) ≡ n = part-kept n (a .bits .now) (r .last .1 .0) (omega (arith, s .pre .0 .1)) (r .kept .1 .0) in
     let k = kindOf (a .function) in
     c .before .before .read-table .ensures
-    ∙ ap (valuesOf (a .size) (replicate (length (a .table .now)) k)) (front-again n (r .last .1 .0) (drop (n - 0) (a .bits .now)) kept ∙ r .ensures)
-    ∙ values-of-part (a .size) k (length (a .table .now)) (a .from) (a .from + n) (a .values .now) (omega arith) (omega (arith, s .pre .1))
+    ∙ ap (valuesOf (a .size .0) (replicate (length (a .table .now)) k)) (front-again n (r .last .1 .0) (drop (n - 0) (a .bits .now)) kept ∙ r .ensures)
+    ∙ values-of-part (a .size .0) k (length (a .table .now)) (a .from .0) (a .from .0 + n) (a .values .now) (omega arith) (omega (arith, s .pre .1 .0))
 
 pub table-found-spec : {M : Type 1} → statement M
 table-found-spec =
@@ -122,6 +126,7 @@ table-found-spec =
     width-requires
     cast-count
     mul-count
+    cast-start
     add-end
     mul-read-values
     sub-read-values

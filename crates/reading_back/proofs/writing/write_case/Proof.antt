@@ -10,7 +10,7 @@ put-heading-requires c κs =
     let s = c .before .before .before .before .before in
     let a = s .args in
     let bits = bitsHeld (a .setting .now) (a .values .now) in
-    (s .pre .0 .size, heading-fits (a .sheet .now) (a .signature) (a .n) (a .size) bits (s .pre .0) (a .out .now) (s .pre .1))
+    (s .pre .0 .size, heading-fits (a .sheet .now) (a .signature) (a .n) (a .size .0) bits (s .pre .0) (a .out .now) (s .pre .1))
 
 put-tables-requires : tie.Need-put-tables-requires
 put-tables-requires c κs =
@@ -18,7 +18,7 @@ put-tables-requires c κs =
     let a = s .args in
     let bits = bitsHeld (a .setting .now) (a .values .now) in
     let h = c .before .before .before .put-heading in
-    (s .pre .0, lines-fit (a .sheet .now) (a .signature) (a .n) (a .size) bits (s .pre .0) (a .out .now) (s .pre .1) (h .last .0) (h .result) (h .kept .0) (h .ensures .0) (h .ensures .1))
+    (s .pre .0, lines-fit (a .sheet .now) (a .signature) (a .n) (a .size .0) bits (s .pre .0) (a .out .now) (s .pre .1) (h .last .0) (h .result) (h .kept .0) (h .ensures .0) (h .ensures .1))
 
 same-length : tie.Need-same-length
 same-length c = search needs
@@ -30,7 +30,7 @@ returns c =
     let bits = bitsHeld (a .setting .now) (a .values .now) in
     let h = c .before .before .before .before .before .before .put-heading in
     let p = c .before .before .put-tables in
-    (case-written (a .sheet .now) (a .signature) (a .n) (a .size) bits (s .pre .0) (a .out .now) (s .pre .1) (h .last .0) (h .result) (h .kept .0) (h .ensures .0) (h .ensures .1) (p .last .1 .1 .1 .1 .1 .1 .0) (p .ensures .0), case-end (a .sheet .now) (a .signature) (a .n) (a .size) bits (s .pre .0) (a .out .now) (s .pre .1) (h .last .0) (h .result) (h .kept .0) (h .ensures .0) (h .ensures .1) (p .result) (p .ensures .1))
+    (case-written (a .sheet .now) (a .signature) (a .n) (a .size .0) bits (s .pre .0) (a .out .now) (s .pre .1) (h .last .0) (h .result) (h .kept .0) (h .ensures .0) (h .ensures .1) (p .last .1 .1 .1 .1 .1 .1 .0) (p .ensures .0), case-end (a .sheet .now) (a .signature) (a .n) (a .size .0) bits (s .pre .0) (a .out .now) (s .pre .1) (h .last .0) (h .result) (h .kept .0) (h .ensures .0) (h .ensures .1) (p .result) (p .ensures .1))
 
 pub write-case-spec : {M : Type 1} → statement M
 write-case-spec = tie.close (tie.spec put-heading-requires put-tables-requires same-length returns)

@@ -13,10 +13,10 @@ use Rattle.truth.proofs.values.cell_at.Statement.{statement}
 use Rattle.truth.proofs.values.cell_at.Tie as tie
 
 abbrev Inv-loop : tie.InvT-loop
-Inv-loop base arguments size rank₀ i₀ rank i = (i ≤ length arguments) × (rank ≡ vectors.rank size (take i arguments))
+Inv-loop base arguments s rank₀ i₀ rank i = (i ≤ length arguments) × (rank ≡ vectors.rank s (take i arguments))
 
 abbrev μ-loop : tie.MeasureT-loop
-μ-loop base arguments size rank₀ i₀ rank i = length arguments - i
+μ-loop base arguments s rank₀ i₀ rank i = length arguments - i
 
 loop-holds : tie.Need-loop-holds Inv-loop μ-loop
 loop-holds c = (omega arith, refl)
@@ -26,8 +26,8 @@ mul-rank c =
     let s = c .before .before in
     let l = c .before .loop in
     let v = s .args .arguments .now in
-    let r = rank-within (s .args .size) (take (l .i) v) (s .pre .1 .0) (omega (arith, length-take-le (l .i) v (l .inv .0), s .pre .1 .1 .0)) (allBelow-take (s .args .size) (l .i) v (s .pre .1 .1 .1)) in
-    omega (arith, l .inv .1, s .pre .1 .0, mul-le-mul {n₁ = l .rank} {m₁ = s .args .size} {n₂ = 512} {m₂ = 8} (omega (arith, l .inv .1)) (s .pre .1 .0))
+    let r = rank-within (s .args .size .0) (take (l .i) v) (s .pre .1 .0) (omega (arith, length-take-le (l .i) v (l .inv .0), s .pre .1 .1 .0)) (allBelow-take (s .args .size .0) (l .i) v (s .pre .1 .1 .1)) in
+    omega (arith, l .inv .1, s .pre .1 .0, mul-le-mul {n₁ = l .rank} {m₁ = s .args .size .0} {n₂ = 512} {m₂ = 8} (omega (arith, l .inv .1)) (s .pre .1 .0))
 
 shared-slice-read-rank : tie.Need-shared-slice-read-rank Inv-loop μ-loop
 shared-slice-read-rank c = search needs
@@ -35,19 +35,19 @@ shared-slice-read-rank c = search needs
 cast-rank : tie.Need-cast-rank Inv-loop μ-loop
 cast-rank c =
     let s = c .before .before .before in
-    omega (arith, s .pre .1 .0, allBelow-at (s .args .size) (s .args .arguments .now) (c .before .before .loop .i) (omega arith) (s .pre .1 .1 .1))
+    omega (arith, s .pre .1 .0, allBelow-at (s .args .size .0) (s .args .arguments .now) (c .before .before .loop .i) (omega arith) (s .pre .1 .1 .1))
 
 add-rank : tie.Need-add-rank Inv-loop μ-loop
 add-rank c =
     let s = c .before .before .before in
     let l = c .before .before .loop in
     let v = s .args .arguments .now in
-    let r = rank-within (s .args .size) (take (l .i) v) (s .pre .1 .0) (omega (arith, length-take-le (l .i) v (l .inv .0), s .pre .1 .1 .0)) (allBelow-take (s .args .size) (l .i) v (s .pre .1 .1 .1)) in
+    let r = rank-within (s .args .size .0) (take (l .i) v) (s .pre .1 .0) (omega (arith, length-take-le (l .i) v (l .inv .0), s .pre .1 .1 .0)) (allBelow-take (s .args .size .0) (l .i) v (s .pre .1 .1 .1)) in
     omega (
       arith,
       s .pre .1 .0,
-      allBelow-at (s .args .size) v (l .i) (omega arith) (s .pre .1 .1 .1),
-      mul-le-mul {n₁ = l .rank} {m₁ = s .args .size} {n₂ = 512} {m₂ = 8} (omega (arith, l .inv .1)) (s .pre .1 .0),
+      allBelow-at (s .args .size .0) v (l .i) (omega arith) (s .pre .1 .1 .1),
+      mul-le-mul {n₁ = l .rank} {m₁ = s .args .size .0} {n₂ = 512} {m₂ = 8} (omega (arith, l .inv .1)) (s .pre .1 .0),
     )
 
 add-i : tie.Need-add-i Inv-loop μ-loop
@@ -61,22 +61,22 @@ loop-again c =
     let s = c .before .before .before in
     let l = c .before .before .loop in
     let v = s .args .arguments .now in
-    (omega arith, rw (add-one, rank-more (s .args .size) v (l .i) (omega arith), l .inv .1))
+    (omega arith, rw (add-one, rank-more (s .args .size .0) v (l .i) (omega arith), l .inv .1))
 
-add-t11 : tie.Need-add-t11 Inv-loop μ-loop
-add-t11 c =
-    let s = c .before .before in
-    let l = c .before .loop in
+add-t12 : tie.Need-add-t12 Inv-loop μ-loop
+add-t12 c =
+    let s = c .before .before .before in
+    let l = c .before .before .loop in
     let v = s .args .arguments .now in
-    let r = rank-within (s .args .size) (take (l .i) v) (s .pre .1 .0) (omega (arith, length-take-le (l .i) v (l .inv .0), s .pre .1 .1 .0)) (allBelow-take (s .args .size) (l .i) v (s .pre .1 .1 .1)) in
+    let r = rank-within (s .args .size .0) (take (l .i) v) (s .pre .1 .0) (omega (arith, length-take-le (l .i) v (l .inv .0), s .pre .1 .1 .0)) (allBelow-take (s .args .size .0) (l .i) v (s .pre .1 .1 .1)) in
     omega (arith, l .inv .1, s .pre .0)
 
 returns : tie.Need-returns Inv-loop μ-loop
 returns c =
-    let s = c .before .before in
-    let l = c .before .loop in
+    let s = c .before .before .before in
+    let l = c .before .before .loop in
     let e : l .i ≡ length (s .args .arguments .now) = omega arith in
-    ap (λ (n : ℕ). s .args .base + n) (l .inv .1 ∙ ap (vectors.rank (s .args .size)) (ap (λ (n : ℕ). take n (s .args .arguments .now)) e ∙ take-length (s .args .arguments .now)))
+    ap (λ (n : ℕ). s .args .base .0 + n) (l .inv .1 ∙ ap (vectors.rank (s .args .size .0)) (ap (λ (n : ℕ). take n (s .args .arguments .now)) e ∙ take-length (s .args .arguments .now)))
 
 pub cell-at-spec : {M : Type 1} → statement M
 cell-at-spec =
@@ -92,5 +92,5 @@ cell-at-spec =
     add-i
     loop-less
     loop-again
-    add-t11
+    add-t12
     returns)

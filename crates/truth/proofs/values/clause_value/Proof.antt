@@ -9,7 +9,7 @@ use lib.ListN.{length, drop}
 use Rattle.theory.specs.Truth.{assign}
 use Rattle.theory.specs.Cells.{interpretation}
 use Rattle.syntax.specs.Codes.{codeWord}
-use Rattle.truth.specs.Values.{Chosen, ValuesHeld, ClauseLent, tablesIn}
+use Rattle.truth.specs.Values.{Chosen, ValuesHeld, ClauseLent}
 use Rattle.truth.proofs.Clausewise.{clause-grows, none-held, word-lent, word-held}
 use Rattle.truth.proofs.values.clause_value.Statement.{statement}
 use Rattle.truth.proofs.values.clause_value.Tie as tie
@@ -17,8 +17,8 @@ use Rattle.truth.proofs.values.clause_value.Tie as tie
 abbrev Inv-loop : tie.InvT-loop
 Inv-loop words place arities functions bases cells size choice stack₀ m₀ i₀ stack m i =
     (i ≤ length words) × (length stack ≡ 64) × (m .holds ≡ false)
-    × ((c : ClauseLent words place (tablesIn arities functions bases cells) cells size) → Chosen (c .variables) size choice
-    → ValuesHeld (c .signature) (interpretation size (c .signature) cells) (assign (c .variables) choice) size (drop i (map codeWord words)) stack m)
+    × ((c : ClauseLent words place arities functions bases cells (size .0)) → Chosen (c .variables) (size .0) choice
+    → ValuesHeld (c .signature) (interpretation (size .0) (c .signature) cells) (assign (c .variables) choice) (size .0) (drop i (map codeWord words)) stack m)
 
 abbrev μ-loop : tie.MeasureT-loop
 μ-loop words place arities functions bases cells size choice stack₀ m₀ i₀ stack m i = i

@@ -24,11 +24,11 @@ add-rest c =
     let w = s .pre .1 in
     omega (arith, s .good, arity-small w (s .pre .0), stack-count w)
 
-mul-cell-at : tie.Need-mul-cell-at
-mul-cell-at c = search needs
+mul-t19 : tie.Need-mul-t19
+mul-t19 c = search needs
 
-shared-slice-read-cell-at : tie.Need-shared-slice-read-cell-at
-shared-slice-read-cell-at c =
+shared-slice-read-t21 : tie.Need-shared-slice-read-t21
+shared-slice-read-t21 c =
     let s = c .before .before .before .before .before .before .before .before .before in
     let w = s .pre .1 in
     omega (arith, symbol-declared w (s .pre .0), w .lent .tables .bases-held)
@@ -87,7 +87,7 @@ returns c w =
     let s = c .before .before .before .before .before .before .before .before .before .before .before .before .before .before .before in
     let a = s .args in
     function-read w (s .pre .0) _ (c .before .before .before .cell-at .ensures) _ (c .before .if1 .taken)
-    (c .function-value .ensures (a .size) (w .signature) (assign (w .variables) (a .choice .now)) (a .word))
+    (c .function-value .ensures (a .size .0) (w .signature) (assign (w .variables) (a .choice .now)) (a .word))
 
 predicate-value-requires : tie.Need-predicate-value-requires
 predicate-value-requires c κs =
@@ -103,7 +103,7 @@ returns-2 c w =
     let s = c .before .before .before .before .before .before .before .before .before .before .before .before .before .before .before in
     let a = s .args in
     predicate-read w (s .pre .0) _ (c .before .before .before .cell-at .ensures) _ (c .before .if1 .left)
-    (c .predicate-value .ensures (a .size) (w .signature) (assign (w .variables) (a .choice .now)) (a .word))
+    (c .predicate-value .ensures (a .size .0) (w .signature) (assign (w .variables) (a .choice .now)) (a .word))
 
 pub read-symbol-spec : {M : Type 1} → statement M
 read-symbol-spec =
@@ -112,8 +112,8 @@ read-symbol-spec =
     shared-slice-read-rest
     cast-rest
     add-rest
-    mul-cell-at
-    shared-slice-read-cell-at
+    mul-t19
+    shared-slice-read-t21
     sub-cell-at
     part-cell-at-start
     part-cell-at-end

@@ -34,7 +34,7 @@ same-length-2 c = search needs
 returns-2 : tie.Need-returns-2
 returns-2 c w =
     let l = c .before .before .if2 .taken in
-    letter-read w l _ (c .before .variable-value .ensures (interpretation (c .before .before .before .before .before .before .before .before .before .before .before .args .size) (w .signature) (c .before .before .before .before .before .before .before .before .before .before .before .args .cells .now)) (w .variables) (w .lent .places) (letter-below w l) (letter-occurs w l))
+    letter-read w l _ (c .before .variable-value .ensures (interpretation (c .before .before .before .before .before .before .before .before .before .before .before .args .size .0) (w .signature) (c .before .before .before .before .before .before .before .before .before .before .before .args .cells .now)) (w .variables) (w .lent .places) (letter-below w l) (letter-occurs w l))
 
 slice-read-t21 : tie.Need-slice-read-t21
 slice-read-t21 c =
@@ -58,7 +58,7 @@ equality-value-requires c κs = search needs
 returns-3 : tie.Need-returns-3
 returns-3 c w =
     let a = c .before .before .before .before .before .before .before .before .before .before .before .before .before .args in
-    equality-read w (c .before .before .before .if3 .taken) _ (c .equality-value .ensures (interpretation (a .size) (w .signature) (a .cells .now)) (assign (w .variables) (a .choice .now)))
+    equality-read w (c .before .before .before .if3 .taken) _ (c .equality-value .ensures (interpretation (a .size .0) (w .signature) (a .cells .now)) (assign (w .variables) (a .choice .now)))
 
 literal-value-requires : tie.Need-literal-value-requires
 literal-value-requires c κs = search needs
@@ -66,13 +66,13 @@ literal-value-requires c κs = search needs
 returns-4 : tie.Need-returns-4
 returns-4 c w =
     let a = c .before .before .before .before .before .before .before .before .before .before .before .before .args in
-    let r = sign-read w (c .before .before .before .before .if1 .left) (c .before .before .before .if2 .left) (c .before .before .if3 .left) _ (c .before .literal-value .ensures (interpretation (a .size) (w .signature) (a .cells .now)) (assign (w .variables) (a .choice .now))) in
+    let r = sign-read w (c .before .before .before .before .if1 .left) (c .before .before .before .if2 .left) (c .before .before .if3 .left) _ (c .before .literal-value .ensures (interpretation (a .size .0) (w .signature) (a .cells .now)) (assign (w .variables) (a .choice .now))) in
     rw (c .if4 .taken) at r
 
 returns-5 : tie.Need-returns-5
 returns-5 c w =
     let a = c .before .before .before .before .before .before .before .before .before .before .before .before .args in
-    let r = sign-read w (c .before .before .before .before .if1 .left) (c .before .before .before .if2 .left) (c .before .before .if3 .left) _ (c .before .literal-value .ensures (interpretation (a .size) (w .signature) (a .cells .now)) (assign (w .variables) (a .choice .now))) in
+    let r = sign-read w (c .before .before .before .before .if1 .left) (c .before .before .before .if2 .left) (c .before .before .if3 .left) _ (c .before .literal-value .ensures (interpretation (a .size .0) (w .signature) (a .cells .now)) (assign (w .variables) (a .choice .now))) in
     rw (c .if4 .left) at r
 
 pub read-word-spec : {M : Type 1} → statement M

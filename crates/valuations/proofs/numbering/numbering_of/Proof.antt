@@ -17,14 +17,14 @@ use Rattle.valuations.proofs.numbering.block_size.Reads as block-size-r
 use Rattle.valuations.proofs.numbering.width.Reads as width-reads
 
 abbrev Inv-loop : tie.InvT-loop
-Inv-loop size signature n₀ i₀ n i = (i ≤ signature .count) × ((sheet : List ℕ) → Numbered (signatureIn sheet signature) size n i)
+Inv-loop size signature n₀ i₀ n i = (i ≤ signature .count) × ((sheet : List ℕ) → Numbered (signatureIn sheet signature) (size .0) n i)
 
 abbrev μ-loop : tie.MeasureT-loop
 μ-loop size signature n₀ i₀ n i = signature .count - i
 
 -- src/numbering.rt:47:5
 loop-holds : tie.Need-loop-holds Inv-loop μ-loop
-loop-holds c = (omega arith, λ sheet. none-numbered (signatureIn sheet (c .args .t1)) (c .args .size))
+loop-holds c = (omega arith, λ sheet. none-numbered (signatureIn sheet (c .args .t1)) (c .args .size .0))
 
 -- src/numbering.rt:48:22
 mul-symbol : tie.Need-mul-symbol Inv-loop μ-loop
@@ -71,7 +71,7 @@ add-n c =
       l .inv .1 [] .within,
       c .block-size .ensures,
       s .pre .0 .count,
-      block-within (s .args .size) (y .arity) (y .function) (s .pre .1) (arity-at (s .args .t1) (s .pre .0) (l .i) (omega arith)),
+      block-within (s .args .size .0) (y .arity) (y .function) (s .pre .1) (arity-at (s .args .t1) (s .pre .0) (l .i) (omega arith)),
     )
 
 -- src/numbering.rt:52:9
@@ -92,7 +92,7 @@ loop-again c =
       omega arith,
       λ sheet.
           rw (add-one, c .before .width .ensures, c .block-size .ensures)
-          (one-numbered (signatureIn sheet g) (s .args .size) (l .n) (l .i) (getD (g .symbols) (l .i) blank) sheet (l .inv .1 sheet)
+          (one-numbered (signatureIn sheet g) (s .args .size .0) (l .n) (l .i) (getD (g .symbols) (l .i) blank) sheet (l .inv .1 sheet)
           (symbolAt-signatureIn g (s .pre .0) sheet (l .i) (omega arith)) (omega (arith, count-signatureIn g (s .pre .0) sheet)) (omega (arith, s .pre .0 .count)) (s .pre .1) a),
     )
 
@@ -103,7 +103,7 @@ returns c =
     let g = s .args .t1 in
     λ sheet.
     let e : c .before .loop .i ≡ length (signatureIn sheet g) = omega (arith, count-signatureIn g (s .pre .0) sheet) in
-    all-numbered (signatureIn sheet g) (s .args .size) (c .before .loop .n) (omega (arith, count-signatureIn g (s .pre .0) sheet, s .pre .0 .count))
+    all-numbered (signatureIn sheet g) (s .args .size .0) (c .before .loop .n) (omega (arith, count-signatureIn g (s .pre .0) sheet, s .pre .0 .count))
     (rw e at (c .before .loop .inv .1 sheet))
 
 pub numbering-of-spec : {M : Type 1} → statement M

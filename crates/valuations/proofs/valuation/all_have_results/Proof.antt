@@ -17,34 +17,37 @@ use Rattle.valuations.proofs.valuation.all_have_results.Lts as lts
 use Rattle.valuations.proofs.valuation.count_ones.Reads as count-ones-reads
 
 abbrev Inv-loop : tie.InvT-loop
-Inv-loop setting from cells size at₀ r₀ at r = (r ≤ cells) × (at ≡ from + r * size) × (allHaveValues size (replicate cells theory.function) (drop from setting) ≡ allHaveValues size (replicate (cells - r) theory.function) (drop at setting))
+Inv-loop setting cells size width at₀ r₀ at r = (r ≤ cells) × (at ≡ at₀ + r * width) × (allHaveValues width (replicate cells theory.function) (drop at₀ setting) ≡ allHaveValues width (replicate (cells - r) theory.function) (drop at setting))
 
 abbrev μ-loop : tie.MeasureT-loop
-μ-loop setting from cells size at₀ r₀ at r = cells - r
+μ-loop setting cells size width at₀ r₀ at r = cells - r
+
+cast-width : tie.Need-cast-width Inv-loop μ-loop
+cast-width c = search needs
 
 loop-holds : tie.Need-loop-holds Inv-loop μ-loop
 loop-holds c =
-    let a = c .before .args in
+    let a = c .before .before .args in
     let n : a .cells - 0 ≡ a .cells = omega arith in
-    (omega arith, omega (arith, zero-mul (a .size)), rw n)
+    (omega arith, omega (arith, zero-mul (a .size .0)), rw n)
 
 count-ones-requires : tie.Need-count-ones-requires Inv-loop μ-loop
 count-ones-requires c κs =
     let l = c .before .loop in
-    let s = c .before .before .before in
-    omega (arith, block-fits (l .r) (s .args .cells) (s .args .size) (omega arith))
+    let s = c .before .before .before .before in
+    omega (arith, block-fits (l .r) (s .args .cells) (s .args .size .0) (omega arith))
 
 returns : tie.Need-returns Inv-loop μ-loop
 returns c =
     let l = c .before .before .before .loop in
-    let a = c .before .before .before .before .before .args in
-    sym (l .inv .2 ∙ other-results (a .size) (a .cells - (l .r + 1)) (a .cells - l .r) (l .at) (a .setting .now) (omega arith) (λ e. c .if1 .taken (c .before .count-ones .ensures ∙ e)))
+    let a = c .before .before .before .before .before .before .args in
+    sym (l .inv .2 ∙ other-results (a .size .0) (a .cells - (l .r + 1)) (a .cells - l .r) (l .at) (a .setting .now) (omega arith) (λ e. c .if1 .taken (c .before .count-ones .ensures ∙ e)))
 
 add-at : tie.Need-add-at Inv-loop μ-loop
 add-at c =
     let l = c .before .before .before .loop in
-    let s = c .before .before .before .before .before in
-    omega (arith, block-fits (l .r) (s .args .cells) (s .args .size) (omega arith), s .good)
+    let s = c .before .before .before .before .before .before in
+    omega (arith, block-fits (l .r) (s .args .cells) (s .args .size .0) (omega arith), s .good)
 
 add-r : tie.Need-add-r Inv-loop μ-loop
 add-r c = search needs
@@ -55,19 +58,19 @@ loop-less c = search needs
 loop-again : tie.Need-loop-again Inv-loop μ-loop
 loop-again c =
     let l = c .before .before .before .loop in
-    let a = c .before .before .before .before .before .args in
-    let e : ones (bitsAt (a .setting .now) (l .at) (a .size)) ≡ 1 = sym (c .before .count-ones .ensures) ∙ c .if1 .left in (
+    let a = c .before .before .before .before .before .before .args in
+    let e : ones (bitsAt (a .setting .now) (l .at) (a .size .0)) ≡ 1 = sym (c .before .count-ones .ensures) ∙ c .if1 .left in (
       omega arith,
-      rw add-one (omega (arith, suc-mul (l .r) (a .size))),
-      l .inv .2 ∙ one-result (a .size) (a .cells - (l .r + 1)) (a .cells - l .r) (l .at) (a .setting .now) (omega arith) e,
+      rw add-one (omega (arith, suc-mul (l .r) (a .size .0))),
+      l .inv .2 ∙ one-result (a .size .0) (a .cells - (l .r + 1)) (a .cells - l .r) (l .at) (a .setting .now) (omega arith) e,
     )
 
 returns-2 : tie.Need-returns-2 Inv-loop μ-loop
 returns-2 c =
     let l = c .before .loop in
-    let a = c .before .before .before .args in
+    let a = c .before .before .before .before .args in
     let e : a .cells - l .r ≡ 0 = omega arith in
-    sym (l .inv .2 ∙ ap (λ (n : ℕ). allHaveValues (a .size) (replicate n theory.function) (drop (l .at) (a .setting .now))) e)
+    sym (l .inv .2 ∙ ap (λ (n : ℕ). allHaveValues (a .size .0) (replicate n theory.function) (drop (l .at) (a .setting .now))) e)
 
 pub all-have-results-spec : {M : Type 1} → statement M
 all-have-results-spec =
@@ -75,6 +78,7 @@ all-have-results-spec =
     (tie.spec
     Inv-loop
     μ-loop
+    cast-width
     loop-holds
     count-ones-requires
     returns

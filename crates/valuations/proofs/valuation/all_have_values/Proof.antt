@@ -11,7 +11,7 @@ returns : tie.Need-returns
 returns c =
     let a = c .before .before .before .args in
     let e = not-true (a .symbol .function) (c .if1 .taken) in
-    rw e (sym (predicates-have-values (a .size) (a .size ^ a .symbol .arity) _))
+    rw e (sym (predicates-have-values (a .size .0) (a .size .0 ^ a .symbol .arity) _))
 
 cast-power : tie.Need-cast-power
 cast-power c = search needs
@@ -22,7 +22,7 @@ power-requires c κs = search needs
 all-have-results-requires : tie.Need-all-have-results-requires
 all-have-results-requires c κs =
     let s = c .before .before .before .before .before in
-    rw (c .power .ensures) (rw (not-false (s .args .symbol .function) (c .before .before .if1 .left)) at (s .pre .1))
+    ((s .pre .0 .1, s .pre .0 .2), rw (c .power .ensures) (rw (not-false (s .args .symbol .function) (c .before .before .if1 .left)) at (s .pre .1)))
 
 returns-2 : tie.Need-returns-2
 returns-2 c =

@@ -12,10 +12,13 @@ use Rattle.valuations.proofs.valuation.count_ones.Statement.{statement}
 use Rattle.valuations.proofs.valuation.count_ones.Tie as tie
 
 abbrev Inv-loop : tie.InvT-loop
-Inv-loop setting from size count₀ d₀ count d = (d ≤ size) × (count ≤ d) × (count ≡ ones (bitsAt setting from d))
+Inv-loop setting first width count₀ d₀ count d = (d ≤ width) × (count ≤ d) × (count ≡ ones (bitsAt setting first d))
 
 abbrev μ-loop : tie.MeasureT-loop
-μ-loop setting from size count₀ d₀ count d = size - d
+μ-loop setting first width count₀ d₀ count d = width - d
+
+cast-first : tie.Need-cast-first Inv-loop μ-loop
+cast-first c = search needs
 
 loop-holds : tie.Need-loop-holds Inv-loop μ-loop
 loop-holds c = (omega arith, omega arith, refl)
@@ -38,19 +41,19 @@ loop-less c = search needs
 loop-again : tie.Need-loop-again Inv-loop μ-loop
 loop-again c =
     let l = c .before .before .before .loop in
-    let s = c .before .before .before .before in
-    let lt : s .args .from + l .d < length (s .args .setting .now) = omega arith in
+    let s = c .before .before .before .before .before in
+    let lt : s .args .from .0 + l .d < length (s .args .setting .now) = omega arith in
     ⊎-elim
-    (λ w. (omega arith, omega arith, rw add-one (w .1 ∙ ap (λ (n : ℕ). n + 1) (l .inv .2) ∙ sym (one-more (s .args .setting .now) (s .args .from) (l .d) lt (w .0 .taken)))))
-    (λ w. (omega arith, omega arith, rw add-one (w .1 ∙ l .inv .2 ∙ sym (none-more (s .args .setting .now) (s .args .from) (l .d) lt (w .0 .left)))))
+    (λ w. (omega arith, omega arith, rw add-one (w .1 ∙ ap (λ (n : ℕ). n + 1) (l .inv .2) ∙ sym (one-more (s .args .setting .now) (s .args .from .0) (l .d) lt (w .0 .taken)))))
+    (λ w. (omega arith, omega arith, rw add-one (w .1 ∙ l .inv .2 ∙ sym (none-more (s .args .setting .now) (s .args .from .0) (l .d) lt (w .0 .left)))))
     (c .if1 .came)
 
 returns : tie.Need-returns Inv-loop μ-loop
 returns c =
     let l = c .before .loop in
-    let s = c .before .before in
-    let e : l .d ≡ s .args .size = omega arith in
-    l .inv .2 ∙ ap (λ (j : ℕ). ones (bitsAt (s .args .setting .now) (s .args .from) j)) e
+    let s = c .before .before .before in
+    let e : l .d ≡ s .args .size .0 = omega arith in
+    l .inv .2 ∙ ap (λ (j : ℕ). ones (bitsAt (s .args .setting .now) (s .args .from .0) j)) e
 
 pub count-ones-spec : {M : Type 1} → statement M
 count-ones-spec =
@@ -58,6 +61,7 @@ count-ones-spec =
     (tie.spec
     Inv-loop
     μ-loop
+    cast-first
     loop-holds
     add-if1
     shared-slice-read-if1

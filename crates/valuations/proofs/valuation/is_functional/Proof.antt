@@ -16,22 +16,19 @@ use Rattle.valuations.proofs.valuation.is_functional.Statement.{stateme
 use Rattle.valuations.proofs.valuation.is_functional.Tie as tie
 
 abbrev Inv-loop : tie.InvT-loop
-Inv-loop setting size signature n i₀ i = (i ≤ signature .count) × ((sheet : List ℕ) → isFunctional size (signatureIn sheet signature) setting ≡ functionalFrom size (signatureIn sheet signature) setting i)
+Inv-loop setting size signature n i₀ i = (i ≤ signature .count) × ((sheet : List ℕ) → isFunctional (size .0) (signatureIn sheet signature) setting ≡ functionalFrom (size .0) (signatureIn sheet signature) setting i)
 
 abbrev μ-loop : tie.MeasureT-loop
 μ-loop setting size signature n i₀ i = signature .count - i
 
 loop-holds : tie.Need-loop-holds Inv-loop μ-loop
-loop-holds c = (omega arith, λ sheet. functional-from-start (c .before .args .size) (signatureIn sheet (c .before .args .t2)) (c .before .args .setting .now))
+loop-holds c = (omega arith, λ sheet. functional-from-start (c .before .args .size .0) (signatureIn sheet (c .before .args .t2)) (c .before .args .setting .now))
 
 mul-from : tie.Need-mul-from Inv-loop μ-loop
 mul-from c = search needs
 
 element-copy-out-from : tie.Need-element-copy-out-from Inv-loop μ-loop
 element-copy-out-from c = search needs
-
-cast-from : tie.Need-cast-from Inv-loop μ-loop
-cast-from c = search needs
 
 mul-all-have-values : tie.Need-mul-all-have-values Inv-loop μ-loop
 mul-all-have-values c = search needs
@@ -45,13 +42,13 @@ all-have-values-requires c κs =
     let l = c .before .before .before .loop in
     let g = signatureIn [] (s .args .t2) in
     let lt : l .i < length g = omega (arith, count-signatureIn (s .args .t2) (s .pre .0 .0) []) in (
-      (arity-at (s .args .t2) (s .pre .0 .0) (l .i) (omega arith), s .pre .0 .1),
+      (arity-at (s .args .t2) (s .pre .0 .0) (l .i) (omega arith), s .pre .0 .1, omega (arith, s .pre .1 .1, s .pre .1 .0 [] .small)),
       omega (
         arith,
         s .pre .1 .0 [] .base (l .i) lt,
         s .pre .1 .0 [] .count,
-        block-room (s .args .size) g (l .i) lt,
-        ap (blockSize (s .args .size)) (symbolAt-signatureIn (s .args .t2) (s .pre .0 .0) [] (l .i) (omega arith)),
+        block-room (s .args .size .0) g (l .i) lt,
+        ap (blockSize (s .args .size .0)) (symbolAt-signatureIn (s .args .t2) (s .pre .0 .0) [] (l .i) (omega arith)),
       ),
     )
 
@@ -63,9 +60,9 @@ returns c =
     λ sheet.
     let g = signatureIn sheet (s .args .t2) in
     let lt : l .i < length g = omega (arith, count-signatureIn (s .args .t2) (s .pre .0 .0) sheet) in
-    let at = functional-at (s .args .size) g (s .args .setting .now) (l .i) (getD (s .args .t3 .bases) (l .i) 0) (symbolIn sheet y) (c .before .all-have-values .result)
+    let at = functional-at (s .args .size .0) g (s .args .setting .now) (l .i) (getD (s .args .t3 .bases) (l .i) 0) (symbolIn sheet y) (c .before .all-have-values .result)
     (symbolAt-signatureIn (s .args .t2) (s .pre .0 .0) sheet (l .i) (omega arith)) (s .pre .1 .0 sheet .base (l .i) lt) (c .before .all-have-values .ensures) in
-    sym (l .inv .1 sheet ∙ functional-fails (s .args .size) g (s .args .setting .now) (l .i) lt (at ∙ not-true (c .before .all-have-values .result) (c .if1 .taken)))
+    sym (l .inv .1 sheet ∙ functional-fails (s .args .size .0) g (s .args .setting .now) (l .i) lt (at ∙ not-true (c .before .all-have-values .result) (c .if1 .taken)))
 
 add-i : tie.Need-add-i Inv-loop μ-loop
 add-i c = search needs
@@ -82,9 +79,9 @@ loop-again c =
       λ sheet.
           let g = signatureIn sheet (s .args .t2) in
           let lt : l .i < length g = omega (arith, count-signatureIn (s .args .t2) (s .pre .0 .0) sheet) in
-          let at = functional-at (s .args .size) g (s .args .setting .now) (l .i) (getD (s .args .t3 .bases) (l .i) 0) (symbolIn sheet y) (c .before .all-have-values .result)
+          let at = functional-at (s .args .size .0) g (s .args .setting .now) (l .i) (getD (s .args .t3 .bases) (l .i) 0) (symbolIn sheet y) (c .before .all-have-values .result)
           (symbolAt-signatureIn (s .args .t2) (s .pre .0 .0) sheet (l .i) (omega arith)) (s .pre .1 .0 sheet .base (l .i) lt) (c .before .all-have-values .ensures) in
-          rw add-one (l .inv .1 sheet ∙ functional-passes (s .args .size) g (s .args .setting .now) (l .i) lt (at ∙ not-false (c .before .all-have-values .result) (c .if1 .left))),
+          rw add-one (l .inv .1 sheet ∙ functional-passes (s .args .size .0) g (s .args .setting .now) (l .i) lt (at ∙ not-false (c .before .all-have-values .result) (c .if1 .left))),
     )
 
 returns-2 : tie.Need-returns-2 Inv-loop μ-loop
@@ -94,7 +91,7 @@ returns-2 c =
     λ sheet.
     let g = signatureIn sheet (s .args .t2) in
     let e : l .i ≡ length g = omega (arith, count-signatureIn (s .args .t2) (s .pre .0 .0) sheet) in
-    sym (l .inv .1 sheet ∙ ap (functionalFrom (s .args .size) g (s .args .setting .now)) e ∙ functional-to-end (s .args .size) g (s .args .setting .now))
+    sym (l .inv .1 sheet ∙ ap (functionalFrom (s .args .size .0) g (s .args .setting .now)) e ∙ functional-to-end (s .args .size .0) g (s .args .setting .now))
 
 pub is-functional-spec : {M : Type 1} → statement M
 is-functional-spec =
@@ -105,7 +102,6 @@ is-functional-spec =
     loop-holds
     mul-from
     element-copy-out-from
-    cast-from
     mul-all-have-values
     element-copy-out-all-have-values
     all-have-values-requires

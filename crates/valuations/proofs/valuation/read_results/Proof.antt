@@ -1,7 +1,7 @@
 -- `read_results` meets its contract: the first r values are read.
 use native.Mathlib.Nat.{zero-mul, suc-mul}
 use Rattle.valuations.specs.Cells.{bitsAt}
-use Rattle.valuations.proofs.Bits.{block-fits, value-stored, first-within}
+use Rattle.valuations.proofs.Bits.{block-fits, value-stored}
 use lib.Seq.{take-length}
 use borrow.Author.Needs.{needs}
 use Prim.Native.Nat.{ℕ, _+_, _-_, _*_, _≤_}
@@ -15,25 +15,22 @@ use Rattle.valuations.proofs.valuation.read_results.Statement.{statemen
 use Rattle.valuations.proofs.valuation.read_results.Tie as tie
 
 abbrev Inv-loop : tie.InvT-loop
-Inv-loop setting from size table₀ at₀ r₀ table at r = (r ≤ length table₀) × (length table ≡ length table₀) × (at ≡ from + r * size) × (take r table ≡ valuesOf size (replicate r theory.function) (drop from setting))
+Inv-loop setting size table₀ width at₀ r₀ table at r = (r ≤ length table₀) × (length table ≡ length table₀) × (at ≡ at₀ + r * width) × (take r table ≡ valuesOf width (replicate r theory.function) (drop at₀ setting))
 
 abbrev μ-loop : tie.MeasureT-loop
-μ-loop setting from size table₀ at₀ r₀ table at r = length table₀ - r
+μ-loop setting size table₀ width at₀ r₀ table at r = length table₀ - r
+
+cast-width : tie.Need-cast-width Inv-loop μ-loop
+cast-width c = search needs
 
 loop-holds : tie.Need-loop-holds Inv-loop μ-loop
-loop-holds c = let a = c .before .before .args in (omega arith, refl, omega (arith, zero-mul (a .size)), refl)
+loop-holds c = let a = c .before .before .before .args in (omega arith, refl, omega (arith, zero-mul (a .size .0)), refl)
 
 first-one-requires : tie.Need-first-one-requires Inv-loop μ-loop
 first-one-requires c κs =
     let l = c .before .loop in
-    let s = c .before .before .before .before in
-    omega (arith, block-fits (l .r) (length (s .args .table .now)) (s .args .size) (omega arith))
-
-cast-table : tie.Need-cast-table Inv-loop μ-loop
-cast-table c =
-    let l = c .before .before .loop in
     let s = c .before .before .before .before .before in
-    omega (arith, first-within (s .args .setting .now) (l .at) (s .args .size), c .first-one .ensures)
+    omega (arith, block-fits (l .r) (length (s .args .table .now)) (s .args .size .0) (omega arith))
 
 slice-write-table : tie.Need-slice-write-table Inv-loop μ-loop
 slice-write-table c = search needs
@@ -41,8 +38,8 @@ slice-write-table c = search needs
 add-at : tie.Need-add-at Inv-loop μ-loop
 add-at c =
     let l = c .before .before .loop in
-    let s = c .before .before .before .before .before in
-    omega (arith, block-fits (l .r) (length (s .args .table .now)) (s .args .size) (omega arith), s .good)
+    let s = c .before .before .before .before .before .before in
+    omega (arith, block-fits (l .r) (length (s .args .table .now)) (s .args .size .0) (omega arith), s .good)
 
 add-r : tie.Need-add-r Inv-loop μ-loop
 add-r c = search needs
@@ -53,13 +50,13 @@ loop-less c = search needs
 loop-again : tie.Need-loop-again Inv-loop μ-loop
 loop-again c =
     let l = c .before .before .loop in
-    let a = c .before .before .before .before .before .args in
-    let x : c .first-one .result ≡ firstOne (bitsAt (a .setting .now) (a .from + l .r * a .size) (a .size)) =
-    c .first-one .ensures ∙ ap (λ (j : ℕ). firstOne (bitsAt (a .setting .now) j (a .size))) (l .inv .2) in (
+    let a = c .before .before .before .before .before .before .args in
+    let x : c .first-one .result .0 ≡ firstOne (bitsAt (a .setting .now) (a .from .0 + l .r * a .size .0) (a .size .0)) =
+    c .first-one .ensures ∙ ap (λ (j : ℕ). firstOne (bitsAt (a .setting .now) j (a .size .0))) (l .inv .2) in (
       omega arith,
-      length-set (l .table) (l .r) (c .first-one .result) ∙ l .inv .1,
-      rw add-one (omega (arith, suc-mul (l .r) (a .size))),
-      rw add-one (value-stored (a .size) theory.function (a .setting .now) (l .table) (a .from) (l .r) (c .first-one .result) (omega arith) (l .inv .3) x),
+      length-set (l .table) (l .r) (c .first-one .result .0) ∙ l .inv .1,
+      rw add-one (omega (arith, suc-mul (l .r) (a .size .0))),
+      rw add-one (value-stored (a .size .0) theory.function (a .setting .now) (l .table) (a .from .0) (l .r) (c .first-one .result .0) (omega arith) (l .inv .3) x),
     )
 
 same-length : tie.Need-same-length Inv-loop μ-loop
@@ -68,12 +65,12 @@ same-length c = search needs
 returns : tie.Need-returns Inv-loop μ-loop
 returns c =
     let l = c .before .loop in
-    let a = c .before .before .before .before .args in
+    let a = c .before .before .before .before .before .args in
     let e : l .r ≡ length (l .table) = omega arith in
     let n : l .r ≡ length (a .table .now) = omega arith in
     sym (ap (λ (j : ℕ). take j (l .table)) e ∙ take-length (l .table))
     ∙ l .inv .3
-    ∙ ap (λ (j : ℕ). valuesOf (a .size) (replicate j theory.function) (drop (a .from) (a .setting .now))) n
+    ∙ ap (λ (j : ℕ). valuesOf (a .size .0) (replicate j theory.function) (drop (a .from .0) (a .setting .now))) n
 
 pub read-results-spec : {M : Type 1} → statement M
 read-results-spec =
@@ -81,9 +78,9 @@ read-results-spec =
     (tie.spec
     Inv-loop
     μ-loop
+    cast-width
     loop-holds
     first-one-requires
-    cast-table
     slice-write-table
     add-at
     add-r

@@ -26,7 +26,7 @@ same-length-2 : tie.Need-same-length-2
 same-length-2 c = search needs
 
 returns-2 : tie.Need-returns-2
-returns-2 c = c .before .before .read-truths .ensures (c .before .before .before .before .before .before .before .args .size) ∙ rw (c .before .before .before .before .if1 .left)
+returns-2 c = c .before .before .read-truths .ensures (c .before .before .before .before .before .before .before .args .size .0) ∙ rw (c .before .before .before .before .if1 .left)
 
 pub read-table-spec : {M : Type 1} → statement M
 read-table-spec =

@@ -13,6 +13,9 @@ Inv-loop self₀ size i₀ self i = Passed self₀ self i
 abbrev μ-loop : tie.MeasureT-loop
 μ-loop self₀ size i₀ self i = i
 
+cast-size : tie.Need-cast-size Inv-loop μ-loop
+cast-size c = omega (arith, c .pre .small)
+
 loop-holds : tie.Need-loop-holds Inv-loop μ-loop
 loop-holds c = none-passed (c .args .t1) (search needs) (c .pre)
 
@@ -65,6 +68,7 @@ step-spec =
     (tie.spec
     Inv-loop
     μ-loop
+    cast-size
     loop-holds
     sub-i
     element-copy-out-d

@@ -1,9 +1,9 @@
--- `negated` meets its contract.
+-- `literals::negated` meets its contract.
 use mathlib.Core.Path.{refl}
 use borrow.Author.Tests.{eq-eqb, ne-eqb}
 use borrow.Author.Needs.{needs}
-use Rattle.propagation.proofs.negated.Statement.{statement}
-use Rattle.propagation.proofs.negated.Tie as tie
+use Rattle.propagation.proofs.literals.negated.Statement.{statement}
+use Rattle.propagation.proofs.literals.negated.Tie as tie
 
 add-result : tie.Need-add-result
 add-result c = search needs
