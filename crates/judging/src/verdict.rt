@@ -28,7 +28,7 @@ pub fn judge_case(sheet: &[u8], case: &[u8]) -> JudgeAnswer
     let mut cells = [0; Tables::MAX_CELLS];
     match read_case(case, sheet, signature, &mut cells) {
         CaseReading::Refused(line) => JudgeAnswer::Refused(at_line(12, line)),
-        CaseReading::Read(size) => judge_cells(sheet, p, &cells, DomainSize(size)),
+        CaseReading::Read(size) => judge_cells(sheet, p, &cells, size),
     }
 }
 
