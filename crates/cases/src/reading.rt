@@ -107,7 +107,8 @@ fn read_tables(
     cells: &mut [u8],
 ) -> CaseReading
     requires { ⌜ (at ≤ length (now case)) × (Readable (now sheet) signature × ((1 ≤ size .0) × ((size .0 ≤ 8) × (12288 ≤ length (now cells))))) ⌝ }
-    ensures { λ r. ⌜ caseIn (signatureIn (now (sheet .entry)) signature) r (now (cells .exit)) ≡ caseOfTables (size .0) (signatureIn (now (sheet .entry)) signature) (drop at (now (case .entry))) ⌝ }
+    ensures { λ r. ⌜ caseIn (signatureIn (now (sheet .entry)) signature) r (now (cells .exit))
+        ≡ caseOfTables (size .0) (signatureIn (now (sheet .entry)) signature) (drop at (now (case .entry))) ⌝ }
 {
     let mut next = at;
     let mut base: usize = 0;
@@ -139,10 +140,10 @@ fn size_of(line: &[u8]) -> SizeCheck
         return SizeCheck::Refused;
     }
     let b = line[5];
-    if b < 48 {
+    if b < DomainSize::ZERO_DIGIT {
         return SizeCheck::Refused;
     }
-    DomainSize::checked((b - 48) as usize)
+    DomainSize::checked((b - DomainSize::ZERO_DIGIT) as usize)
 }
 
 // The cells of a case text of a signature whose names stand in the sheet.

@@ -39,7 +39,7 @@ pub fn put_heading(out: &mut [u8], size: DomainSize) -> usize
     ensures place { λ r. ⌜ r ≡ 14 ⌝ }
 {
     let at = put_bytes(out, 0, b"case=1\nsize=");
-    out[at] = 48 + size.0 as u8;
+    out[at] = DomainSize::ZERO_DIGIT + size.0 as u8;
     out[at + 1] = 10;
     at + 2
 }

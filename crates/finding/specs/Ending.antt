@@ -10,18 +10,16 @@ use Rattle.theory.specs.Problem.{readProblem}
 use Rattle.theory.specs.Problem as theory
 use Rattle.theory.specs.CaseText.{caseLength}
 use Rattle.theory.specs.Least.{smallestModel}
-use Rattle.theory.specs.Operations.{maxSize, maxInstances, Search, searchOf, findAnswer, findWork, findOutput}
+use Rattle.theory.specs.Operations.{maxSize, maxInstances, Search, searchOf}
 use Rattle.answers.specs.declared.FindAnswer.{FindAnswer}
-use Rattle.answers.specs.Answers.{findIn}
+use Rattle.answers.specs.Calls.{SearchingCall}
 use Rattle.syntax.specs.declared.limits.Problem.{Problem}
 use Rattle.problem.specs.Problems.{problemIn, Accepted}
 use Rattle.finding.specs.Searching.{Searchable}
 
--- the answer is r, and work and output are left as Find leaves them with what is found, given so many numbers of work and so many bytes of output
-pub record Ends (finds : ℕ → ℕ → Answer Search) (r : FindAnswer) (work work′ output output′ : List ℕ) : Type 0 where
-  pub answer : findIn r ≡ findAnswer (finds (length work) (length output))
-  pub worked : work′ ≡ findWork (finds (length work) (length output)) work
-  pub left : output′ ≡ findOutput (finds (length work) (length output)) output
+-- a call that ends with what is found, given so many numbers of work and so many bytes of output
+abbrev pub Ends : (ℕ → ℕ → Answer Search) → FindAnswer → List ℕ → List ℕ → List ℕ → List ℕ → Type 0
+Ends finds r work work′ output output′ = SearchingCall (finds (length work) (length output)) r work work′ output output′
 
 -- what Find finds of a problem that was read at the sizes from low to high where nothing is refused
 abbrev pub foundWithin : theory.Problem → ℕ → ℕ → ℕ → ℕ → Answer Search

@@ -20,9 +20,7 @@ use syntax::size::DomainSize;
 use valuations::numbering::numbering_of;
 ghost use mathlib.Core.Path.{_≡_};
 ghost use Prim.Native.Nat.{_+_, _*_, _≤_, _<_, _^_};
-ghost use lib.ListN.{length};
-ghost use Rattle.theory.specs.Operations.{findAnswer, findOutput, findResult, findWork};
-ghost use Rattle.answers.specs.Answers.{findIn};
+ghost use Rattle.answers.specs.Calls.{FindCall};
 ghost use Rattle.problem.specs.Problems.{problemIn};
 ghost use Rattle.finding.specs.Ending.{Ends, Ranged, foundIn};
 
@@ -33,9 +31,7 @@ pub fn find_model(
     work: &mut [u32],
     output: &mut [u8],
 ) -> FindAnswer
-    ensures answer { λ r. ⌜ findIn r ≡ findAnswer (findResult (now (sheet .entry)) low high (length (now (work .entry))) (length (now (output .entry)))) ⌝ }
-    ensures worked { λ r. ⌜ now (work .exit) ≡ findWork (findResult (now (sheet .entry)) low high (length (now (work .entry))) (length (now (output .entry)))) (now (work .entry)) ⌝ }
-    ensures left { λ r. ⌜ now (output .exit) ≡ findOutput (findResult (now (sheet .entry)) low high (length (now (work .entry))) (length (now (output .entry)))) (now (output .entry)) ⌝ }
+    ensures { λ r. ⌜ FindCall (now (sheet .entry)) low high r (now (work .entry)) (now (work .exit)) (now (output .entry)) (now (output .exit)) ⌝ }
 {
     let r = read_problem(sheet);
     if r.fault != 0 {

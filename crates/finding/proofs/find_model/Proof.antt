@@ -37,9 +37,8 @@ returns c =
     let W = length (a .work .now) in
     let R = length (a .output .now) in
     let q = atLine (r .result .fault) (r .result .line) in
-    let e = ends-refused (findResult (a .sheet .now) (a .low) (a .high)) (c .at-line .result) q (a .work .now) (a .output .now)
-    (result-refused (a .sheet .now) (a .low) (a .high) W R q (sheet-refused (a .sheet .now) (r .result) (r .ensures .0) (c .before .if1 .taken))) (c .at-line .ensures) in
-    (e .answer, (e .worked, e .left))
+    ends-refused (findResult (a .sheet .now) (a .low) (a .high)) (c .at-line .result) q (a .work .now) (a .output .now)
+    (result-refused (a .sheet .now) (a .low) (a .high) W R q (sheet-refused (a .sheet .now) (r .result) (r .ensures .0) (c .before .if1 .taken))) (c .at-line .ensures)
 
 -- src/lib.rt:45:11
 checked-range-requires : tie.Need-checked-range-requires
@@ -83,9 +82,8 @@ returns-2 c =
     let R = length (a .output .now) in
     let q = problemIn (a .sheet .now) (r .result .problem) in
     let no = refused (a .low) (a .high) (sym (c .before .before .before .checked-range .ensures) ∙ c .before .enum-told .given .1) in
-    let e = ends-refused (findResult (a .sheet .now) (a .low) (a .high)) (c .at-line2 .result) (unplaced 8) (a .work .now) (a .output .now)
-    (result-8 (a .sheet .now) (a .low) (a .high) W R q (sheet-accepted (a .sheet .now) (r .result) (r .ensures .0) (c .before .before .before .before .before .if1 .left)) no) (c .at-line2 .ensures) in
-    (e .answer, (e .worked, e .left))
+    ends-refused (findResult (a .sheet .now) (a .low) (a .high)) (c .at-line2 .result) (unplaced 8) (a .work .now) (a .output .now)
+    (result-8 (a .sheet .now) (a .low) (a .high) W R q (sheet-accepted (a .sheet .now) (r .result) (r .ensures .0) (c .before .before .before .before .before .if1 .left)) no) (c .at-line2 .ensures)
 
 -- src/lib.rt:29:1
 same-length : tie.Need-same-length
@@ -108,9 +106,8 @@ returns-3 c =
     let t = taken (a .low) (a .high) (g .0 .0) (g .0 .1 .0) (sym (c .before .before .before .before .before .before .before .before .before .before .checked-range .ensures) ∙ g .1) in
     let same : foundIn q (a .low) (a .high) W R ≡ foundIn q (g .0 .0 .0) (g .0 .1 .0 .0) W R =
     ap (λ (n : ℕ). foundIn q n (a .high) W R) (sym (t .1)) ∙ ap (λ (n : ℕ). foundIn q (g .0 .0 .0) n W R) (sym (t .2)) in
-    let e = ends-as (findResult (a .sheet .now) (a .low) (a .high)) (f .result) (a .work .now) (f .last .1 .1 .1 .1 .0) (a .output .now) (f .last .1 .1 .1 .1 .1 .0) (foundIn q (g .0 .0 .0) (g .0 .1 .0 .0))
-    (result-read (a .sheet .now) (a .low) (a .high) W R q (sheet-accepted (a .sheet .now) (r .result) (r .ensures .0) (c .before .before .before .before .before .before .before .before .before .before .before .before .if1 .left)) (t .0) ∙ same) (f .ensures) in
-    (e .answer, (e .worked, e .left))
+    ends-as (findResult (a .sheet .now) (a .low) (a .high)) (f .result) (a .work .now) (f .last .1 .1 .1 .1 .0) (a .output .now) (f .last .1 .1 .1 .1 .1 .0) (foundIn q (g .0 .0 .0) (g .0 .1 .0 .0))
+    (result-read (a .sheet .now) (a .low) (a .high) W R q (sheet-accepted (a .sheet .now) (r .result) (r .ensures .0) (c .before .before .before .before .before .before .before .before .before .before .before .before .if1 .left)) (t .0) ∙ same) (f .ensures)
 
 pub find-model-spec : {M : Type 1} → statement M
 find-model-spec =
