@@ -1,16 +1,16 @@
 // The first values: a function's variables are tried at yes first, a predicate's at no, so that the first valuation found is that of the least model.
+use indices::PropVar;
 use loading::prefer;
 use syntax::signature::Signature;
 use syntax::size::DomainSize;
 use valuations::numbering::block_size;
 ghost use mathlib.Core.Path.{_≡_};
 ghost use mathlib.Core.List.{List};
-ghost use Prim.Native.Nat.{ℕ, _*_, _≤_};
-ghost use lib.ListN.{length};
+ghost use Prim.Native.Nat.{ℕ, _≤_};
 ghost use Rattle.theory.specs.Propositional.{propCount};
 ghost use Rattle.theory.specs.Walk.{yesFirst};
-ghost use Rattle.propagation.specs.WorkArea.{Prefers};
-ghost use Rattle.loading.specs.Loading.{Entered};
+ghost use Rattle.propagation.specs.WorkArea.{Regions, Prefers};
+ghost use Rattle.loading.specs.Loading.{KeepsClauses};
 ghost use Rattle.syntax.specs.Signatures.{signatureIn};
 ghost use Rattle.clauses.specs.Names.{Limited};
 
@@ -18,15 +18,15 @@ ghost use Rattle.clauses.specs.Names.{Limited};
 pub fn prefer_all(signature: Signature, size: usize, v: usize, work: &mut [u32])
     requires { ⌜ Limited signature × (size ≤ 8) ⌝ }
     requires { ⌜ ((sheet : List ℕ) → v ≡ propCount size (signatureIn sheet signature)) ⌝ }
-    requires { ⌜ 7 * v ≤ length (now work) ⌝ }
-    ensures clauses { λ _. ⌜ ((cs es : List (List ℕ)) → Entered v cs es (now (work .entry)) → Entered v cs es (now (work .exit))) ⌝ }
+    requires { ⌜ Regions v (now work) ⌝ }
+    ensures clauses { λ _. ⌜ KeepsClauses v (now (work .entry)) (now (work .exit)) ⌝ }
     ensures values { λ _. ⌜ ((sheet : List ℕ) → Prefers v v (yesFirst size (signatureIn sheet signature)) (now (work .exit))) ⌝ }
 {
-    let mut from: usize = 0;
+    let mut from = PropVar(0);
     let mut i: usize = 0;
     while i < signature.count {
         let symbol = signature.symbols[i];
-        let to = from + block_size(symbol, DomainSize(size)) as usize;
+        let to = PropVar(from.0 + block_size(symbol, DomainSize(size)));
         prefer(work, v, from, to, symbol.function);
         from = to;
         i += 1;

@@ -72,7 +72,7 @@ fn find_in(
     if work.len() < needed {
         return FindAnswer::Refused(needing(10, needed));
     }
-    let length = case_length(signature, size);
+    let length = case_length(signature, DomainSize(size));
     if output.len() < length {
         return FindAnswer::Refused(needing(11, length));
     }

@@ -9,8 +9,8 @@ use syntax::signature::Signature;
 use syntax::size::DomainSize;
 use syntax::size::SizeCheck;
 use valuations::numbering::numbering_of;
-use valuations::valuation::is_binary;
 use valuations::valuation::is_functional;
+use valuations::valuation::is_valuation;
 ghost use mathlib.Core.Path.{_≡_};
 ghost use Prim.Native.Nat.{_≤_};
 ghost use lib.ListN.{length};
@@ -49,16 +49,13 @@ fn write_setting(
     ensures left { λ r. ⌜ now (output .exit) ≡ outputAfter (settingText (size .0) (signatureIn (now (sheet .entry)) signature) (now (setting .entry)) (length (now (output .entry)))) (now (output .entry)) ⌝ }
 {
     let n = numbering_of(signature, size);
-    if setting.len() != n.count as usize {
-        return WriteAnswer::Refused(at_line(13, 0));
-    }
-    if !is_binary(setting) {
+    if !is_valuation(setting, n) {
         return WriteAnswer::Refused(at_line(13, 0));
     }
     if !is_functional(setting, signature, n, size) {
         return WriteAnswer::Refused(at_line(14, 0));
     }
-    let length = case_length(signature, size.0);
+    let length = case_length(signature, size);
     if output.len() < length {
         return WriteAnswer::Refused(needing(11, length));
     }

@@ -30,7 +30,7 @@ pub fn write_case(
     ensures written { λ r. ⌜ now (out .exit) ≡ over (caseSaid (now (sheet .entry)) signature (size .0) (bitsHeld (now (setting .entry)) (now (values .entry)))) (now (out .entry)) ⌝ }
     ensures length { λ r. ⌜ r ≡ caseLength (size .0) (signatureIn (now (sheet .entry)) signature) ⌝ }
 {
-    let at = put_heading(out, size.0);
+    let at = put_heading(out, size);
     put_tables(sheet, signature, n, size, setting, values, out, at)
 }
 

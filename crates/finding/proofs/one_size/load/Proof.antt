@@ -7,7 +7,7 @@ use Rattle.syntax.specs.Signatures.{signatureIn}
 use Rattle.loading.proofs.Ready.{entered-loaded}
 use Rattle.stream.specs.Literals.{allCodes}
 use Rattle.finding.specs.Searching.{Searchable, sheetClauses}
-use Rattle.finding.proofs.Fitting.{numbered, area-room}
+use Rattle.finding.proofs.Fitting.{numbered}
 use borrow.Author.Needs.{needs}
 use Rattle.finding.proofs.one_size.load.Statement.{statement}
 use Rattle.finding.proofs.one_size.load.Tie as tie
@@ -41,7 +41,7 @@ prefer-all-requires c κs =
     let k = c .before .before .before .before .before .before .before .before .before .count-clauses in
     let e = c .before .before .before .before .before .enter-clauses in (
       (s .pre .0 .accepted .readable .limited, s .pre .0 .within),
-      (λ text. s .pre .1 text .count, omega (arith, area-room (a .sheet .now) (a .p) (a .size) (length (a .work .now)) (a .n .count) (s .pre .0) (s .pre .1 (a .sheet .now) .count), k .kept .1 .1 .1 .1 .0, e .kept .1 .1 .1 .1 .1 .0)),
+      (λ text. s .pre .1 text .count, record { small = e .ensures .small; room = omega (arith, e .ensures .size) }),
     )
 
 -- src/one_size.rt:78:1

@@ -6,7 +6,7 @@ use mathlib.Core.List.{List}
 use lib.ListN.{length}
 use Rattle.theory.specs.Refusals.{Answer, atLine, unplaced}
 use Rattle.theory.specs.Operations.{lengthAnswer, outputAfter}
-use Rattle.reading_back.proofs.Answered.{refused-so, sheet-refusal, sheet-within, size-refusal, size-within, setting-left}
+use Rattle.reading_back.proofs.Answered.{refused-so, sheet-refusal, sheet-within, size-refusal, size-taken, setting-left}
 use Rattle.reading_back.proofs.setting.read_setting_back.Statement.{statement}
 use Rattle.reading_back.proofs.setting.read_setting_back.Tie as tie
 
@@ -44,7 +44,7 @@ write-setting-requires c κs =
       r .ensures .1 ok .readable,
       (
         sheet-within (a .sheet .now) (r .result) (r .ensures .0) ok,
-        size-within (a .sheet .now) (r .result) (r .ensures .0) ok (a .size) (k .result) (k .ensures) (c .before .before .s .given .0 .0) (c .before .before .s .given .1),
+        size-taken (a .sheet .now) (r .result) (r .ensures .0) ok (a .size) (k .result) (k .ensures) (c .before .before .s .given .0 .0) (c .before .before .s .given .1),
       ),
     )
 
