@@ -14,6 +14,7 @@ use Rattle.theory.specs.Least.{leastModel, withSize}
 use Rattle.theory.specs.Walk.{searched}
 use Rattle.theory.specs.Operations.{searchOf, over}
 use Rattle.answers.specs.declared.FindAnswer.the-variants as find
+use Rattle.answers.specs.Calls.{SearchingCall}
 use Rattle.syntax.specs.declared.limits.Problem.{Problem}
 use Rattle.syntax.specs.Signatures.{signatureIn}
 use Rattle.problem.specs.Problems.{problemIn}
@@ -21,7 +22,6 @@ use Rattle.valuations.specs.declared.numbering.Numbering.{Numbering}
 use Rattle.valuations.specs.Numbers.{NumberingOf}
 use Rattle.reading_back.specs.Bits.{bitsHeld, WritableBits}
 use Rattle.finding.specs.Searching.{Searchable}
-use Rattle.finding.specs.Ending.{Ends}
 use Rattle.finding.proofs.Found.{FoundAt, found-at}
 use Rattle.finding.proofs.SizeBySize.{clauses-over}
 use Rattle.finding.proofs.Endings.{ends-found}
@@ -52,7 +52,7 @@ module _ (sheet : List ℕ) (p : Problem) (n : Numbering) (size room : ℕ) (h :
 
   pub written-ends : (low high length′ : ℕ) (work work′ output output′ : List ℕ) → length′ ≡ caseLength size (signatureIn sheet (p .signature)) → work′ ≡ replicate (length work) 0
       → output′ ≡ over (caseText size (signatureIn sheet (p .signature)) (readBack size (signatureIn sheet (p .signature)) (bitsHeld [] zs))) output
-      → Ends (answer (searchOf (problemIn sheet p) low high (withSize size (leastModel size (problemIn sheet p))))) (find.Found size length′) work work′ output output′
+      → SearchingCall (answer (searchOf (problemIn sheet p) low high (withSize size (leastModel size (problemIn sheet p))))) (find.Found size length′) work work′ output output′
   unfolding problemIn
   written-ends low high length′ work work′ output output′ l w o =
       ends-found (problemIn sheet p) low high work work′ output output′ size length′ (settingOf zs) found l w

@@ -9,18 +9,10 @@ use Rattle.theory.specs.Refusals.{Answer, answer, unplaced, needing, _>>=_, che
 use Rattle.theory.specs.Problem as theory
 use Rattle.theory.specs.CaseText.{caseLength}
 use Rattle.theory.specs.Least.{smallestModel}
-use Rattle.theory.specs.Operations.{maxSize, maxInstances, Search, searchOf, findAnswer, findWork, findOutput}
-use Rattle.answers.specs.declared.FindAnswer.{FindAnswer}
-use Rattle.answers.specs.Answers.{findIn}
+use Rattle.theory.specs.Operations.{maxSize, maxInstances, Search, searchOf}
 use Rattle.syntax.specs.declared.limits.Problem.{Problem}
 use Rattle.problem.specs.Problems.{problemIn}
 use Rattle.finding.specs.Searching.{Searchable}
-
--- the answer is r, and work and output are left as Find leaves them with this result
-pub record Ends (a : Answer Search) (r : FindAnswer) (work work′ output output′ : List ℕ) : Type 0 where
-  pub answer : findIn r ≡ findAnswer a
-  pub worked : work′ ≡ findWork a work
-  pub left : output′ ≡ findOutput a output
 
 -- what Find finds of a problem that was read
 unfoldable pub foundIn : theory.Problem → ℕ → ℕ → ℕ → ℕ → Answer Search

@@ -22,10 +22,9 @@ ghost use lib.Dec.{leb};
 ghost use lib.ListN.{length};
 ghost use Rattle.theory.specs.Refusals.{answer};
 ghost use Rattle.theory.specs.Problem.{readProblem};
-ghost use Rattle.theory.specs.Operations.{findAnswer, findOutput, findResult, findWork};
-ghost use Rattle.answers.specs.Answers.{findIn};
+ghost use Rattle.answers.specs.Calls.{FindCall, SearchingCall};
 ghost use Rattle.problem.specs.Problems.{Accepted, problemIn};
-ghost use Rattle.finding.specs.Ending.{Ends, foundIn};
+ghost use Rattle.finding.specs.Ending.{foundIn};
 
 pub fn find_model(
     sheet: &[u8],
@@ -34,9 +33,7 @@ pub fn find_model(
     work: &mut [u32],
     output: &mut [u8],
 ) -> FindAnswer
-    ensures answer { λ r. ⌜ findIn r ≡ findAnswer (findResult (now (sheet .entry)) low high (length (now (work .entry))) (length (now (output .entry)))) ⌝ }
-    ensures worked { λ r. ⌜ now (work .exit) ≡ findWork (findResult (now (sheet .entry)) low high (length (now (work .entry))) (length (now (output .entry)))) (now (work .entry)) ⌝ }
-    ensures left { λ r. ⌜ now (output .exit) ≡ findOutput (findResult (now (sheet .entry)) low high (length (now (work .entry))) (length (now (output .entry)))) (now (output .entry)) ⌝ }
+    ensures { λ r. ⌜ FindCall (now (sheet .entry)) low high r (now (work .entry)) (now (work .exit)) (now (output .entry)) (now (output .exit)) ⌝ }
 {
     let r = read_problem(sheet);
     if r.fault != 0 {
@@ -56,7 +53,7 @@ fn find_in(
     output: &mut [u8],
 ) -> FindAnswer
     requires { ⌜ Accepted (now sheet) p × (readProblem (now sheet) ≡ answer (problemIn (now sheet) p)) ⌝ }
-    ensures { λ r. ⌜ Ends (foundIn (problemIn (now (sheet .entry)) p) low high (length (now (work .entry))) (length (now (output .entry)))) r (now (work .entry)) (now (work .exit)) (now (output .entry)) (now (output .exit)) ⌝ }
+    ensures { λ r. ⌜ SearchingCall (foundIn (problemIn (now (sheet .entry)) p) low high (length (now (work .entry))) (length (now (output .entry)))) r (now (work .entry)) (now (work .exit)) (now (output .entry)) (now (output .exit)) ⌝ }
 {
     if !are_sizes(low, high) {
         return FindAnswer::Refused(at_line(8, 0));

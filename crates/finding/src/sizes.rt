@@ -17,12 +17,13 @@ ghost use Rattle.theory.specs.Least.{leastModel, smallestModel, withSize};
 ghost use Rattle.theory.specs.Walk.{searched};
 ghost use Rattle.theory.specs.Refusals.{answer};
 ghost use Rattle.theory.specs.Operations.{searchOf};
+ghost use Rattle.answers.specs.Calls.{SearchingCall};
 ghost use Rattle.syntax.specs.Signatures.{signatureIn};
 ghost use Rattle.problem.specs.Problems.{problemIn};
 ghost use Rattle.search.specs.Search.{searchAnswer};
 ghost use Rattle.valuations.specs.Numbers.{NumberingOf};
 ghost use Rattle.finding.specs.Searching.{Searchable};
-ghost use Rattle.finding.specs.Ending.{Ends, Sizes};
+ghost use Rattle.finding.specs.Ending.{Sizes};
 
 // Searches the sizes from low to high.
 pub fn search_sizes(
@@ -34,7 +35,7 @@ pub fn search_sizes(
     output: &mut [u8],
 ) -> FindAnswer
     requires { ⌜ Sizes (now sheet) p low high (length (now work)) (length (now output)) ⌝ }
-    ensures { λ r. ⌜ Ends (answer (searchOf (problemIn (now (sheet .entry)) p) low high (smallestModel (problemIn (now (sheet .entry)) p) low high))) r (now (work .entry)) (now (work .exit)) (now (output .entry)) (now (output .exit)) ⌝ }
+    ensures { λ r. ⌜ SearchingCall (answer (searchOf (problemIn (now (sheet .entry)) p) low high (smallestModel (problemIn (now (sheet .entry)) p) low high))) r (now (work .entry)) (now (work .exit)) (now (output .entry)) (now (output .exit)) ⌝ }
 {
     let signature = p.signature;
     let mut size = low;
@@ -62,7 +63,7 @@ fn put_found(
     requires { ⌜ NumberingOf (signatureIn (now sheet) (p .signature)) size n ⌝ }
     requires { ⌜ searched size (problemIn (now sheet) p) .answer ≡ searchAnswer true (take (n .count) (now work)) ⌝ }
     requires { ⌜ caseLength size (problemIn (now sheet) p .symbols) ≤ length (now output) ⌝ }
-    ensures { λ r. ⌜ ((low high : ℕ) → Ends (answer (searchOf (problemIn (now (sheet .entry)) p) low high (withSize size (leastModel size (problemIn (now (sheet .entry)) p))))) r (now (work .entry)) (now (work .exit)) (now (output .entry)) (now (output .exit))) ⌝ }
+    ensures { λ r. ⌜ ((low high : ℕ) → SearchingCall (answer (searchOf (problemIn (now (sheet .entry)) p) low high (withSize size (leastModel size (problemIn (now (sheet .entry)) p))))) r (now (work .entry)) (now (work .exit)) (now (output .entry)) (now (output .exit))) ⌝ }
 {
     let v = n.count as usize;
     let signature = p.signature;

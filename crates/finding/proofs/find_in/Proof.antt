@@ -10,8 +10,9 @@ use Rattle.theory.specs.CaseText.{caseLength}
 use Rattle.theory.specs.Refusals.{Answer, unplaced, needing}
 use Rattle.theory.specs.Operations.{Search}
 use Rattle.theory.proofs.Parsing.{readProblem-bytes}
+use Rattle.answers.specs.Calls.{SearchingCall}
 use Rattle.problem.specs.Problems.{problemIn}
-use Rattle.finding.specs.Ending.{Ends, foundIn}
+use Rattle.finding.specs.Ending.{foundIn}
 use Rattle.finding.proofs.Endings.{ends-refused}
 use Rattle.finding.proofs.Refusing.{areSizes, sizes-bounds, refused-8, refused-9, refused-10, refused-11, searches, work-is, length-is, all-sizes}
 use borrow.Author.Needs.{needs}
@@ -197,7 +198,7 @@ returns-5 c =
     let m = c .before .before .before .before .before .before .before .before .case-length in
     let case : m .result ≡ caseLength (a .high) (q .symbols) = length-is (a .sheet .now) (a .p) (a .high) (m .result) (m .ensures (a .sheet .now) (s .pre .0 .readable)) in
     let t = c .before .before .before .before .search-sizes in
-    subst (λ (o : Answer Search). Ends o (t .result) (a .work .now) (t .last .1 .1 .1 .1 .0) (a .output .now) (t .last .1 .1 .1 .1 .1 .0))
+    subst (λ (o : Answer Search). SearchingCall o (t .result) (a .work .now) (t .last .1 .1 .1 .1 .0) (a .output .now) (t .last .1 .1 .1 .1 .1 .0))
     (sym (searches q (a .low) (a .high) W R sizes few enough (omega (arith, case, c .before .before .before .before .before .before .before .if4 .left)))) (t .ensures)
 
 pub find-in-spec : {M : Type 1} → statement M

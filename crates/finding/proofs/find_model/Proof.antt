@@ -3,9 +3,9 @@ use mathlib.Core.Path.{sym, subst}
 use lib.ListN.{length}
 use Rattle.theory.specs.Refusals.{Answer, atLine}
 use Rattle.theory.specs.Operations.{Search, findResult}
+use Rattle.answers.specs.Calls.{SearchingCall}
 use Rattle.problem.specs.Problems.{problemIn}
 use Rattle.problem.proofs.SheetRead.{sheet-accepted, sheet-refused}
-use Rattle.finding.specs.Ending.{Ends}
 use Rattle.finding.proofs.Endings.{ends-refused}
 use Rattle.finding.proofs.Refusing.{result-refused, result-read}
 use borrow.Author.Needs.{needs}
@@ -33,9 +33,8 @@ returns c =
     let W = length (a .work .now) in
     let R = length (a .output .now) in
     let q = atLine (r .result .fault) (r .result .line) in
-    let e = ends-refused (findResult (a .sheet .now) (a .low) (a .high) W R) (c .at-line .result) q (a .work .now) (a .output .now)
-    (result-refused (a .sheet .now) (a .low) (a .high) W R q (sheet-refused (a .sheet .now) (r .result) (r .ensures .0) (c .before .if1 .taken))) (c .at-line .ensures) in
-    (e .answer, (e .worked, e .left))
+    ends-refused (findResult (a .sheet .now) (a .low) (a .high) W R) (c .at-line .result) q (a .work .now) (a .output .now)
+    (result-refused (a .sheet .now) (a .low) (a .high) W R q (sheet-refused (a .sheet .now) (r .result) (r .ensures .0) (c .before .if1 .taken))) (c .at-line .ensures)
 
 -- src/lib.rt:49:5
 find-in-requires : tie.Need-find-in-requires
@@ -60,9 +59,8 @@ returns-2 c =
     let f = c .before .before .before .before .find-in in
     let W = length (a .work .now) in
     let R = length (a .output .now) in
-    let e = subst (λ (o : Answer Search). Ends o (f .result) (a .work .now) (f .last .1 .1 .1 .1 .0) (a .output .now) (f .last .1 .1 .1 .1 .1 .0))
-    (sym (result-read (a .sheet .now) (problemIn (a .sheet .now) (r .result .problem)) (a .low) (a .high) W R (sheet-accepted (a .sheet .now) (r .result) (r .ensures .0) (c .before .before .before .before .before .before .before .before .if1 .left)))) (f .ensures) in
-    (e .answer, (e .worked, e .left))
+    subst (λ (o : Answer Search). SearchingCall o (f .result) (a .work .now) (f .last .1 .1 .1 .1 .0) (a .output .now) (f .last .1 .1 .1 .1 .1 .0))
+    (sym (result-read (a .sheet .now) (problemIn (a .sheet .now) (r .result .problem)) (a .low) (a .high) W R (sheet-accepted (a .sheet .now) (r .result) (r .ensures .0) (c .before .before .before .before .before .before .before .before .if1 .left)))) (f .ensures)
 
 pub find-model-spec : {M : Type 1} → statement M
 find-model-spec =
