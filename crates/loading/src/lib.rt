@@ -9,6 +9,7 @@ ghost use Rattle.loading.specs.Filling.{endsWith, enters};
 ghost use Rattle.loading.specs.Loading.{Tallyable, Tallies, Boundable, LaysOut, LiteralEnterable, Enterable, EntersNext, KeepsClauses, PrefersMore};
 use indices::PropVar;
 use propagation::weights;
+use propagation::weights::Weight;
 
 // The first `count` numbers become zeros.
 pub fn clear(work: &mut [u32], count: usize)
@@ -99,7 +100,7 @@ pub fn enter_literal(work: &mut [u32], v: usize, literal: u32, address: u32)
     let weight = work[place];
     work[to] = address;
     work[at + 1] = end + 1;
-    work[place] = weight + 64 * literal + 1;
+    work[place] = weight + Weight::BASE * literal + 1;
 }
 
 // Enters the next of the counted clauses, `number` of which are entered.

@@ -1,5 +1,5 @@
--- Laws of counts of values, and of what a push leaves.
-use mathlib.Core.Path.{_≡_, refl, sym, ap, _∙_}
+-- Laws of counts of values, of what a push leaves, and of what a visit does.
+use mathlib.Core.Path.{_≡_, refl, _∙_}
 use mathlib.Core.Bool.{Bool, true, false, cond}
 use mathlib.Core.List.{List, [], _∷_}
 use Prim.Native.Nat.{ℕ, zero, suc, _+_, _*_, _/_, _%_, _≤_, _<_}
@@ -9,7 +9,7 @@ use borrow.Author.Tests.{eq-eqb, ne-eqb}
 use lib.Dec.{eqb}
 use lib.ListN.{length, getD, set, take}
 use lib.Seq.{getD-take, length-take-le, take-set-lt, take-set-le}
-use Rattle.propagation.specs.Units.{setCount, pushed, Visit, visited, forced, stays}
+use Rattle.propagation.specs.Units.{setCount, pushed, visited, forced, stays}
 
 one-at-most : (b : Bool) → cond b 0 1 ≤ 1
 one-at-most true = omega arith
@@ -43,10 +43,6 @@ pushed-count v n u mark w l h e =
     let m = length-take-le v w (omega arith) in
     rw (take-set-le v (set w (u / 2) (1 + u % 2)) (v + n) (2 * u + mark) (omega arith), take-set-lt v w (u / 2) (1 + u % 2) h)
     (count-set (take v w) (u / 2) (1 + u % 2) (omega (arith, m)) (getD-take v w (u / 2) 0 h ∙ e) (omega arith))
-
--- the parts of two equal visits
-pub parts : (a b : Visit) → a ≡ b → (b .len ≡ a .len) × (b .clash ≡ a .clash) × (b .mem ≡ a .mem)
-parts a b e = (ap (λ (r : Visit). r .len) (sym e), ap (λ (r : Visit). r .clash) (sym e), ap (λ (r : Visit). r .mem) (sym e))
 
 -- what a visit does, by the clause's weight t and the value of the variable that it names
 module _ (v q n : ℕ) (w : List ℕ) where

@@ -15,7 +15,8 @@ use Rattle.theory.proofs.Answers.{bind-step, bind-refused, check-of-true, check
 use Rattle.theory.proofs.Parsing.{readProblem-bytes}
 use Rattle.answers.specs.declared.Refusal as code
 use Rattle.answers.specs.declared.WriteAnswer.the-variants.{Written, Refused}
-use Rattle.answers.specs.Answers.{refusalIn, lengthIn}
+use Rattle.answers.specs.Answers.{refusalIn}
+use Rattle.answers.specs.Calls.{WritingCall}
 use Rattle.syntax.specs.declared.size.DomainSize.{DomainSize}
 use Rattle.syntax.specs.declared.size.SizeCheck.{SizeCheck}
 use Rattle.syntax.specs.declared.size.SizeCheck.the-variants as size
@@ -28,13 +29,13 @@ use Rattle.problem.proofs.SheetRead.{sheet-accepted, sheet-refused}
 use Rattle.reading_back.specs.Settings.{settingText}
 
 -- a refusal leaves the output as it was
-pub refused-so : (q : code.Refusal) (r : Refusal) (a : Answer (List ℕ)) (out : List ℕ) → refusalIn q ≡ r → a ≡ refused r → (lengthIn (Refused q) ≡ lengthAnswer a) × (out ≡ outputAfter a out)
-refused-so q r a out e h = (ap refused e ∙ sym (ap lengthAnswer h), sym (ap (λ (a : Answer (List ℕ)). outputAfter a out) h))
+pub refused-so : (q : code.Refusal) (r : Refusal) (a : Answer (List ℕ)) (out : List ℕ) → refusalIn q ≡ r → a ≡ refused r → WritingCall a (Refused q) out out
+refused-so q r a out e h = record { answer = ap refused e ∙ sym (ap lengthAnswer h); left = sym (ap (λ (a : Answer (List ℕ)). outputAfter a out) h) }
 
 -- a text stands at the front of the output
 pub written-so : (n : ℕ) (text : List ℕ) (a : Answer (List ℕ)) (out out′ : List ℕ) → n ≡ length text → out′ ≡ over text out → a ≡ answer text
-    → (lengthIn (Written n) ≡ lengthAnswer a) × (out′ ≡ outputAfter a out)
-written-so n text a out out′ e p h = (ap answer e ∙ sym (ap lengthAnswer h), p ∙ sym (ap (λ (a : Answer (List ℕ)). outputAfter a out) h))
+    → WritingCall a (Written n) out out′
+written-so n text a out out′ e p h = record { answer = ap answer e ∙ sym (ap lengthAnswer h); left = p ∙ sym (ap (λ (a : Answer (List ℕ)). outputAfter a out) h) }
 
 module _ (s : ℕ) (g : Signature) (setting : List ℕ) (room : ℕ) where
   pub no-valuation : isValuation s g setting ≡ false → settingText s g setting room ≡ refused (unplaced 13)

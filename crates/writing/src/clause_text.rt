@@ -13,8 +13,7 @@ use valuations::numbering::numbering_of;
 ghost use mathlib.Core.Path.{_≡_};
 ghost use Prim.Native.Nat.{_+_, _≤_};
 ghost use lib.ListN.{length};
-ghost use Rattle.theory.specs.Operations.{lengthAnswer, outputAfter};
-ghost use Rattle.answers.specs.Answers.{lengthIn};
+ghost use Rattle.answers.specs.Calls.{WritingCall};
 ghost use Rattle.text.specs.Put.{put};
 ghost use Rattle.stream.specs.Consuming.{texts};
 ghost use Rattle.valuations.specs.Numbers.{NumberingOf};
@@ -24,8 +23,7 @@ ghost use Rattle.writing.specs.Texts.{Writable, clausesAt, textWithin};
 
 pub fn write_text(sheet: &[u8], p: Problem, s: DomainSize, output: &mut [u8]) -> WriteAnswer
     requires { ⌜ Writable (now sheet) p (s .0) ⌝ }
-    ensures answer { λ r. ⌜ lengthIn r ≡ lengthAnswer (textWithin (problemIn (now (sheet .entry)) p) (s .0) (length (now (output .entry)))) ⌝ }
-    ensures left { λ r. ⌜ now (output .exit) ≡ outputAfter (textWithin (problemIn (now (sheet .entry)) p) (s .0) (length (now (output .entry)))) (now (output .entry)) ⌝ }
+    ensures { λ r. ⌜ WritingCall (textWithin (problemIn (now (sheet .entry)) p) (s .0) (length (now (output .entry)))) r (now (output .entry)) (now (output .exit)) ⌝ }
 {
     let n = numbering_of(p.signature, s);
     let m = measured(sheet, p, n, s);

@@ -29,7 +29,7 @@ put-result-requires : tie.Need-put-result-requires
 put-result-requires c κs =
     let z = c .before .before .before .before .before .before .before .before .before .before .before in
     let f = c .before .before .before .before .before .find in
-    reportable (z .args .out .now) (z .pre .1) (z .args .sheet .now) (z .args .low) (z .args .high) (length (z .args .work .now)) (z .pre .0) (f .result) (f .last .1 .1 .1 .1 .0) (f .kept .1 .1 .1 .1 .0) (f .ensures .0) (f .ensures .1 .1)
+    reportable (z .args .out .now) (z .pre .1) (z .args .sheet .now) (z .args .low) (z .args .high) (length (z .args .work .now)) (z .pre .0) (f .result) (f .last .1 .1 .1 .1 .0) (f .kept .1 .1 .1 .1 .0) (f .ensures .answer) (f .ensures .left)
 
 -- src/lib.rt:48:1
 same-length : tie.Need-same-length
@@ -46,7 +46,7 @@ returns c =
     let z = c .before .before .before .before .before .before .before .before .before .before .before .before .before .before in
     let f = c .before .before .before .before .before .before .before .before .find in
     c .before .before .put-result .ensures
-    (reportable (z .args .out .now) (z .pre .1) (z .args .sheet .now) (z .args .low) (z .args .high) (length (z .args .work .now)) (z .pre .0) (f .result) (f .last .1 .1 .1 .1 .0) (f .kept .1 .1 .1 .1 .0) (f .ensures .0) (f .ensures .1 .1))
+    (reportable (z .args .out .now) (z .pre .1) (z .args .sheet .now) (z .args .low) (z .args .high) (length (z .args .work .now)) (z .pre .0) (f .result) (f .last .1 .1 .1 .1 .0) (f .kept .1 .1 .1 .1 .0) (f .ensures .answer) (f .ensures .left))
 
 pub search-sheet-spec : {M : Type 1} → statement M
 search-sheet-spec =

@@ -67,7 +67,7 @@ returns-3 c =
     let d = c .before .before .before .before .before .s .given in
     let p = c .before .before .write-setting in
     let e = setting-left (a .sheet .now) (r .result) (r .ensures .0) (c .before .before .before .before .before .before .before .before .before .if1 .left) (a .size) (k .result) (k .ensures) (d .0 .0) (d .1) (a .setting .now) (length (a .output .now)) in
-    (p .ensures .0 ∙ ap lengthAnswer (sym e), p .ensures .1 ∙ ap (λ (t : Answer (List ℕ)). outputAfter t (a .output .now)) (sym e))
+    record { answer = p .ensures .answer ∙ ap lengthAnswer (sym e); left = p .ensures .left ∙ ap (λ (t : Answer (List ℕ)). outputAfter t (a .output .now)) (sym e) }
 
 pub read-setting-back-spec : {M : Type 1} → statement M
 read-setting-back-spec =
