@@ -53,7 +53,7 @@ fn symbol_at(sheet: &[u8], from: usize, end: usize, function: bool, before: Sign
         return SymbolLine::Fault(2);
     }
     let arity = digit - 48;
-    if 3 < arity {
+    if Problem::MAX_ARITY < arity as usize {
         return SymbolLine::Fault(3);
     }
     if !is_name(&sheet[from..slash]) {
@@ -73,7 +73,7 @@ fn symbol_at(sheet: &[u8], from: usize, end: usize, function: bool, before: Sign
     )
 }
 
-// A lower-case letter, then name bytes, 12 bytes at most.
+// A lower-case letter, then name bytes, MAX_NAME bytes at most.
 fn is_name(name: &[u8]) -> bool
     ensures { λ r. ⌜ r ≡ isName (now (name .entry)) ⌝ }
 {
