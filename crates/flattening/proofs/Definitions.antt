@@ -10,11 +10,11 @@ use Rattle.theory.specs.Lists.{upFrom, upTo}
 use Rattle.theory.specs.Syntax.{Signature, symbolAt, Term, variable, apply, Clause, count, functionOf, variables, termOk, termsOk}
 use Rattle.theory.specs.Syntax as theory
 use Rattle.theory.specs.Flattening.{merged, turned, liftedTerms, FlatVariable, new, variablesFor, flatResult, FlatLiteral, termEquals, shallow, definitions, flatten, variableCount}
+use Rattle.theory.specs.Lifted.{isApply}
 use Rattle.theory.proofs.Tests.{and-left}
 use Rattle.theory.proofs.Lists.{all-at, map-upFrom, map-add-upFrom, upFrom-append}
 use Rattle.theory.proofs.Letters.{merged-length}
 use Rattle.theory.proofs.Declared.{functionOf→}
-use Rattle.theory.proofs.LiftedTerms.{isApply}
 use Rattle.syntax.specs.declared.words.ClauseWords.{ClauseWords}
 use Rattle.syntax.specs.Signatures.{Small}
 use Rattle.syntax.specs.Codes.{clauseIn}
@@ -24,10 +24,10 @@ use Rattle.lifting.proofs.Sharing.{SameThree}
 use Rattle.shallow.specs.declared.literals.Literal.{Literal}
 use Rattle.shallow.specs.declared.literals.Lifting.{Lifting}
 use Rattle.shallow.specs.Placed.{placedVariable, placedLiteral, placed}
-use Rattle.shallow.specs.Literals.{noLiteral, literalIn, threeAt}
+use Rattle.shallow.specs.Literals.{noLiteral, literalIn, threeAt, literalWith}
 use Rattle.shallow.specs.Flattenable.{Flattenable}
 use Rattle.shallow.specs.Shallow.{Made, ClauseLifted}
-use Rattle.shallow.proofs.Written.{literalWith, literalIn-three, arguments-right}
+use Rattle.shallow.proofs.Written.{literalIn-three, arguments-right}
 use Rattle.flattening.specs.declared.flat.FlatClause.{FlatClause}
 use Rattle.flattening.specs.Flat.{flatIn}
 use Rattle.flattening.specs.Assembled.{definitionAt, Assemblable, Assembled}

@@ -4,10 +4,10 @@
 use flattening::flat::FlatClause;
 use indices::PropVar;
 use interpretation::vector::power;
+use propagation::literals::literal;
 use shallow::literals::Literal;
 use shallow::literals::Shape;
 use valuations::numbering::Numbering;
-use valuations::numbering::literal;
 ghost use mathlib.Core.Path.{_≡_};
 ghost use mathlib.Core.List.{[], _∷_};
 ghost use Prim.Native.Nat.{_+_, _≤_};

@@ -4,14 +4,13 @@ use mathlib.Core.Path.{_≡_}
 use mathlib.Core.Bool.{Bool, true}
 use mathlib.Core.List.{List, [], _∷_, _++_, map}
 use lib.ListN.{length, getD, set, replicate}
-use Rattle.theory.proofs.WellFormed.{within}
 use Rattle.theory.specs.Lists.{all, upTo}
 use Rattle.theory.specs.Syntax.{Signature, Term, equal, Clause, termVariables, atomVariables, variables, termOk, atomOk}
 use Rattle.theory.specs.Syntax as theory
 use Rattle.theory.specs.Grammar.{Word, sign, termWords, atomWords}
 use Rattle.theory.specs.Problem.{maxWords, maxLiterals, maxArity}
 use Rattle.theory.specs.Flattening.{merged, turnedAtom, turned, toLift, addTerms, liftedTerms, shallow}
-use Rattle.theory.proofs.LiftedTerms.{coveredAtom}
+use Rattle.theory.specs.Lifted.{within, coveredAtom}
 use Rattle.syntax.specs.declared.words.ClauseWords.{ClauseWords}
 use Rattle.syntax.specs.Codes.{clauseIn}
 use Rattle.lifting.specs.declared.table.Table.{Table}
