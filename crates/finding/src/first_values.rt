@@ -15,20 +15,20 @@ ghost use Rattle.syntax.specs.Signatures.{signatureIn};
 ghost use Rattle.clauses.specs.Names.{Limited};
 
 // The first values of all v variables, symbol by symbol.
-pub fn prefer_all(signature: Signature, size: usize, v: usize, work: &mut [u32])
-    requires { ⌜ Limited signature × (size ≤ 8) ⌝ }
-    requires { ⌜ ((sheet : List ℕ) → v ≡ propCount size (signatureIn sheet signature)) ⌝ }
+pub fn prefer_all(signature: Signature, size: DomainSize, v: usize, work: &mut [u32])
+    requires { ⌜ Limited signature × (size .0 ≤ 8) ⌝ }
+    requires { ⌜ ((sheet : List ℕ) → v ≡ propCount (size .0) (signatureIn sheet signature)) ⌝ }
     requires { ⌜ Regions v (now work) ⌝ }
     ensures clauses { λ _. ⌜ KeepsClauses v (now (work .entry)) (now (work .exit)) ⌝ }
-    ensures values { λ _. ⌜ ((sheet : List ℕ) → Prefers v v (yesFirst size (signatureIn sheet signature)) (now (work .exit))) ⌝ }
+    ensures values { λ _. ⌜ ((sheet : List ℕ) → Prefers v v (yesFirst (size .0) (signatureIn sheet signature)) (now (work .exit))) ⌝ }
 {
     let mut from = PropVar(0);
     let mut i: usize = 0;
     while i < signature.count {
         let symbol = signature.symbols[i];
-        let to = PropVar(from.0 + block_size(symbol, DomainSize(size)));
-        prefer(work, v, from, to, symbol.function);
-        from = to;
+        let end = from.0 + block_size(symbol, size);
+        prefer(work, v, from, PropVar(end), symbol.function);
+        from = PropVar(end);
         i += 1;
     }
 }

@@ -11,13 +11,11 @@ use syntax::size::SizeCheck;
 use valuations::numbering::numbering_of;
 use valuations::valuation::is_functional;
 use valuations::valuation::is_valuation;
-ghost use mathlib.Core.Path.{_≡_};
 ghost use Prim.Native.Nat.{_≤_};
 ghost use lib.ListN.{length};
-ghost use Rattle.answers.specs.Calls.{ReadBackCall, WritingCall};
-ghost use Rattle.syntax.specs.Signatures.{signatureIn};
+ghost use Rattle.answers.specs.Calls.{ReadBackCall};
 ghost use Rattle.clauses.specs.Names.{Readable};
-ghost use Rattle.reading_back.specs.Settings.{settingText};
+ghost use Rattle.reading_back.specs.Settings.{SettingCall};
 
 // The sheet's refusals, 8, then those of the setting and the output.
 pub fn read_setting_back(sheet: &[u8], size: u64, setting: &[u8], output: &mut [u8]) -> WriteAnswer
@@ -43,7 +41,7 @@ fn write_setting(
     output: &mut [u8],
 ) -> WriteAnswer
     requires { ⌜ Readable (now sheet) signature × ((length (now sheet) ≤ 16384) × ((1 ≤ size .0) × (size .0 ≤ 8))) ⌝ }
-    ensures { λ r. ⌜ WritingCall (settingText (size .0) (signatureIn (now (sheet .entry)) signature) (now (setting .entry)) (length (now (output .entry)))) r (now (output .entry)) (now (output .exit)) ⌝ }
+    ensures { λ r. ⌜ SettingCall (now (sheet .entry)) signature (size .0) (now (setting .entry)) r (now (output .entry)) (now (output .exit)) ⌝ }
 {
     let n = numbering_of(signature, size);
     if !is_valuation(setting, n) {

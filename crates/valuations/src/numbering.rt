@@ -6,7 +6,7 @@ use syntax::signature::Symbol;
 use syntax::size::DomainSize;
 ghost use mathlib.Core.Path.{_≡_};
 ghost use mathlib.Core.List.{List};
-ghost use Prim.Native.Nat.{ℕ, _+_, _*_, _^_, _≤_, _<_};
+ghost use Prim.Native.Nat.{ℕ, _*_, _^_, _≤_};
 ghost use Rattle.theory.specs.Propositional as theory;
 ghost use Rattle.syntax.specs.Signatures.{kindOf, signatureIn};
 ghost use Rattle.clauses.specs.Names.{Limited};

@@ -25,12 +25,12 @@ slice-aggregate-all-clauses c = search needs
 -- src/one_size.rt:34:9
 all-clauses-requires : tie.Need-all-clauses-requires
 all-clauses-requires c κs =
-    let s = c .before .before .before .before .before .before .before .before in
+    let s = c .before .before .before .before .before .before .before .before .before in
     let a = s .args in
-    let k = c .before .before .before .before .clear-all in
+    let k = c .before .before .before .before .before .clear-all in
     let n = length (a .work .now) in (
       (s .pre .0 .accepted, s .pre .0 .within),
-      (s .pre .1, tally-begins (a .sheet .now) (a .p) (a .size) n (a .n .count) (s .pre .0) (s .pre .1 .count) (0 ∷ []) (k .last .0) n (k .ensures) (k .kept .0)),
+      (s .pre .1, tally-begins (a .sheet .now) (a .p) (a .size .0) n (a .n .count) (s .pre .0) (s .pre .1 .count) (0 ∷ []) (k .last .0) n (k .ensures) (k .kept .0)),
     )
 
 -- src/one_size.rt:26:1
@@ -40,12 +40,12 @@ same-length c = search needs
 -- src/one_size.rt:26:1
 returns : tie.Need-returns
 returns c =
-    let s = c .before .before .before .before .before .before .before .before .before .before .before .before in
+    let s = c .before .before .before .before .before .before .before .before .before .before .before .before .before in
     let a = s .args in
-    let k = c .before .before .before .before .before .before .before .before .clear-all in
+    let k = c .before .before .before .before .before .before .before .before .before .clear-all in
     let t = c .before .before .before .all-clauses in
     let n = length (a .work .now) in
-    tally-ends (a .sheet .now) (a .p) (a .size) n (a .n .count) (s .pre .0) (s .pre .1 .count) (0 ∷ []) (k .last .0) n (k .ensures) (k .kept .0) (t .result) (t .last .1 .1 .1 .1 .1 .0) (t .last .1 .1 .1 .1 .1 .1 .0) (t .ensures)
+    tally-ends (a .sheet .now) (a .p) (a .size .0) n (a .n .count) (s .pre .0) (s .pre .1 .count) (0 ∷ []) (k .last .0) n (k .ensures) (k .kept .0) (t .result) (t .last .1 .1 .1 .1 .1 .0) (t .last .1 .1 .1 .1 .1 .1 .0) (t .ensures)
 
 pub count-clauses-spec : {M : Type 1} → statement M
 count-clauses-spec =

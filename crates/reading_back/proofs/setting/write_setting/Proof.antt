@@ -2,7 +2,7 @@
 use borrow.Author.Needs.{needs}
 use borrow.Author.Tests.{not-true, not-false}
 use Prim.Native.Nat.{ℕ}
-use mathlib.Core.Path.{sym, ap, _∙_, subst}
+use mathlib.Core.Path.{_≡_, sym, ap, _∙_, subst}
 use mathlib.Core.List.{List}
 use native.Mathlib.Omega.{arith}
 use lib.ListN.{length}
@@ -10,6 +10,7 @@ use Rattle.theory.specs.Refusals.{unplaced, needing}
 use Rattle.theory.specs.CaseText.{caseText, caseLength}
 use Rattle.theory.specs.Operations.{over}
 use Rattle.theory.specs.Valuation.{readBack}
+use Rattle.answers.specs.Answers.{refusalIn}
 use Rattle.syntax.specs.Signatures.{signatureIn}
 use Rattle.valuations.proofs.Bits.{is-counted, is-binary}
 use Rattle.reading_back.specs.Bits.{WritableBits}
@@ -85,7 +86,8 @@ returns-3 c =
     let f = c .before .before .before .before .is-functional in
     let functional = sym (f .ensures (a .sheet .now)) ∙ not-false (f .result) (c .before .before .before .if2 .left) in
     let l = c .before .before .case-length .ensures (a .sheet .now) (s .pre .0) in
-    refused-so (c .needing .result) (needing 11 (caseLength (a .size .0) g)) _ (a .output .now) (c .needing .ensures ∙ ap (needing 11) l)
+    let told : refusalIn (c .needing .result) ≡ needing 11 (c .before .before .case-length .result) = c .needing .ensures in
+    refused-so (c .needing .result) (needing 11 (caseLength (a .size .0) g)) _ (a .output .now) (told ∙ ap (needing 11) l)
     (no-room (a .size .0) g (a .setting .now) (length (a .output .now)) valuation functional (omega (arith, c .before .if3 .taken, l)))
 
 slice-aggregate-write-case : tie.Need-slice-aggregate-write-case
