@@ -1,5 +1,5 @@
 -- What the reader of a case answers, and what stands in the cells then.
-use Prim.Native.Nat.{ℕ, _+_, _≤_}
+use Prim.Native.Nat.{ℕ, _+_, _^_, _≤_}
 use mathlib.Core.Path.{_≡_}
 use mathlib.Core.Bool.{Bool, cond}
 use mathlib.Core.Option.{Option, none, some}
@@ -10,6 +10,9 @@ use Rattle.theory.specs.Syntax.{Kind, Symbol, Signature}
 use Rattle.theory.specs.Cells.{tableSize, cellCount}
 use Rattle.theory.specs.Refusals.{Answer, answer, refused, atLine, _>>=_, check}
 use Rattle.theory.specs.CaseText.{equalsSign, readTable, readTables, Case, sizeOf}
+use Rattle.syntax.specs.declared.signature.Symbol as declared
+use Rattle.syntax.specs.declared.size.SizeCheck.{SizeCheck}
+use Rattle.syntax.specs.declared.size.SizeCheck.the-variants as size
 use Rattle.cases.specs.declared.reading.CaseReading.{CaseReading}
 use Rattle.cases.specs.declared.reading.CaseReading.the-variants.{Read, Refused}
 use Rattle.cases.specs.declared.reading.TableLine.{TableLine}
@@ -18,13 +21,18 @@ use Rattle.cases.specs.Values.{valuesAfter}
 
 -- the case that was read into the cells, or the refusal
 abbrev pub caseIn : Signature → CaseReading → List ℕ → Answer Case
-caseIn g (Read s) cells = answer (record { size = s; values = take (cellCount s g) cells })
+caseIn g (Read s) cells = answer (record { size = s .0; values = take (cellCount (s .0) g) cells })
 caseIn g (Refused l) cells = refused (atLine 12 l)
 
--- the size that follows the key, or 0
-abbrev pub sizeAfter : Option (List ℕ) → ℕ
-sizeAfter none = 0
-sizeAfter (some v) = elim (sizeOf v) [ some s ↦ s | none ↦ 0 ]
+-- the size found, if there is one
+abbrev pub sizeFound : Option ℕ → SizeCheck
+sizeFound none = size.Refused
+sizeFound (some s) = size.Is (record { 0 = s })
+
+-- the size that follows the key
+abbrev pub sizeAfter : Option (List ℕ) → SizeCheck
+sizeAfter none = size.Refused
+sizeAfter (some v) = sizeFound (sizeOf v)
 
 -- the case of size s whose symbols' lines are the text
 unfoldable pub caseOfTables : ℕ → Signature → List ℕ → Answer Case
@@ -47,6 +55,15 @@ tableLineIn case l vs Fault = refused (atLine 12 l)
 abbrev pub NextTableWithin : ℕ → TableLine → Type 0
 NextTableWithin n (Next after) = after ≤ n
 NextTableWithin n Fault = Unit {0}
+
+-- a symbol of the sheet, a line that starts within the case, and room for the symbol's table in the cells from `base` on
+pub record TableLineLent (s : ℕ) (sheet : List ℕ) (y : declared.Symbol) (case : List ℕ) (at base : ℕ) (cells : List ℕ) : Type 0 where
+  pub within : at ≤ length case
+  pub named : y .name + y .length ≤ length sheet
+  pub arity : y .arity ≤ 3
+  pub positive : 1 ≤ s
+  pub size : s ≤ 8
+  pub room : base + s ^ y .arity ≤ length cells
 
 -- r is what the symbol's line from `at` on is read to
 pub record TableRead (s : ℕ) (f : Symbol) (case : List ℕ) (at base : ℕ) (cells cells′ : List ℕ) (r : TableLine) : Type 0 where

@@ -3,25 +3,28 @@ use crate::values::is_value;
 use crate::values::least_byte;
 use crate::values::separator;
 use crate::values::value_count;
+use indices::Cell;
 use interpretation::vector::power;
 use syntax::signature::Signature;
 use syntax::signature::Symbol;
+use syntax::size::DomainSize;
+use syntax::size::SizeCheck;
 use text::lines::line_end;
 use text::lines::same;
 use text::lines::starts_with;
 ghost use mathlib.Core.Path.{_≡_};
-ghost use Prim.Native.Nat.{_+_, _*_, _^_, _≤_};
+ghost use Prim.Native.Nat.{_+_, _*_, _≤_};
 ghost use lib.ListN.{drop, length};
 ghost use Rattle.theory.specs.Bytes.{bytes};
 ghost use Rattle.theory.specs.Lines.{afterKey};
 ghost use Rattle.theory.specs.CaseText.{readCase};
 ghost use Rattle.syntax.specs.Signatures.{kindOf, signatureIn, symbolIn};
 ghost use Rattle.clauses.specs.Names.{Readable};
-ghost use Rattle.cases.specs.Reading.{TableRead, ValuesRead, caseIn, caseOfTables, sizeAfter};
+ghost use Rattle.cases.specs.Reading.{TableLineLent, TableRead, ValuesRead, caseIn, caseOfTables, sizeAfter};
 
 // The size of a case whose cells were read, or the first line that is not as laid out.
 pub enum CaseReading {
-    Read(usize),
+    Read(DomainSize),
     Refused(usize),
 }
 
@@ -35,16 +38,17 @@ pub enum TableLine {
 fn read_values(
     bytes: &[u8],
     function: bool,
-    size: usize,
+    size: DomainSize,
     count: usize,
     cells: &mut [u8],
-    base: usize,
+    base: Cell,
 ) -> bool
-    requires { ⌜ (size ≤ 8) × ((length (now bytes) ≡ 2 * count) × (base + count ≤ length (now cells))) ⌝ }
-    ensures { λ r. ⌜ ValuesRead size (kindOf function) count (now (bytes .entry)) base (now (cells .entry)) (now (cells .exit)) r ⌝ }
+    requires { ⌜ (size .0 ≤ 8) × ((length (now bytes) ≡ 2 * count) × (base .0 + count ≤ length (now cells))) ⌝ }
+    ensures { λ r. ⌜ ValuesRead (size .0) (kindOf function) count (now (bytes .entry)) (base .0) (now (cells .entry)) (now (cells .exit)) r ⌝ }
 {
     let least = least_byte(function);
     let most = value_count(function, size);
+    let from = base.0;
     let mut i: usize = 0;
     while i < count {
         if bytes[2 * i] != separator(i) {
@@ -54,7 +58,7 @@ fn read_values(
         if !is_value(b, least, most) {
             return false;
         }
-        cells[base + i] = b - least;
+        cells[from + i] = b - least;
         i += 1;
     }
     true
@@ -66,12 +70,12 @@ fn read_table(
     at: usize,
     sheet: &[u8],
     symbol: Symbol,
-    size: usize,
+    size: DomainSize,
     cells: &mut [u8],
-    base: usize,
+    base: Cell,
 ) -> TableLine
-    requires { ⌜ (at ≤ length (now case)) × ((symbol .name + symbol .length ≤ length (now sheet)) × ((symbol .arity ≤ 3) × ((1 ≤ size) × ((size ≤ 8) × (base + size ^ symbol .arity ≤ length (now cells)))))) ⌝ }
-    ensures { λ r. ⌜ TableRead size (symbolIn (now (sheet .entry)) symbol) (now (case .entry)) at base (now (cells .entry)) (now (cells .exit)) r ⌝ }
+    requires { ⌜ TableLineLent (size .0) (now sheet) symbol (now case) at (base .0) (now cells) ⌝ }
+    ensures { λ r. ⌜ TableRead (size .0) (symbolIn (now (sheet .entry)) symbol) (now (case .entry)) at (base .0) (now (cells .entry)) (now (cells .exit)) r ⌝ }
 {
     let end = line_end(case, at);
     if end == case.len() {
@@ -83,7 +87,7 @@ fn read_table(
         return TableLine::Fault;
     }
     let from = at + symbol.length;
-    let count = power(size, symbol.arity as usize);
+    let count = power(size.0, symbol.arity as usize);
     if end - from != 2 * count {
         return TableLine::Fault;
     }
@@ -99,22 +103,24 @@ fn read_tables(
     at: usize,
     sheet: &[u8],
     signature: Signature,
-    size: usize,
+    size: DomainSize,
     cells: &mut [u8],
 ) -> CaseReading
-    requires { ⌜ (at ≤ length (now case)) × (Readable (now sheet) signature × ((1 ≤ size) × ((size ≤ 8) × (12288 ≤ length (now cells))))) ⌝ }
-    ensures { λ r. ⌜ caseIn (signatureIn (now (sheet .entry)) signature) r (now (cells .exit)) ≡ caseOfTables size (signatureIn (now (sheet .entry)) signature) (drop at (now (case .entry))) ⌝ }
+    requires { ⌜ (at ≤ length (now case)) × (Readable (now sheet) signature × ((1 ≤ size .0) × ((size .0 ≤ 8) × (12288 ≤ length (now cells))))) ⌝ }
+    ensures { λ r. ⌜ caseIn (signatureIn (now (sheet .entry)) signature) r (now (cells .exit))
+        ≡ caseOfTables (size .0) (signatureIn (now (sheet .entry)) signature) (drop at (now (case .entry))) ⌝ }
 {
     let mut next = at;
     let mut base: usize = 0;
     let mut i: usize = 0;
     while i < signature.count {
         let symbol = signature.symbols[i];
-        let TableLine::Next(after) = read_table(case, next, sheet, symbol, size, cells, base) else {
+        let TableLine::Next(after) = read_table(case, next, sheet, symbol, size, cells, Cell(base))
+        else {
             return CaseReading::Refused(3 + i);
         };
         next = after;
-        base = base + power(size, symbol.arity as usize);
+        base = base + power(size.0, symbol.arity as usize);
         i += 1;
     }
     if next != case.len() {
@@ -123,24 +129,21 @@ fn read_tables(
     CaseReading::Read(size)
 }
 
-// The size of a line `size=d`, 1 to 8, or 0.
-fn size_of(line: &[u8]) -> usize
+// The size of a line `size=d`.
+fn size_of(line: &[u8]) -> SizeCheck
     ensures { λ r. ⌜ r ≡ sizeAfter (afterKey (bytes "size=") (now (line .entry))) ⌝ }
 {
     if !starts_with(line, b"size=") {
-        return 0;
+        return SizeCheck::Refused;
     }
     if line.len() != 6 {
-        return 0;
+        return SizeCheck::Refused;
     }
     let b = line[5];
-    if b < 49 {
-        return 0;
+    if b < DomainSize::ZERO_DIGIT {
+        return SizeCheck::Refused;
     }
-    if 56 < b {
-        return 0;
-    }
-    (b - 48) as usize
+    DomainSize::checked((b - DomainSize::ZERO_DIGIT) as usize)
 }
 
 // The cells of a case text of a signature whose names stand in the sheet.
@@ -160,9 +163,8 @@ pub fn read_case(case: &[u8], sheet: &[u8], signature: Signature, cells: &mut [u
     if second == case.len() {
         return CaseReading::Refused(2);
     }
-    let size = size_of(&case[from..second]);
-    if size == 0 {
+    let SizeCheck::Is(size) = size_of(&case[from..second]) else {
         return CaseReading::Refused(2);
-    }
+    };
     read_tables(case, second + 1, sheet, signature, size, cells)
 }

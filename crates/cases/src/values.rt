@@ -1,4 +1,5 @@
 // The values on a symbol's line: each is a byte, with `=` before the first and a space before every other.
+use syntax::size::DomainSize;
 ghost use mathlib.Core.Path.{_≡_};
 ghost use mathlib.Core.Bool.{_&&_};
 ghost use Prim.Native.Nat.{_≤_, _-_};
@@ -29,12 +30,12 @@ pub fn least_byte(function: bool) -> u8
 }
 
 // How many values a cell may have.
-pub fn value_count(function: bool, size: usize) -> u8
-    requires { ⌜ size ≤ 8 ⌝ }
-    ensures { λ r. ⌜ r ≡ valueCount size (kindOf function) ⌝ }
+pub fn value_count(function: bool, size: DomainSize) -> u8
+    requires { ⌜ size .0 ≤ 8 ⌝ }
+    ensures { λ r. ⌜ r ≡ valueCount (size .0) (kindOf function) ⌝ }
 {
     if function {
-        return size as u8;
+        return size.0 as u8;
     }
     2
 }

@@ -4,48 +4,49 @@ use crate::values::separator;
 use interpretation::vector::power;
 use syntax::signature::Signature;
 use syntax::signature::Symbol;
+use syntax::size::DomainSize;
 use text::writing::put_bytes;
 ghost use mathlib.Core.Path.{_≡_};
 ghost use mathlib.Core.List.{List, [], _++_, _∷_, map};
-ghost use Prim.Native.Nat.{_*_, _+_, _<_, _≤_, ℕ};
+ghost use Prim.Native.Nat.{_*_, _+_, _≤_, ℕ};
 ghost use lib.ListN.{length};
 ghost use Rattle.theory.specs.Vectors.{AllBelow};
 ghost use Rattle.theory.specs.CaseText.{caseLength, tableText};
 ghost use Rattle.syntax.specs.Signatures.{signatureIn, symbolIn};
 ghost use Rattle.clauses.specs.Names.{Readable};
 ghost use Rattle.text.specs.Put.{put};
-ghost use Rattle.cases.specs.Writing.{headingText, paired};
+ghost use Rattle.cases.specs.Writing.{LineRoom, headingText, paired};
 
 // The length of a case: 14, and for each symbol name length + 1 + 2·size^arity.
-pub fn case_length(signature: Signature, size: usize) -> usize
-    requires { ⌜ (size ≤ 8) × ((sheet : List ℕ) × (Readable sheet signature × (length sheet ≤ 16384))) ⌝ }
-    ensures { λ r. ⌜ ((sheet : List ℕ) → Readable sheet signature → r ≡ caseLength size (signatureIn sheet signature)) ⌝ }
+pub fn case_length(signature: Signature, size: DomainSize) -> usize
+    requires { ⌜ (size .0 ≤ 8) × ((sheet : List ℕ) × (Readable sheet signature × (length sheet ≤ 16384))) ⌝ }
+    ensures { λ r. ⌜ ((sheet : List ℕ) → Readable sheet signature → r ≡ caseLength (size .0) (signatureIn sheet signature)) ⌝ }
 {
     let mut n: usize = 14;
     let mut i: usize = 0;
     while i < signature.count {
         let symbol = signature.symbols[i];
-        n = n + symbol.length + 1 + 2 * power(size, symbol.arity as usize);
+        n = n + symbol.length + 1 + 2 * power(size.0, symbol.arity as usize);
         i += 1;
     }
     n
 }
 
 // The first two lines.
-pub fn put_heading(out: &mut [u8], size: usize) -> usize
-    requires { ⌜ (size ≤ 8) × (14 ≤ length (now out)) ⌝ }
-    ensures written { λ r. ⌜ now (out .exit) ≡ put (now (out .entry)) 0 (headingText size) ⌝ }
+pub fn put_heading(out: &mut [u8], size: DomainSize) -> usize
+    requires { ⌜ (size .0 ≤ 8) × (14 ≤ length (now out)) ⌝ }
+    ensures written { λ r. ⌜ now (out .exit) ≡ put (now (out .entry)) 0 (headingText (size .0)) ⌝ }
     ensures place { λ r. ⌜ r ≡ 14 ⌝ }
 {
     let at = put_bytes(out, 0, b"case=1\nsize=");
-    out[at] = 48 + size as u8;
+    out[at] = DomainSize::ZERO_DIGIT + size.0 as u8;
     out[at + 1] = 10;
     at + 2
 }
 
 // A symbol's line: its name, and the values of its table.
 pub fn put_table(out: &mut [u8], at: usize, sheet: &[u8], symbol: Symbol, table: &[u8]) -> usize
-    requires { ⌜ (symbol .name + symbol .length ≤ length (now sheet)) × ((0 < length (now table)) × (AllBelow 8 (now table) × (at + length (tableText (symbolIn (now sheet) symbol) (now table)) ≤ length (now out)))) ⌝ }
+    requires { ⌜ LineRoom (now sheet) symbol (now table) (now out) at ⌝ }
     ensures written { λ r. ⌜ now (out .exit) ≡ put (now (out .entry)) at (tableText (symbolIn (now (sheet .entry)) symbol) (now (table .entry))) ⌝ }
     ensures place { λ r. ⌜ r ≡ at + length (tableText (symbolIn (now (sheet .entry)) symbol) (now (table .entry))) ⌝ }
 {

@@ -21,7 +21,7 @@ use Rattle.clauses.specs.declared.clause.Words.{Words}
 use Rattle.clauses.specs.declared.words.Word.the-variants.{Code, Unknown}
 use Rattle.clauses.specs.Words.{WordRead}
 use Rattle.clauses.specs.Grammar.{dueIn, pending, dueNext, dueAfterAll}
-use Rattle.clauses.specs.Clauses.{signCount, WordsBounded, Passed, WordTaken}
+use Rattle.clauses.specs.Clauses.{signCount, WordsBounded, Passed, WordAdded}
 
 dueAfterAll-more : (g : Signature) (d : Option Due) (ws : List Word) (x : Word) → dueAfterAll g d (ws ++ (x ∷ [])) ≡ dueNext g (dueAfterAll g d ws) x
 unfolding dueAfterAll
@@ -98,8 +98,8 @@ passed-bounded g ws w p h = record { count = h; literals = omega (arith, p .lite
 
 -- a word that was read to its code, and one that was not
 module _ (g : Signature) (word : List ℕ) (w r : Words) where
-  pub taken-code : (c : ℕ) → WordRead g word (Code c) → r .unknown ≡ false → ((ws : List Word) → Passed g ws w → Passed g (ws ++ (codeWord c ∷ [])) r) → WordTaken g word w r
+  pub taken-code : (c : ℕ) → WordRead g word (Code c) → r .unknown ≡ false → ((ws : List Word) → Passed g ws w → Passed g (ws ++ (codeWord c ∷ [])) r) → WordAdded g word w r
   taken-code c h e p = record { unknown = λ k. absurd (true≢false (sym k ∙ e)); known = λ _. (codeWord c, sym (h .read), p) }
 
-  pub taken-unknown : WordRead g word Unknown → r .unknown ≡ true → WordTaken g word w r
+  pub taken-unknown : WordRead g word Unknown → r .unknown ≡ true → WordAdded g word w r
   taken-unknown h e = record { unknown = λ _. sym (h .read); known = λ k. absurd (true≢false (sym e ∙ k)) }

@@ -5,17 +5,17 @@ use mathlib.Core.Bool.{true, false, cond}
 use mathlib.Core.Option.{none, some}
 use mathlib.Core.List.{List, [], _∷_, _++_, map}
 use lib.Dec.{eqb}
-use lib.ListN.{length, take}
+use lib.ListN.{length, take, replicate}
 use Rattle.theory.specs.Lists.{sum}
 use Rattle.theory.specs.Syntax.{Signature, Clause}
 use Rattle.theory.specs.Grammar.{Word, sign, equals, symbol, letter, terms}
-use Rattle.theory.specs.Lines.{wordsOf}
 use Rattle.theory.specs.Flattening.{flatten, variableCount}
 use Rattle.theory.specs.Refusals.{Answer, answer, refused, atLine}
 use Rattle.theory.specs.Problem.{maxWords, maxLiterals, maxVariables, readAll, clauseOf}
 use Rattle.theory.specs.Problem as theory
 use Rattle.syntax.specs.declared.words.ClauseWords.{ClauseWords}
 use Rattle.syntax.specs.Codes.{codeWord, clauseIn, IsClause}
+use Rattle.clauses.specs.declared.grammar.Due.the-variants.{Terms}
 use Rattle.clauses.specs.declared.clause.Words.{Words}
 use Rattle.clauses.specs.declared.clause.ClauseLine.{ClauseLine}
 use Rattle.clauses.specs.Grammar.{dueIn, pending, dueAfterAll}
@@ -42,15 +42,23 @@ pub record Passed (g : Signature) (ws : List Word) (w : Words) : Type 0 where
   pub due : dueIn (w .due) ≡ dueAfterAll g (some (terms 0)) ws
   pub pending : pending (w .due) ≤ 3 * w .count
 
--- r is what was read after one word more than w
-pub record WordTaken (g : Signature) (word : List ℕ) (w r : Words) : Type 0 where
-  pub unknown : r .unknown ≡ true → theory.wordOf g word ≡ none
-  pub known : r .unknown ≡ false → (x : Word) × (theory.wordOf g word ≡ some x) × ((ws : List Word) → Passed g ws w → Passed g (ws ++ (x ∷ [])) r)
+-- r is what was read after the word x more than w, whatever words w was read of
+abbrev pub Extends : Signature → Words → Word → Words → Type 0
+Extends g w x r = (ws : List Word) → Passed g ws w → Passed g (ws ++ (x ∷ [])) r
 
--- r is what was read of the value's words
-pub record WordsRead (g : Signature) (value : List ℕ) (r : Words) : Type 0 where
-  pub unknown : r .unknown ≡ true → readAll g (wordsOf value) ≡ none
-  pub known : r .unknown ≡ false → (ws : List Word) × (readAll g (wordsOf value) ≡ some ws) × Passed g ws r
+-- r is what was read after one word more than w
+pub record WordAdded (g : Signature) (word : List ℕ) (w r : Words) : Type 0 where
+  pub unknown : r .unknown ≡ true → theory.wordOf g word ≡ none
+  pub known : r .unknown ≡ false → (x : Word) × (theory.wordOf g word ≡ some x) × Extends g w x r
+
+-- what was read of no words
+abbrev pub noWords : Words
+noWords = record { words = replicate maxWords 0; count = 0; literals = 0; due = Terms 0; unknown = false }
+
+-- r is what was read of a line's words
+pub record WordsRead (g : Signature) (line : List (List ℕ)) (r : Words) : Type 0 where
+  pub unknown : r .unknown ≡ true → readAll g line ≡ none
+  pub known : r .unknown ≡ false → (ws : List Word) × (readAll g line ≡ some ws) × Passed g ws r
 
 -- what the value of line l was read to
 abbrev pub clauseValueIn : Signature → ℕ → ClauseLine → Answer Clause

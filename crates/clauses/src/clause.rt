@@ -8,21 +8,20 @@ use flattening::flat::variable_count;
 use syntax::limits::Problem;
 use syntax::signature::Signature;
 use syntax::words::ClauseWords;
-use word_reader::NextWord;
-use word_reader::word_from;
+use word_reader::WordReader;
 ghost use mathlib.Core.Path.{_≡_};
 ghost use mathlib.Core.Bool.{true, false};
-ghost use mathlib.Core.List.{List, [], _∷_, _++_};
+ghost use mathlib.Core.List.{List};
 ghost use Prim.Native.Nat.{ℕ};
 ghost use lib.ListN.{set};
-ghost use Rattle.theory.specs.Grammar as theory;
+ghost use Rattle.theory.specs.Lines.{cutWords, wordsOf};
 ghost use Rattle.syntax.specs.Signatures.{signatureIn};
 ghost use Rattle.syntax.specs.Codes.{codeWord};
 ghost use Rattle.clauses.specs.Names.{Limited, Readable};
 ghost use Rattle.clauses.specs.Words.{isCode};
-ghost use Rattle.clauses.specs.Clauses.{signCount, WordsBounded, Passed, WordTaken, WordsRead, ClauseRead};
+ghost use Rattle.clauses.specs.Clauses.{signCount, WordsBounded, Extends, noWords, WordAdded, WordsRead, ClauseRead};
 
-// What was read of a line: the codes of its first 64 words, how many words and signs, what is due, whether a word was unknown.
+// What was read of a line: the codes of its first words, up to the limit, how many words and signs, what is due, whether a word was unknown.
 pub struct Words {
     pub words: [u8; Problem::MAX_WORDS],
     pub count: usize,
@@ -80,42 +79,52 @@ fn refused(fault: u8) -> ClauseLine
     }
 }
 
-// The words of a line, however many.
+// The words of a line: none where it is empty.
 fn read_words(sheet: &[u8], signature: Signature, value: &[u8]) -> Words
     requires { ⌜ Readable (now sheet) signature ⌝ }
-    ensures { λ r. ⌜ WordsRead (signatureIn (now (sheet .entry)) signature) (now (value .entry)) r ⌝ }
+    ensures { λ r. ⌜ WordsRead (signatureIn (now (sheet .entry)) signature) (wordsOf (now (value .entry))) r ⌝ }
 {
-    let mut w = Words {
+    if value.len() == 0 {
+        return no_words();
+    }
+    take_words(sheet, signature, value)
+}
+
+// The words between a line's spaces, however many: one reader hands them out, from the first to the last.
+fn take_words(sheet: &[u8], signature: Signature, value: &[u8]) -> Words
+    requires { ⌜ Readable (now sheet) signature ⌝ }
+    ensures { λ r. ⌜ WordsRead (signatureIn (now (sheet .entry)) signature) (cutWords (now (value .entry))) r ⌝ }
+{
+    let mut w = no_words();
+    let mut reader = WordReader::new(value);
+    while reader.has_word() {
+        let step = reader.next();
+        w = with_word(sheet, signature, w, step.word);
+        if w.unknown {
+            return w;
+        }
+        reader = step.rest;
+    }
+    w
+}
+
+// Nothing was read.
+fn no_words() -> Words
+    ensures { λ r. ⌜ r ≡ noWords ⌝ }
+{
+    Words {
         words: [0; Problem::MAX_WORDS],
         count: 0,
         literals: 0,
         due: Due::Terms(0),
         unknown: false,
-    };
-    if value.len() == 0 {
-        return w;
-    }
-    let mut at: usize = 0;
-    loop {
-        match word_from(value, at) {
-            NextWord::Is(from, end) => {
-                w = with_word(sheet, signature, w, &value[from..end]);
-                if w.unknown {
-                    return w;
-                }
-                at = end + 1;
-            }
-            NextWord::End => {
-                return w;
-            }
-        }
     }
 }
 
 // One word more.
 fn with_word(sheet: &[u8], signature: Signature, w: Words, word: &[u8]) -> Words
     requires { ⌜ Readable (now sheet) signature × WordsBounded w ⌝ }
-    ensures { λ r. ⌜ WordTaken (signatureIn (now (sheet .entry)) signature) (now (word .entry)) w r ⌝ }
+    ensures { λ r. ⌜ WordAdded (signatureIn (now (sheet .entry)) signature) (now (word .entry)) w r ⌝ }
 {
     match word_of(sheet, signature, word) {
         Word::Code(code) => with_code(signature, w, code),
@@ -133,7 +142,7 @@ fn with_unknown(mut w: Words) -> Words
 fn with_code(signature: Signature, w: Words, code: u8) -> Words
     requires { ⌜ Limited signature × ((isCode (signature .count) code ≡ true) × WordsBounded w) ⌝ }
     ensures known { λ r. ⌜ r .unknown ≡ false ⌝ }
-    ensures passed { λ r. ⌜ ((sheet : List ℕ) (ws : List theory.Word) → Passed (signatureIn sheet signature) ws w → Passed (signatureIn sheet signature) (ws ++ (codeWord code ∷ [])) r) ⌝ }
+    ensures extended { λ r. ⌜ ((sheet : List ℕ) → Extends (signatureIn sheet signature) w (codeWord code) r) ⌝ }
 {
     let words = w.words;
     let due = w.due;
@@ -161,10 +170,10 @@ fn stored(mut words: [u8; Problem::MAX_WORDS], n: usize, code: u8) -> [u8; Probl
 fn signs(code: u8) -> usize
     ensures { λ r. ⌜ r ≡ signCount (codeWord code) ⌝ }
 {
-    if code == 43 {
+    if code == ClauseWords::PLUS {
         return 1;
     }
-    if code == 45 {
+    if code == ClauseWords::MINUS {
         return 1;
     }
     0

@@ -1,5 +1,6 @@
 // The grammar of a clause: what is due after its words, in one flat pass over a line of any length.
 use syntax::signature::Signature;
+use syntax::words::ClauseWords;
 ghost use mathlib.Core.Path.{_≡_};
 ghost use mathlib.Core.Bool.{true};
 ghost use mathlib.Core.List.{List};
@@ -54,10 +55,10 @@ fn after_terms(signature: Signature, n: usize, code: u8) -> Due
     if n == 0 {
         return after_literal(code);
     }
-    if 65 <= code {
+    if ClauseWords::LETTER <= code {
         return Due::Terms(n - 1);
     }
-    if 43 <= code {
+    if ClauseWords::PLUS <= code {
         return Due::Nothing;
     }
     let i = code as usize;
@@ -73,10 +74,10 @@ fn after_literal(code: u8) -> Due
     ensures due { λ r. ⌜ ((g : theory.Signature) → dueIn r ≡ dueAfter g (terms 0) (codeWord code)) ⌝ }
     ensures pending { λ r. ⌜ pending r ≤ 0 ⌝ }
 {
-    if code == 43 {
+    if code == ClauseWords::PLUS {
         return Due::Atom;
     }
-    if code == 45 {
+    if code == ClauseWords::MINUS {
         return Due::Atom;
     }
     Due::Nothing
@@ -88,10 +89,10 @@ fn after_sign(signature: Signature, code: u8) -> Due
     ensures due { λ r. ⌜ ((sheet : List ℕ) → dueIn r ≡ dueAfter (signatureIn sheet signature) atom (codeWord code)) ⌝ }
     ensures pending { λ r. ⌜ pending r ≤ 3 ⌝ }
 {
-    if code == 61 {
+    if code == ClauseWords::EQUALS {
         return Due::Terms(2);
     }
-    if 43 <= code {
+    if ClauseWords::PLUS <= code {
         return Due::Nothing;
     }
     let i = code as usize;

@@ -1,6 +1,7 @@
 // One word of a clause line.
 use crate::names::find_name;
 use syntax::signature::Signature;
+use syntax::words::ClauseWords;
 ghost use mathlib.Core.Path.{_≡_};
 ghost use Rattle.syntax.specs.Signatures.{signatureIn};
 ghost use Rattle.clauses.specs.Names.{Readable};
@@ -44,14 +45,14 @@ fn is_fixed_word(word: &[u8]) -> bool
 fn is_fixed(b: u8) -> bool
     ensures { λ r. ⌜ r ≡ isFixed b ⌝ }
 {
-    if b == 43 {
+    if b == ClauseWords::PLUS {
         return true;
     }
-    if b == 45 {
+    if b == ClauseWords::MINUS {
         return true;
     }
-    if b == 61 {
+    if b == ClauseWords::EQUALS {
         return true;
     }
-    65 <= b && b < 73
+    ClauseWords::LETTER <= b && b < ClauseWords::PAST_LETTERS
 }

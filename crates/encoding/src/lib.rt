@@ -7,11 +7,11 @@ use syntax::limits::Problem;
 use syntax::size::DomainSize;
 use valuations::numbering::Numbering;
 ghost use Prim.Native.Nat.{_≤_};
-ghost use Rattle.theory.specs.PropClauses.{propClauses};
 ghost use Rattle.syntax.specs.Signatures.{signatureIn};
-ghost use Rattle.problem.specs.Problems.{Accepted, problemIn};
-ghost use Rattle.stream.specs.Consuming.{Consumed, Consumes, state};
+ghost use Rattle.problem.specs.Problems.{Accepted};
+ghost use Rattle.stream.specs.Consuming.{state};
 ghost use Rattle.valuations.specs.Numbers.{NumberingOf};
+ghost use Rattle.encoding.specs.Passes.{AllNext, AllTaken};
 
 // The clauses of the function cells, then the instances of the clauses.
 pub fn all_clauses(
@@ -19,24 +19,16 @@ pub fn all_clauses(
     sheet: &[u8],
     p: Problem,
     n: Numbering,
-    size: u32,
+    size: DomainSize,
     out: &mut [u8],
     work: &mut [u32],
     start: Progress,
 ) -> Progress
-    requires { ⌜ Accepted (now sheet) p × (size ≤ 8) ⌝ }
-    requires { ⌜ NumberingOf (signatureIn (now sheet) (p .signature)) size n ⌝ }
-    requires { ⌜ Consumes mode (n .count) (propClauses size (problemIn (now sheet) p .symbols) (problemIn (now sheet) p .clauses)) (state start (now out) (now work)) ⌝ }
-    ensures { λ r. ⌜ Consumed mode (n .count) (propClauses size (problemIn (now (sheet .entry)) p .symbols) (problemIn (now (sheet .entry)) p .clauses)) (state start (now (out .entry)) (now (work .entry))) (state r (now (out .exit)) (now (work .exit))) ⌝ }
+    requires { ⌜ Accepted (now sheet) p × (size .0 ≤ 8) ⌝ }
+    requires { ⌜ NumberingOf (signatureIn (now sheet) (p .signature)) (size .0) n ⌝ }
+    requires { ⌜ AllNext mode (now sheet) p n (size .0) (state start (now out) (now work)) ⌝ }
+    ensures { λ r. ⌜ AllTaken mode (now (sheet .entry)) p n (size .0) (state start (now (out .entry)) (now (work .entry))) (state r (now (out .exit)) (now (work .exit))) ⌝ }
 {
-    let reached = all_cells(
-        mode,
-        p.signature,
-        n,
-        DomainSize(size as usize),
-        out,
-        work,
-        start,
-    );
+    let reached = all_cells(mode, p.signature, n, size, out, work, start);
     all_instances(mode, sheet, p, n, size, out, work, reached)
 }

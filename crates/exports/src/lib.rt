@@ -6,9 +6,9 @@ use answers::ReadAnswer;
 use answers::WriteAnswer;
 ghost use mathlib.Core.Path.{_≡_};
 ghost use mathlib.Core.Bool.{cond};
-ghost use lib.ListN.{length};
 ghost use Rattle.answers.specs.Answers.{readIn, judgeIn, lengthIn, findIn};
 ghost use Rattle.theory.specs.Operations as theory;
+ghost use Rattle.exports.specs.Exported.{FindExport, ReadBackExport, WriteExport};
 ghost use Rattle.exports.specs.Layouts.{readOut, judgeOut, writeOut, findOut};
 
 #[repr(C)]
@@ -107,8 +107,7 @@ fn judge_out(answer: JudgeAnswer) -> JudgeOut
 
 #[no_mangle]
 pub extern "C" fn nk_write(sheet: &[u8], size: u64, output: &mut [u8]) -> WriteOut
-    ensures answer { λ r. ⌜ r ≡ writeOut (theory.lengthAnswer (theory.writtenText (now (sheet .entry)) size (length (now (output .entry))))) ⌝ }
-    ensures left { λ r. ⌜ now (output .exit) ≡ theory.outputAfter (theory.writtenText (now (sheet .entry)) size (length (now (output .entry)))) (now (output .entry)) ⌝ }
+    ensures { λ r. ⌜ WriteExport (now (sheet .entry)) size r (now (output .entry)) (now (output .exit)) ⌝ }
 {
     write_out(nesskettle::write(sheet, size, output))
 }
@@ -139,8 +138,7 @@ pub extern "C" fn nk_read_back(
     setting: &[u8],
     output: &mut [u8],
 ) -> WriteOut
-    ensures answer { λ r. ⌜ r ≡ writeOut (theory.lengthAnswer (theory.readBackText (now (sheet .entry)) size (now (setting .entry)) (length (now (output .entry))))) ⌝ }
-    ensures left { λ r. ⌜ now (output .exit) ≡ theory.outputAfter (theory.readBackText (now (sheet .entry)) size (now (setting .entry)) (length (now (output .entry)))) (now (output .entry)) ⌝ }
+    ensures { λ r. ⌜ ReadBackExport (now (sheet .entry)) size (now (setting .entry)) r (now (output .entry)) (now (output .exit)) ⌝ }
 {
     write_out(nesskettle::read_back(sheet, size, setting, output))
 }
@@ -153,9 +151,7 @@ pub extern "C" fn nk_find(
     work: &mut [u32],
     output: &mut [u8],
 ) -> FindOut
-    ensures answer { λ r. ⌜ r ≡ findOut (theory.findAnswer (theory.findResult (now (sheet .entry)) low high (length (now (work .entry))) (length (now (output .entry))))) ⌝ }
-    ensures worked { λ r. ⌜ now (work .exit) ≡ theory.findWork (theory.findResult (now (sheet .entry)) low high (length (now (work .entry))) (length (now (output .entry)))) (now (work .entry)) ⌝ }
-    ensures left { λ r. ⌜ now (output .exit) ≡ theory.findOutput (theory.findResult (now (sheet .entry)) low high (length (now (work .entry))) (length (now (output .entry)))) (now (output .entry)) ⌝ }
+    ensures { λ r. ⌜ FindExport (now (sheet .entry)) low high r (now (work .entry)) (now (work .exit)) (now (output .entry)) (now (output .exit)) ⌝ }
 {
     find_out(nesskettle::find(sheet, low, high, work, output))
 }

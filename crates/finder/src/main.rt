@@ -5,8 +5,7 @@ use libc::STDOUT_FILENO;
 fn main() {
     let mut input = [0u8; program::MAX_INPUT];
     let n = io::read_full(STDIN_FILENO, &mut input);
-    let mut work = [0u32; program::WORK];
     let mut out = [0u8; program::OUTPUT];
-    let k = program::respond(&input[..n], &mut work, &mut out);
+    let k = program::respond(&input[..n], &mut out);
     io::write_all(STDOUT_FILENO, &out[..k]);
 }

@@ -1,65 +1,84 @@
 -- The ends of Find: a case was found and written, none was found, or it refuses.
 use Prim.Native.Nat.{ℕ}
-use mathlib.Core.Path.{_≡_, refl, sym, ap, _∙_, subst}
+use mathlib.Core.Path.{_≡_, refl, sym, ap, _∙_}
 use mathlib.Core.Bool.{Bool}
-use mathlib.Core.Option.{Option, none}
+use mathlib.Core.Option.{Option, none, some}
 use mathlib.Core.List.{List}
+use native.Mathlib.Omega.{arith}
 use lib.ListN.{length, replicate}
 use Rattle.theory.specs.Valuation.{readBack}
 use Rattle.theory.specs.Refusals.{Answer, answer, refused}
 use Rattle.theory.specs.Refusals as theory
 use Rattle.theory.specs.Problem.{Problem}
 use Rattle.theory.specs.CaseText.{Case, caseText, caseLength}
-use Rattle.theory.specs.Least.{leastModel, withSize, settled}
-use Rattle.theory.specs.Operations.{Search, searchOf, foundCase, noCase, over, findOutput}
+use Rattle.theory.specs.Least.{leastModel, smallestModel, withSize, settled}
+use Rattle.theory.specs.Operations.{Search, found, nothing, searchOf, foundCase, noCase, over, findAnswer, findOutput, findWork}
 use Rattle.answers.specs.declared.Refusal.{Refusal}
 use Rattle.answers.specs.declared.FindAnswer.{FindAnswer}
 use Rattle.answers.specs.declared.FindAnswer.the-variants as find
-use Rattle.answers.specs.Answers.{refusalIn}
-use Rattle.finding.specs.Ending.{Ends}
+use Rattle.answers.specs.Answers.{refusalIn, findIn}
+use Rattle.finding.specs.Ending.{Ends, foundWithin}
 use Rattle.finding.proofs.Found.{FoundAt}
+use Rattle.finding.proofs.SizeBySize.{remaining-all, remaining-found}
+
+module _ (finds : ℕ → ℕ → Answer Search) (r : FindAnswer) (work work′ output output′ : List ℕ) where
+  -- what is found, known
+  ends-by : (a : Answer Search) → finds (length work) (length output) ≡ a → findIn r ≡ findAnswer a → work′ ≡ findWork a work → output′ ≡ findOutput a output → Ends finds r work work′ output output′
+  ends-by a e f w o =
+      record {
+        answer = f ∙ sym (ap findAnswer e);
+        worked = w ∙ sym (ap (λ (b : Answer Search). findWork b work) e);
+        left = o ∙ sym (ap (λ (b : Answer Search). findOutput b output) e);
+      }
+
+  -- found otherwise, but the same
+  pub ends-as : (finds′ : ℕ → ℕ → Answer Search) → finds (length work) (length output) ≡ finds′ (length work) (length output) → Ends finds′ r work work′ output output′
+      → Ends finds r work work′ output output′
+  ends-as finds′ e h = ends-by (finds′ (length work) (length output)) e (h .answer) (h .worked) (h .left)
+
+-- a refusal changes nothing
+pub ends-refused : (finds : ℕ → ℕ → Answer Search) (r : Refusal) (q : theory.Refusal) (work output : List ℕ) → finds (length work) (length output) ≡ refused q → refusalIn r ≡ q
+    → Ends finds (find.Refused r) work work output output
+ends-refused finds r q work output e f = ends-by finds (find.Refused r) work work output output (refused q) e (ap (λ (q : theory.Refusal). refused q) f) refl refl
 
 module _ (p : Problem) (low high : ℕ) (work work′ output output′ : List ℕ) where
   -- a case was written, and the work area cleared
   pub ends-found : (s n : ℕ) (σ : List ℕ) → FoundAt s p σ → n ≡ caseLength s (p .symbols) → work′ ≡ replicate (length work) 0
-      → output′ ≡ over (caseText s (p .symbols) (readBack s (p .symbols) σ)) output
-      → Ends (answer (searchOf p low high (withSize s (leastModel s p)))) (find.Found s n) work work′ output output′
-  ends-found s n σ f e w o =
-      subst (λ (vs : Option (List ℕ)). Ends (answer (searchOf p low high (withSize s vs))) (find.Found s n) work work′ output output′) (sym (f .least))
-      (record {
-        answer = ap (λ (k : ℕ). answer (foundCase s k)) (e ∙ sym (f .long));
-        worked = w;
-        left = o;
-      })
+      → output′ ≡ over (caseText s (p .symbols) (readBack s (p .symbols) σ)) output → smallestModel p low high ≡ withSize s (leastModel s p)
+      → Ends (foundWithin p low high) (find.Found s n) work work′ output output′
+  ends-found s n σ f l w o e =
+      ends-by (foundWithin p low high) (find.Found s n) work work′ output output′
+      (answer (found s (caseText s (p .symbols) (readBack s (p .symbols) σ))))
+      (ap (λ (k : Option Case). answer (searchOf p low high k)) (e ∙ ap (withSize s) (f .least)))
+      (ap (λ (k : ℕ). answer (foundCase s k)) (l ∙ sym (f .long)))
+      w
+      o
 
   -- no size has a model
-  pub ends-none : (o : Option Case) (b : Bool) → o ≡ none → b ≡ settled p low high → work′ ≡ replicate (length work) 0 → output′ ≡ output
-      → Ends (answer (searchOf p low high o)) (find.Nothing b) work work′ output output′
-  ends-none o b e t w l =
-      subst (λ (o : Option Case). Ends (answer (searchOf p low high o)) (find.Nothing b) work work′ output output′) (sym e)
-      (record {
-        answer = ap (λ (b : Bool). answer (noCase b)) t;
-        worked = w;
-        left = l;
-      })
+  pub ends-none : (b : Bool) → smallestModel p low high ≡ none → b ≡ settled p low high → work′ ≡ replicate (length work) 0 → output′ ≡ output
+      → Ends (foundWithin p low high) (find.Nothing b) work work′ output output′
+  ends-none b e t w o =
+      ends-by (foundWithin p low high) (find.Nothing b) work work′ output output′
+      (answer (nothing (settled p low high)))
+      (ap (λ (k : Option Case). answer (searchOf p low high k)) e)
+      (ap (λ (b : Bool). answer (noCase b)) t)
+      w
+      o
 
--- the ends of a part of the search are those of the whole
-pub ends-whole : (p : Problem) (low high : ℕ) (o o′ : Option Case) (r : FindAnswer) (work₀ work work′ output₀ output output′ : List ℕ) → o ≡ o′ → length work ≡ length work₀ → output ≡ output₀
-    → Ends (answer (searchOf p low high o′)) r work work′ output output′ → Ends (answer (searchOf p low high o)) r work₀ work′ output₀ output′
-ends-whole p low high o o′ r work₀ work work′ output₀ output output′ e l k ends =
-    subst (λ (o : Option Case). Ends (answer (searchOf p low high o)) r work₀ work′ output₀ output′) (sym e)
-    (record {
-      answer = ends .answer;
-      worked = ends .worked ∙ ap (λ (n : ℕ). replicate n 0) l;
-      left = ends .left ∙ ap (findOutput (answer (searchOf p low high o′))) k;
-    })
+-- one size alone
+pub alone : (p : Problem) (s : ℕ) (vs : List ℕ) → leastModel s p ≡ some vs → smallestModel p s s ≡ withSize s (leastModel s p)
+alone p s vs e = remaining-all p s s ∙ remaining-found p s s vs (omega arith) e
 
--- a refusal changes nothing
-pub ends-refused : (a : Answer Search) (r : Refusal) (q : theory.Refusal) (work output : List ℕ) → a ≡ refused q → refusalIn r ≡ q → Ends a (find.Refused r) work work output output
-ends-refused a r q work output e f =
-    subst (λ (a : Answer Search). Ends a (find.Refused r) work work output output) (sym e)
-    (record {
-      answer = ap (λ (q : theory.Refusal). refused q) f;
-      worked = refl;
-      left = refl;
-    })
+-- the smallest size of many that has a model ends the search as it would alone
+pub ends-whole : (p : Problem) (low high s : ℕ) (vs : List ℕ) (r : FindAnswer) (work₀ work work′ output₀ output output′ : List ℕ) → leastModel s p ≡ some vs
+    → smallestModel p low high ≡ withSize s (leastModel s p) → length work ≡ length work₀ → output ≡ output₀
+    → Ends (foundWithin p s s) r work work′ output output′ → Ends (foundWithin p low high) r work₀ work′ output₀ output′
+ends-whole p low high s vs r work₀ work work′ output₀ output output′ m e l k ends =
+    let f : Search = found s (caseText s (p .symbols) vs) in
+    let here : foundWithin p s s (length work) (length output) ≡ answer f = ap (λ (k : Option Case). answer (searchOf p s s k)) (alone p s vs m ∙ ap (withSize s) m) in
+    ends-by (foundWithin p low high) r work₀ work′ output₀ output′
+    (answer f)
+    (ap (λ (k : Option Case). answer (searchOf p low high k)) (e ∙ ap (withSize s) m))
+    (ends .answer ∙ ap findAnswer here)
+    (ends .worked ∙ ap (λ (a : Answer Search). findWork a work) here ∙ ap (λ (n : ℕ). replicate n 0) l)
+    (ends .left ∙ ap (λ (a : Answer Search). findOutput a output) here ∙ ap (over (caseText s (p .symbols) vs)) k)

@@ -6,4 +6,5 @@ pub mod Found
 pub mod SizeBySize
 pub mod Endings
 pub mod WritingFound
+pub mod Ranges
 pub mod Refusing

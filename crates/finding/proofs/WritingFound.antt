@@ -8,11 +8,9 @@ use lib.Dec.{ltb, eqb·suc-zero}
 use lib.ListN.{length, replicate}
 use Rattle.theory.specs.Lists.{all}
 use Rattle.theory.specs.Valuation.{isFunctional, readBack, settingOf}
-use Rattle.theory.specs.Refusals.{answer}
 use Rattle.theory.specs.CaseText.{caseText, caseLength}
-use Rattle.theory.specs.Least.{leastModel, withSize}
 use Rattle.theory.specs.Walk.{searched}
-use Rattle.theory.specs.Operations.{searchOf, over}
+use Rattle.theory.specs.Operations.{over}
 use Rattle.answers.specs.declared.FindAnswer.the-variants as find
 use Rattle.syntax.specs.declared.limits.Problem.{Problem}
 use Rattle.syntax.specs.Signatures.{signatureIn}
@@ -21,10 +19,10 @@ use Rattle.valuations.specs.declared.numbering.Numbering.{Numbering}
 use Rattle.valuations.specs.Numbers.{NumberingOf}
 use Rattle.reading_back.specs.Bits.{bitsHeld, WritableBits}
 use Rattle.finding.specs.Searching.{Searchable}
-use Rattle.finding.specs.Ending.{Ends}
+use Rattle.finding.specs.Ending.{Ends, foundWithin}
 use Rattle.finding.proofs.Found.{FoundAt, found-at}
 use Rattle.finding.proofs.SizeBySize.{clauses-over}
-use Rattle.finding.proofs.Endings.{ends-found}
+use Rattle.finding.proofs.Endings.{alone, ends-found}
 
 -- the bits of a search's values
 bits-held : (zs : List ℕ) → bitsHeld [] zs ≡ settingOf zs
@@ -50,13 +48,14 @@ module _ (sheet : List ℕ) (p : Problem) (n : Numbering) (size room : ℕ) (h :
         functional = ap (isFunctional size (signatureIn sheet (p .signature))) (bits-held zs) ∙ found .functional;
       }
 
-  pub written-ends : (low high length′ : ℕ) (work work′ output output′ : List ℕ) → length′ ≡ caseLength size (signatureIn sheet (p .signature)) → work′ ≡ replicate (length work) 0
+  pub written-ends : (length′ : ℕ) (work work′ output output′ : List ℕ) → length′ ≡ caseLength size (signatureIn sheet (p .signature)) → work′ ≡ replicate (length work) 0
       → output′ ≡ over (caseText size (signatureIn sheet (p .signature)) (readBack size (signatureIn sheet (p .signature)) (bitsHeld [] zs))) output
-      → Ends (answer (searchOf (problemIn sheet p) low high (withSize size (leastModel size (problemIn sheet p))))) (find.Found size length′) work work′ output output′
+      → Ends (foundWithin (problemIn sheet p) size size) (find.Found size length′) work work′ output output′
   unfolding problemIn
-  written-ends low high length′ work work′ output output′ l w o =
-      ends-found (problemIn sheet p) low high work work′ output output′ size length′ (settingOf zs) found l w
+  written-ends length′ work work′ output output′ l w o =
+      ends-found (problemIn sheet p) size size work work′ output output′ size length′ (settingOf zs) found l w
       (o ∙ ap (λ (σ : List ℕ). over (caseText size (signatureIn sheet (p .signature)) (readBack size (signatureIn sheet (p .signature)) σ)) output) (bits-held zs))
+      (alone (problemIn sheet p) size _ (found .least))
 
 -- the length of a case of the problem that was read
 pub case-room : (sheet : List ℕ) (p : Problem) (size room : ℕ) → caseLength size (problemIn sheet p .symbols) ≤ room → caseLength size (signatureIn sheet (p .signature)) ≤ room

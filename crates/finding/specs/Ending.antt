@@ -1,35 +1,45 @@
 -- What Find leaves when it ends.
 use Prim.Native.Nat.{ℕ, _≤_}
 use mathlib.Core.Path.{_≡_}
-use mathlib.Core.Bool.{_&&_}
 use mathlib.Core.List.{List}
 use lib.Dec.{leb}
+use lib.ListN.{length}
 use Rattle.theory.specs.PropClauses.{instanceCount, workNeeded}
 use Rattle.theory.specs.Refusals.{Answer, answer, unplaced, needing, _>>=_, check}
+use Rattle.theory.specs.Problem.{readProblem}
 use Rattle.theory.specs.Problem as theory
 use Rattle.theory.specs.CaseText.{caseLength}
 use Rattle.theory.specs.Least.{smallestModel}
-use Rattle.theory.specs.Operations.{maxSize, maxInstances, Search, searchOf, findAnswer, findWork, findOutput}
+use Rattle.theory.specs.Operations.{maxSize, maxInstances, Search, searchOf}
 use Rattle.answers.specs.declared.FindAnswer.{FindAnswer}
-use Rattle.answers.specs.Answers.{findIn}
+use Rattle.answers.specs.Calls.{SearchingCall}
 use Rattle.syntax.specs.declared.limits.Problem.{Problem}
-use Rattle.problem.specs.Problems.{problemIn}
+use Rattle.problem.specs.Problems.{problemIn, Accepted}
 use Rattle.finding.specs.Searching.{Searchable}
 
--- the answer is r, and work and output are left as Find leaves them with this result
-pub record Ends (a : Answer Search) (r : FindAnswer) (work work′ output output′ : List ℕ) : Type 0 where
-  pub answer : findIn r ≡ findAnswer a
-  pub worked : work′ ≡ findWork a work
-  pub left : output′ ≡ findOutput a output
+-- a call that ends with what is found, given so many numbers of work and so many bytes of output
+abbrev pub Ends : (ℕ → ℕ → Answer Search) → FindAnswer → List ℕ → List ℕ → List ℕ → List ℕ → Type 0
+Ends finds r work work′ output output′ = SearchingCall (finds (length work) (length output)) r work work′ output output′
 
--- what Find finds of a problem that was read
+-- what Find finds of a problem that was read at the sizes from low to high where nothing is refused
+abbrev pub foundWithin : theory.Problem → ℕ → ℕ → ℕ → ℕ → Answer Search
+foundWithin p low high work room = answer (searchOf p low high (smallestModel p low high))
+
+-- and with the refusals that stand before it: 9, 10, 11
 unfoldable pub foundIn : theory.Problem → ℕ → ℕ → ℕ → ℕ → Answer Search
 foundIn p low high work room = do
-  _ ← check (leb 1 low && leb high maxSize && leb low high) (unplaced 8)
   _ ← check (leb (instanceCount high (p .symbols) (p .clauses)) maxInstances) (unplaced 9)
   _ ← check (leb (workNeeded high (p .symbols) (p .clauses)) work) (needing 10 (workNeeded high (p .symbols) (p .clauses)))
   _ ← check (leb (caseLength high (p .symbols)) room) (needing 11 (caseLength high (p .symbols)))
-  answer (searchOf p low high (smallestModel p low high))
+  foundWithin p low high work room
+
+-- a problem that was read of the sheet, and sizes in order
+pub record Ranged (sheet : List ℕ) (p : Problem) (low high : ℕ) : Type 0 where
+  pub accepted : Accepted sheet p
+  pub read : readProblem sheet ≡ answer (problemIn sheet p)
+  pub positive : 1 ≤ low
+  pub ordered : low ≤ high
+  pub within : high ≤ maxSize
 
 -- sizes, the largest of which is not refused, given so many numbers of work and so many bytes of output
 pub record Sizes (sheet : List ℕ) (p : Problem) (low high work room : ℕ) : Type 0 where

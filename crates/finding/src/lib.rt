@@ -1,6 +1,7 @@
 // Find: the least model at the smallest size that has one.
 pub mod first_values;
 pub mod one_size;
+pub mod range;
 pub mod settled;
 pub mod sizes;
 
@@ -11,21 +12,17 @@ use cases::writing::case_length;
 use counts::Counts;
 use counts::counts_at;
 use problem::sheet::read_problem;
+use range::RangeCheck;
+use range::checked_range;
 use sizes::search_sizes;
 use syntax::limits::Problem;
 use syntax::size::DomainSize;
 use valuations::numbering::numbering_of;
 ghost use mathlib.Core.Path.{_≡_};
-ghost use mathlib.Core.Bool.{_&&_};
 ghost use Prim.Native.Nat.{_+_, _*_, _≤_, _<_, _^_};
-ghost use lib.Dec.{leb};
-ghost use lib.ListN.{length};
-ghost use Rattle.theory.specs.Refusals.{answer};
-ghost use Rattle.theory.specs.Problem.{readProblem};
-ghost use Rattle.theory.specs.Operations.{findAnswer, findOutput, findResult, findWork};
-ghost use Rattle.answers.specs.Answers.{findIn};
-ghost use Rattle.problem.specs.Problems.{Accepted, problemIn};
-ghost use Rattle.finding.specs.Ending.{Ends, foundIn};
+ghost use Rattle.answers.specs.Calls.{FindCall};
+ghost use Rattle.problem.specs.Problems.{problemIn};
+ghost use Rattle.finding.specs.Ending.{Ends, Ranged, foundIn};
 
 pub fn find_model(
     sheet: &[u8],
@@ -34,62 +31,46 @@ pub fn find_model(
     work: &mut [u32],
     output: &mut [u8],
 ) -> FindAnswer
-    ensures answer { λ r. ⌜ findIn r ≡ findAnswer (findResult (now (sheet .entry)) low high (length (now (work .entry))) (length (now (output .entry)))) ⌝ }
-    ensures worked { λ r. ⌜ now (work .exit) ≡ findWork (findResult (now (sheet .entry)) low high (length (now (work .entry))) (length (now (output .entry)))) (now (work .entry)) ⌝ }
-    ensures left { λ r. ⌜ now (output .exit) ≡ findOutput (findResult (now (sheet .entry)) low high (length (now (work .entry))) (length (now (output .entry)))) (now (output .entry)) ⌝ }
+    ensures { λ r. ⌜ FindCall (now (sheet .entry)) low high r (now (work .entry)) (now (work .exit)) (now (output .entry)) (now (output .exit)) ⌝ }
 {
     let r = read_problem(sheet);
     if r.fault != 0 {
         return FindAnswer::Refused(at_line(r.fault, r.line));
     }
     let p = r.problem;
-    find_in(sheet, p, low, high, work, output)
+    match checked_range(low, high) {
+        RangeCheck::Refused => FindAnswer::Refused(at_line(8, 0)),
+        RangeCheck::Is(least, most) => find_in(sheet, p, least, most, work, output),
+    }
 }
 
-// Find's own refusals, in order, then the search.
+// At checked sizes: the other refusals, in order, then the search.
 fn find_in(
     sheet: &[u8],
     p: Problem,
-    low: u64,
-    high: u64,
+    low: DomainSize,
+    high: DomainSize,
     work: &mut [u32],
     output: &mut [u8],
 ) -> FindAnswer
-    requires { ⌜ Accepted (now sheet) p × (readProblem (now sheet) ≡ answer (problemIn (now sheet) p)) ⌝ }
-    ensures { λ r. ⌜ Ends (foundIn (problemIn (now (sheet .entry)) p) low high (length (now (work .entry))) (length (now (output .entry)))) r (now (work .entry)) (now (work .exit)) (now (output .entry)) (now (output .exit)) ⌝ }
+    requires { ⌜ Ranged (now sheet) p (low .0) (high .0) ⌝ }
+    ensures { λ r. ⌜ Ends (foundIn (problemIn (now (sheet .entry)) p) (low .0) (high .0)) r (now (work .entry)) (now (work .exit)) (now (output .entry)) (now (output .exit)) ⌝ }
 {
-    if !are_sizes(low, high) {
-        return FindAnswer::Refused(at_line(8, 0));
-    }
-    let size = high as usize;
-    let c = counts_at(sheet, p, DomainSize(size));
+    let c = counts_at(sheet, p, high);
     if Counts::MAX_INSTANCES < c.instances {
         return FindAnswer::Refused(at_line(9, 0));
     }
     let signature = p.signature;
-    let n = numbering_of(signature, DomainSize(size));
+    let n = numbering_of(signature, high);
     let needed = work_needed(c, n.count as usize);
+    let length = case_length(signature, high);
     if work.len() < needed {
         return FindAnswer::Refused(needing(10, needed));
     }
-    let length = case_length(signature, size);
     if output.len() < length {
         return FindAnswer::Refused(needing(11, length));
     }
-    search_sizes(sheet, p, low as usize, size, work, output)
-}
-
-// Whether low to high are sizes: 1 to 8, in order.
-fn are_sizes(low: u64, high: u64) -> bool
-    ensures { λ r. ⌜ r ≡ (leb 1 low && leb high 8 && leb low high) ⌝ }
-{
-    if low < 1 {
-        return false;
-    }
-    if 8 < high {
-        return false;
-    }
-    low <= high
+    search_sizes(sheet, p, low, high, work, output)
 }
 
 // W: the numbers of work that are needed for these counts and v variables.

@@ -7,6 +7,7 @@ use search::solve;
 use stream::consumer::Mode;
 use stream::consumer::Progress;
 use syntax::limits::Problem;
+use syntax::size::DomainSize;
 use valuations::numbering::Numbering;
 ghost use mathlib.Core.Path.{_≡_};
 ghost use mathlib.Core.List.{List};
@@ -23,11 +24,17 @@ ghost use Rattle.valuations.specs.Numbers.{NumberingOf};
 ghost use Rattle.finding.specs.Searching.{Searchable, sheetClauses};
 
 // Clears the work area and counts the clauses at a size in it; answers how many they are.
-fn count_clauses(sheet: &[u8], p: Problem, n: Numbering, size: usize, work: &mut [u32]) -> usize
-    requires { ⌜ Searchable (now sheet) p size (length (now work)) ⌝ }
-    requires { ⌜ NumberingOf (signatureIn (now sheet) (p .signature)) size n ⌝ }
-    ensures number { λ r. ⌜ length (sheetClauses size (now (sheet .entry)) p) ≡ r ⌝ }
-    ensures tallied { λ r. ⌜ Tallied (n .count) (allCodes (sheetClauses size (now (sheet .entry)) p)) (now (work .exit)) ⌝ }
+fn count_clauses(
+    sheet: &[u8],
+    p: Problem,
+    n: Numbering,
+    size: DomainSize,
+    work: &mut [u32],
+) -> usize
+    requires { ⌜ Searchable (now sheet) p (size .0) (length (now work)) ⌝ }
+    requires { ⌜ NumberingOf (signatureIn (now sheet) (p .signature)) (size .0) n ⌝ }
+    ensures number { λ r. ⌜ length (sheetClauses (size .0) (now (sheet .entry)) p) ≡ r ⌝ }
+    ensures tallied { λ r. ⌜ Tallied (n .count) (allCodes (sheetClauses (size .0) (now (sheet .entry)) p)) (now (work .exit)) ⌝ }
 {
     let mut no_text = [0u8; 1];
     clear_all(work);
@@ -36,7 +43,7 @@ fn count_clauses(sheet: &[u8], p: Problem, n: Numbering, size: usize, work: &mut
         sheet,
         p,
         n,
-        size as u32,
+        size,
         &mut no_text,
         work,
         Progress { at: 0, count: 0 },
@@ -45,12 +52,19 @@ fn count_clauses(sheet: &[u8], p: Problem, n: Numbering, size: usize, work: &mut
 }
 
 // Enters the m clauses at a size that were counted.
-fn enter_clauses(sheet: &[u8], p: Problem, n: Numbering, size: usize, m: usize, work: &mut [u32])
-    requires { ⌜ Searchable (now sheet) p size (length (now work)) ⌝ }
-    requires { ⌜ NumberingOf (signatureIn (now sheet) (p .signature)) size n ⌝ }
-    requires { ⌜ length (sheetClauses size (now sheet) p) ≡ m ⌝ }
-    requires { ⌜ Tallied (n .count) (allCodes (sheetClauses size (now sheet) p)) (now work) ⌝ }
-    ensures { λ _. ⌜ Entered (n .count) (allCodes (sheetClauses size (now (sheet .entry)) p)) (allCodes (sheetClauses size (now (sheet .entry)) p)) (now (work .exit)) ⌝ }
+fn enter_clauses(
+    sheet: &[u8],
+    p: Problem,
+    n: Numbering,
+    size: DomainSize,
+    m: usize,
+    work: &mut [u32],
+)
+    requires { ⌜ Searchable (now sheet) p (size .0) (length (now work)) ⌝ }
+    requires { ⌜ NumberingOf (signatureIn (now sheet) (p .signature)) (size .0) n ⌝ }
+    requires { ⌜ length (sheetClauses (size .0) (now sheet) p) ≡ m ⌝ }
+    requires { ⌜ Tallied (n .count) (allCodes (sheetClauses (size .0) (now sheet) p)) (now work) ⌝ }
+    ensures { λ _. ⌜ Entered (n .count) (allCodes (sheetClauses (size .0) (now (sheet .entry)) p)) (allCodes (sheetClauses (size .0) (now (sheet .entry)) p)) (now (work .exit)) ⌝ }
 {
     let v = n.count as usize;
     bounds(work, v, m);
@@ -60,7 +74,7 @@ fn enter_clauses(sheet: &[u8], p: Problem, n: Numbering, size: usize, m: usize, 
         sheet,
         p,
         n,
-        size as u32,
+        size,
         &mut no_text,
         work,
         Progress { at: 0, count: 0 },
@@ -68,11 +82,11 @@ fn enter_clauses(sheet: &[u8], p: Problem, n: Numbering, size: usize, m: usize, 
 }
 
 // Loads the clauses at a size into the work area, whatever it holds, and answers how many they are.
-fn load(sheet: &[u8], p: Problem, n: Numbering, size: usize, work: &mut [u32]) -> usize
-    requires { ⌜ Searchable (now sheet) p size (length (now work)) ⌝ }
-    requires { ⌜ ((text : List ℕ) → NumberingOf (signatureIn text (p .signature)) size n) ⌝ }
-    ensures number { λ r. ⌜ length (sheetClauses size (now (sheet .entry)) p) ≡ r ⌝ }
-    ensures loaded { λ r. ⌜ Loaded (n .count) (sheetClauses size (now (sheet .entry)) p) (yesFirst size (signatureIn (now (sheet .entry)) (p .signature))) (now (work .exit)) ⌝ }
+fn load(sheet: &[u8], p: Problem, n: Numbering, size: DomainSize, work: &mut [u32]) -> usize
+    requires { ⌜ Searchable (now sheet) p (size .0) (length (now work)) ⌝ }
+    requires { ⌜ ((text : List ℕ) → NumberingOf (signatureIn text (p .signature)) (size .0) n) ⌝ }
+    ensures number { λ r. ⌜ length (sheetClauses (size .0) (now (sheet .entry)) p) ≡ r ⌝ }
+    ensures loaded { λ r. ⌜ Loaded (n .count) (sheetClauses (size .0) (now (sheet .entry)) p) (yesFirst (size .0) (signatureIn (now (sheet .entry)) (p .signature))) (now (work .exit)) ⌝ }
 {
     let m = count_clauses(sheet, p, n, size, work);
     enter_clauses(sheet, p, n, size, m, work);
@@ -82,10 +96,16 @@ fn load(sheet: &[u8], p: Problem, n: Numbering, size: usize, work: &mut [u32]) -
 }
 
 // Whether the problem has a model at the size, whose valuation the first numbers of the work area then are.
-pub fn search_size(sheet: &[u8], p: Problem, n: Numbering, size: usize, work: &mut [u32]) -> bool
-    requires { ⌜ Searchable (now sheet) p size (length (now work)) ⌝ }
-    requires { ⌜ ((text : List ℕ) → NumberingOf (signatureIn text (p .signature)) size n) ⌝ }
-    ensures { λ r. ⌜ searched size (problemIn (now (sheet .entry)) p) .answer ≡ searchAnswer r (take (n .count) (now (work .exit))) ⌝ }
+pub fn search_size(
+    sheet: &[u8],
+    p: Problem,
+    n: Numbering,
+    size: DomainSize,
+    work: &mut [u32],
+) -> bool
+    requires { ⌜ Searchable (now sheet) p (size .0) (length (now work)) ⌝ }
+    requires { ⌜ ((text : List ℕ) → NumberingOf (signatureIn text (p .signature)) (size .0) n) ⌝ }
+    ensures { λ r. ⌜ searched (size .0) (problemIn (now (sheet .entry)) p) .answer ≡ searchAnswer r (take (n .count) (now (work .exit))) ⌝ }
 {
     let m = load(sheet, p, n, size, work);
     solve(work, n.count as usize, m)

@@ -1,6 +1,7 @@
-// The mark `settled`: no size above those searched has a model either.
+// The mark `settled`, as the document defines it: a condition on the problem and the largest size. That no larger size has a model where it holds is not proved here.
 use syntax::limits::Problem;
 use syntax::signature::Signature;
+use syntax::size::DomainSize;
 ghost use mathlib.Core.Path.{_≡_};
 ghost use mathlib.Core.Bool.{cond, false, not};
 ghost use mathlib.Core.List.{List};
@@ -14,11 +15,11 @@ ghost use Rattle.clauses.specs.Names.{Limited};
 ghost use Rattle.problem.specs.Problems.{Accepted, problemIn};
 
 // Whether no function has an arity above 0, and high is at least the number of constants.
-pub fn is_settled(p: Problem, high: usize) -> bool
+pub fn is_settled(p: Problem, high: DomainSize) -> bool
     requires { ⌜ Limited (p .signature) ⌝ }
-    ensures { λ r. ⌜ ((sheet : List ℕ) (low : ℕ) → Accepted sheet p → r ≡ settled (problemIn sheet p) low high) ⌝ }
+    ensures { λ r. ⌜ ((sheet : List ℕ) (low : ℕ) → Accepted sheet p → r ≡ settled (problemIn sheet p) low (high .0)) ⌝ }
 {
-    if high < p.functions {
+    if high.0 < p.functions {
         return false;
     }
     let signature = p.signature;

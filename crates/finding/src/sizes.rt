@@ -10,43 +10,42 @@ use valuations::numbering::Numbering;
 use valuations::numbering::numbering_of;
 ghost use mathlib.Core.Path.{_≡_};
 ghost use mathlib.Core.Bool.{true};
-ghost use Prim.Native.Nat.{ℕ, _≤_};
+ghost use Prim.Native.Nat.{_≤_};
 ghost use lib.ListN.{length, take};
 ghost use Rattle.theory.specs.CaseText.{caseLength};
-ghost use Rattle.theory.specs.Least.{leastModel, smallestModel, withSize};
 ghost use Rattle.theory.specs.Walk.{searched};
-ghost use Rattle.theory.specs.Refusals.{answer};
-ghost use Rattle.theory.specs.Operations.{searchOf};
 ghost use Rattle.syntax.specs.Signatures.{signatureIn};
 ghost use Rattle.problem.specs.Problems.{problemIn};
 ghost use Rattle.search.specs.Search.{searchAnswer};
 ghost use Rattle.valuations.specs.Numbers.{NumberingOf};
 ghost use Rattle.finding.specs.Searching.{Searchable};
-ghost use Rattle.finding.specs.Ending.{Ends, Sizes};
+ghost use Rattle.finding.specs.Ending.{Ends, Sizes, foundWithin};
 
 // Searches the sizes from low to high.
 pub fn search_sizes(
     sheet: &[u8],
     p: Problem,
-    low: usize,
-    high: usize,
+    low: DomainSize,
+    high: DomainSize,
     work: &mut [u32],
     output: &mut [u8],
 ) -> FindAnswer
-    requires { ⌜ Sizes (now sheet) p low high (length (now work)) (length (now output)) ⌝ }
-    ensures { λ r. ⌜ Ends (answer (searchOf (problemIn (now (sheet .entry)) p) low high (smallestModel (problemIn (now (sheet .entry)) p) low high))) r (now (work .entry)) (now (work .exit)) (now (output .entry)) (now (output .exit)) ⌝ }
+    requires { ⌜ Sizes (now sheet) p (low .0) (high .0) (length (now work)) (length (now output)) ⌝ }
+    ensures { λ r. ⌜ Ends (foundWithin (problemIn (now (sheet .entry)) p) (low .0) (high .0)) r (now (work .entry)) (now (work .exit)) (now (output .entry)) (now (output .exit)) ⌝ }
 {
     let signature = p.signature;
     let mut size = low;
-    while size <= high {
-        let n = numbering_of(signature, DomainSize(size));
+    loop {
+        let n = numbering_of(signature, size);
         if search_size(sheet, p, n, size, work) {
             return put_found(sheet, p, n, size, work, output);
         }
-        size += 1;
+        if high.0 <= size.0 {
+            clear_all(work);
+            return FindAnswer::Nothing(is_settled(p, high));
+        }
+        size = size.next();
     }
-    clear_all(work);
-    FindAnswer::Nothing(is_settled(p, high))
 }
 
 // Writes the model whose valuation the first numbers of the work area are, and clears the work area.
@@ -54,27 +53,19 @@ fn put_found(
     sheet: &[u8],
     p: Problem,
     n: Numbering,
-    size: usize,
+    size: DomainSize,
     work: &mut [u32],
     output: &mut [u8],
 ) -> FindAnswer
-    requires { ⌜ Searchable (now sheet) p size (length (now work)) ⌝ }
-    requires { ⌜ NumberingOf (signatureIn (now sheet) (p .signature)) size n ⌝ }
-    requires { ⌜ searched size (problemIn (now sheet) p) .answer ≡ searchAnswer true (take (n .count) (now work)) ⌝ }
-    requires { ⌜ caseLength size (problemIn (now sheet) p .symbols) ≤ length (now output) ⌝ }
-    ensures { λ r. ⌜ ((low high : ℕ) → Ends (answer (searchOf (problemIn (now (sheet .entry)) p) low high (withSize size (leastModel size (problemIn (now (sheet .entry)) p))))) r (now (work .entry)) (now (work .exit)) (now (output .entry)) (now (output .exit))) ⌝ }
+    requires { ⌜ Searchable (now sheet) p (size .0) (length (now work)) ⌝ }
+    requires { ⌜ NumberingOf (signatureIn (now sheet) (p .signature)) (size .0) n ⌝ }
+    requires { ⌜ searched (size .0) (problemIn (now sheet) p) .answer ≡ searchAnswer true (take (n .count) (now work)) ⌝ }
+    requires { ⌜ caseLength (size .0) (problemIn (now sheet) p .symbols) ≤ length (now output) ⌝ }
+    ensures { λ r. ⌜ Ends (foundWithin (problemIn (now (sheet .entry)) p) (size .0) (size .0)) r (now (work .entry)) (now (work .exit)) (now (output .entry)) (now (output .exit)) ⌝ }
 {
     let v = n.count as usize;
     let signature = p.signature;
-    let length = write_case(
-        sheet,
-        signature,
-        n,
-        DomainSize(size),
-        b"",
-        &work[..v],
-        output,
-    );
+    let length = write_case(sheet, signature, n, size, b"", &work[..v], output);
     clear_all(work);
-    FindAnswer::Found(size as u64, length)
+    FindAnswer::Found(size.0 as u64, length)
 }

@@ -12,12 +12,13 @@ use Rattle.theory.specs.Lists.{all, concatMap}
 use Rattle.theory.specs.Vectors.{vectors}
 use Rattle.theory.specs.Syntax.{Signature, Clause}
 use Rattle.theory.specs.Flattening.{FlatVariable, own, new, placeOr0, FlatAtom, flatPredicate, flatResult, flatEquality, FlatLiteral, FlatClause, flatten, variableCount}
+use Rattle.theory.specs.Lifted.{scoped, flatAtomScoped, flatScoped}
 use Rattle.theory.specs.Propositional.{propVariable}
 use Rattle.theory.specs.Instances.{flatValue, Ground, known, variable, ground, addLiteral, instance, kept, instances}
 use Rattle.theory.proofs.Tests.{and-left, and-right}
 use Rattle.theory.proofs.Lists.{concatMap-cong}
 use Rattle.theory.proofs.Truth.{assign-place}
-use Rattle.theory.proofs.WellFormed.{scoped, flatAtomScoped, flatScoped, flatten-scoped}
+use Rattle.theory.proofs.WellFormed.{flatten-scoped}
 use Rattle.lifting.proofs.Standing.{own-place}
 use Rattle.shallow.specs.Placed.{placedVariable, placedAtom, placedLiteral, placed}
 

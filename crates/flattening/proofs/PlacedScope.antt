@@ -8,9 +8,10 @@ use lib.ListN.{length, length-map}
 use Rattle.theory.specs.Lists.{all}
 use Rattle.theory.specs.Syntax.{Signature, Clause, predicateOf, functionOf, clauseOk}
 use Rattle.theory.specs.Flattening.{FlatVariable, own, new, placeOr0, FlatAtom, flatPredicate, flatResult, flatEquality, FlatLiteral, FlatClause, flatten, variableCount}
+use Rattle.theory.specs.Lifted.{flatAtomOk, flatOk, scoped, flatAtomScoped, flatScoped}
 use Rattle.theory.proofs.Tests.{ltb-true, ltb-of-<, and-left, and-right, and-join}
 use Rattle.theory.proofs.Lists.{all-map, all-imply}
-use Rattle.theory.proofs.WellFormed.{flatAtomOk, flatOk, flatten-ok, scoped, flatAtomScoped, flatScoped, flatten-scoped}
+use Rattle.theory.proofs.WellFormed.{flatten-ok, flatten-scoped}
 use Rattle.lifting.specs.Places.{placeIn}
 use Rattle.lifting.proofs.Standing.{own-place}
 use Rattle.shallow.specs.Placed.{placedVariable, placedAtom, placedLiteral, placed}

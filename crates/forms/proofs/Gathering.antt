@@ -11,13 +11,13 @@ use lib.Seq.{paste, length-paste, length-paste-head, length-take-le, take-all, t
 use Rattle.theory.specs.Lists.{all, upFrom, upTo}
 use Rattle.theory.specs.Syntax.{Signature}
 use Rattle.theory.specs.Flattening.{FlatLiteral}
+use Rattle.theory.specs.Lifted.{flatAtomOk, flatAtomScoped}
 use Rattle.theory.specs.Propositional.{PropClause}
 use Rattle.theory.specs.Instances.{flatValue, instance}
 use Rattle.theory.proofs.Tests.{ltb-true, ltb-false}
 use Rattle.theory.proofs.Lists.{all-map, all-upTo}
-use Rattle.theory.proofs.WellFormed.{flatAtomOk, flatAtomScoped}
-use Rattle.shallow.specs.Literals.{noLiteral, literalIn, threeAt}
-use Rattle.shallow.proofs.Written.{literalWith, literalIn-three}
+use Rattle.shallow.specs.Literals.{noLiteral, literalIn, threeAt, literalWith}
+use Rattle.shallow.proofs.Written.{literalIn-three}
 use Rattle.flattening.specs.declared.flat.FlatClause.{FlatClause}
 use Rattle.flattening.specs.Flat.{flatIn}
 use Rattle.valuations.specs.declared.numbering.Numbering.{Numbering}

@@ -9,9 +9,9 @@ use Rattle.theory.specs.Lists.{upTo}
 use Rattle.theory.specs.Syntax.{Signature, Clause}
 use Rattle.theory.specs.Flattening.{flatten, variableCount}
 use Rattle.theory.specs.Flattening as theory
+use Rattle.theory.specs.Lifted.{flatOk, flatScoped}
 use Rattle.theory.proofs.Lists.{length-upFrom}
 use Rattle.theory.proofs.Limits.{flat-literals}
-use Rattle.theory.proofs.WellFormed.{flatOk, flatScoped}
 use Rattle.syntax.specs.declared.words.ClauseWords.{ClauseWords}
 use Rattle.syntax.specs.Codes.{clauseIn}
 use Rattle.syntax.proofs.Clauses.{clauseOk-clauseIn}

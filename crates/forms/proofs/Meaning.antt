@@ -13,16 +13,17 @@ use Rattle.theory.specs.Lists.{all, prefix}
 use Rattle.theory.specs.Vectors.{rank}
 use Rattle.theory.specs.Syntax.{function, predicate, Kind, Signature, symbolAt}
 use Rattle.theory.specs.Flattening.{FlatVariable, new, flatPredicate, flatResult, flatEquality}
+use Rattle.theory.specs.Lifted.{scoped, flatAtomOk, flatAtomScoped}
 use Rattle.theory.specs.Propositional.{PropLiteral, PropClause, width, propBase, propVariable}
 use Rattle.theory.specs.Instances.{flatValue, Ground, known, variable, ground, addLiteral}
 use Rattle.theory.proofs.Tests.{and-left, and-right, ltb-true}
 use Rattle.theory.proofs.Lists.{all-map, all-getD, map-take}
 use Rattle.theory.proofs.Declared.{Declared, functionOf→, predicateOf→}
-use Rattle.theory.proofs.WellFormed.{scoped, flatAtomOk, flatAtomScoped}
 use Rattle.shallow.specs.declared.literals.Shape.{Shape}
 use Rattle.shallow.specs.declared.literals.Shape.the-variants.{Predicate, FunctionResult, VariableEquality}
 use Rattle.shallow.specs.declared.literals.Literal.{Literal}
-use Rattle.shallow.proofs.Written.{arity-small, atomWith}
+use Rattle.shallow.specs.Literals.{atomWith}
+use Rattle.shallow.proofs.Written.{arity-small}
 use Rattle.valuations.specs.declared.numbering.Numbering.{Numbering}
 use Rattle.valuations.proofs.Blocks.{propBase-within}
 use Rattle.stream.specs.Literals.{literalOf}

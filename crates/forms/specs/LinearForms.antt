@@ -10,12 +10,12 @@ use Rattle.theory.specs.Lists.{prefix}
 use Rattle.theory.specs.Syntax.{Signature}
 use Rattle.theory.specs.Flattening.{FlatLiteral}
 use Rattle.theory.specs.Flattening as theory
+use Rattle.theory.specs.Lifted.{flatAtomOk, flatOk, flatAtomScoped, flatScoped}
 use Rattle.theory.specs.Propositional.{PropClause}
 use Rattle.theory.specs.Instances.{flatValue, ground, addLiteral, instance}
-use Rattle.theory.proofs.WellFormed.{flatAtomOk, flatOk, flatAtomScoped, flatScoped}
 use Rattle.syntax.specs.Signatures.{Arities, Small}
 use Rattle.shallow.specs.declared.literals.Literal.{Literal}
-use Rattle.shallow.proofs.Written.{literalWith}
+use Rattle.shallow.specs.Literals.{literalWith}
 use Rattle.flattening.specs.declared.flat.FlatClause.{FlatClause}
 use Rattle.flattening.specs.Flat.{flatIn}
 use Rattle.valuations.specs.declared.numbering.Numbering.{Numbering}

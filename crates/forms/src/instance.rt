@@ -1,4 +1,6 @@
 // One instance of a clause: its forms under values of the clause's variables.
+use indices::Element;
+use syntax::limits::Problem;
 ghost use mathlib.Core.Path.{_≡_};
 ghost use mathlib.Core.Bool.{cond};
 ghost use mathlib.Core.List.{[], _∷_};
@@ -36,7 +38,7 @@ pub fn instance_at(forms: &[u32], count: usize, values: &[u8], codes: &mut [u32]
                 };
             }
         }
-        at += 10;
+        at += Problem::FORM;
         left -= 1;
     }
     Instance {
@@ -79,13 +81,14 @@ fn product_at(forms: &[u32], at: usize, values: &[u8]) -> u32
     ensures small { λ r. ⌜ r ≤ 2097152 ⌝ }
 {
     let place = forms[at] as usize;
-    product(forms[at + 1], values[place])
+    product(forms[at + 1], Element(values[place]))
 }
 
-fn product(coefficient: u32, value: u8) -> u32
+// A value, as often as a coefficient says.
+fn product(coefficient: u32, value: Element) -> u32
     requires { ⌜ coefficient ≤ 8192 ⌝ }
-    ensures product { λ r. ⌜ r ≡ coefficient * value ⌝ }
+    ensures product { λ r. ⌜ r ≡ coefficient * value .0 ⌝ }
     ensures small { λ r. ⌜ r ≤ 2097152 ⌝ }
 {
-    coefficient * value as u32
+    coefficient * value.0 as u32
 }

@@ -2,6 +2,7 @@
 use indices::Element;
 use indices::PropVar;
 use interpretation::vector::power;
+use propagation::literals::literal;
 use stream::consumer::Mode;
 use stream::consumer::Progress;
 use stream::consumer::take_clause;
@@ -10,7 +11,6 @@ use syntax::signature::Signature;
 use syntax::signature::Symbol;
 use syntax::size::DomainSize;
 use valuations::numbering::Numbering;
-use valuations::numbering::literal;
 ghost use mathlib.Core.Path.{_≡_};
 ghost use mathlib.Core.List.{List, [], _∷_};
 ghost use Prim.Native.Nat.{ℕ, _+_, _*_, _^_, _≤_, _<_};

@@ -9,6 +9,8 @@ use Rattle.theory.specs.Syntax.{Signature}
 use Rattle.theory.specs.Flattening.{FlatLiteral}
 use Rattle.theory.specs.Propositional.{PropClause}
 use Rattle.theory.specs.Instances.{flatValue, instance, kept}
+use Rattle.stream.specs.declared.consumer.Mode.{Mode}
+use Rattle.stream.specs.Consuming.{State, Consumes, Consumed}
 use Rattle.forms.specs.LinearForms.{formInstance}
 
 -- so many forms are of shallow literals over n variables; values past those of the variables do not count
@@ -24,3 +26,19 @@ instanceUnder {s = s} o v = kept (instance s (o .signature) (flatValue [] v) (o 
 -- the instances under all choices, the last value fastest
 abbrev pub allInstances : {s n count : ℕ} {fs : List ℕ} → FormsOf s n count fs → List PropClause
 allInstances {s = s} {n = n} o = concatMap (instanceUnder o) (vectors s n)
+
+-- at x, these instances come next, of literals of which so many forms are
+abbrev pub FormsNext : Mode → ℕ → ℕ → ℕ → ℕ → List ℕ → State → Type 0
+FormsNext mode v s n count fs x = (o : FormsOf s n count fs) × Consumes mode v (allInstances o) x
+
+-- from x to y, they were taken, of whatever literals the forms are
+abbrev pub FormsTaken : Mode → ℕ → ℕ → ℕ → ℕ → List ℕ → State → State → Type 0
+FormsTaken mode v s n count fs x y = (o : FormsOf s n count fs) → Consumed mode v (allInstances o) x y
+
+-- at x, the instance of so many forms under some values comes next, unless it is dropped
+abbrev pub InstanceNext : Mode → ℕ → List ℕ → ℕ → List ℕ → State → Type 0
+InstanceNext mode v values count fs x = Consumes mode v (kept (formInstance values count fs)) x
+
+-- from x to y, it was taken
+abbrev pub InstanceTaken : Mode → ℕ → List ℕ → ℕ → List ℕ → State → State → Type 0
+InstanceTaken mode v values count fs x y = Consumed mode v (kept (formInstance values count fs)) x y

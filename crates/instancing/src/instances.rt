@@ -14,15 +14,14 @@ use valuations::numbering::Numbering;
 ghost use mathlib.Core.Path.{_≡_};
 ghost use Prim.Native.Nat.{ℕ, _+_, _*_, _^_, _≤_, _<_};
 ghost use lib.ListN.{length};
-ghost use Rattle.theory.specs.Instances.{kept};
 ghost use Rattle.syntax.specs.Signatures.{signatureIn};
-ghost use Rattle.problem.specs.Problems.{Accepted, problemIn};
-ghost use Rattle.stream.specs.Consuming.{Consumed, Consumes, state};
+ghost use Rattle.problem.specs.Problems.{Accepted};
+ghost use Rattle.stream.specs.Consuming.{state};
 ghost use Rattle.valuations.specs.Numbers.{NumberingOf};
-ghost use Rattle.forms.specs.LinearForms.{AllSafe, formInstance};
+ghost use Rattle.forms.specs.LinearForms.{AllSafe};
 ghost use Rattle.instancing.specs.Choices.{ChoiceAt};
-ghost use Rattle.instancing.specs.ClauseForms.{FormsOf, allInstances};
-ghost use Rattle.instancing.specs.InstancePart.{instancePart, instancesOf};
+ghost use Rattle.instancing.specs.ClauseForms.{FormsNext, FormsTaken, InstanceNext, InstanceTaken};
+ghost use Rattle.instancing.specs.InstancePart.{ClauseNext, ClauseTaken, InstancesNext, InstancesTaken};
 
 // The instances of all clauses of a problem.
 pub fn all_instances(
@@ -30,15 +29,15 @@ pub fn all_instances(
     sheet: &[u8],
     p: Problem,
     n: Numbering,
-    size: u32,
+    size: DomainSize,
     out: &mut [u8],
     work: &mut [u32],
     start: Progress,
 ) -> Progress
-    requires { ⌜ Accepted (now sheet) p × (size ≤ 8) ⌝ }
-    requires { ⌜ NumberingOf (signatureIn (now sheet) (p .signature)) size n ⌝ }
-    requires { ⌜ Consumes mode (n .count) (instancePart size (problemIn (now sheet) p)) (state start (now out) (now work)) ⌝ }
-    ensures { λ r. ⌜ Consumed mode (n .count) (instancePart size (problemIn (now (sheet .entry)) p)) (state start (now (out .entry)) (now (work .entry))) (state r (now (out .exit)) (now (work .exit))) ⌝ }
+    requires { ⌜ Accepted (now sheet) p × (size .0 ≤ 8) ⌝ }
+    requires { ⌜ NumberingOf (signatureIn (now sheet) (p .signature)) (size .0) n ⌝ }
+    requires { ⌜ InstancesNext mode (now sheet) p n (size .0) (state start (now out) (now work)) ⌝ }
+    ensures { λ r. ⌜ InstancesTaken mode (now (sheet .entry)) p n (size .0) (state start (now (out .entry)) (now (work .entry))) (state r (now (out .exit)) (now (work .exit))) ⌝ }
 {
     let mut reached = start;
     let mut k: usize = 0;
@@ -56,15 +55,15 @@ fn one_clause(
     p: Problem,
     k: usize,
     n: Numbering,
-    size: u32,
+    size: DomainSize,
     out: &mut [u8],
     work: &mut [u32],
     start: Progress,
 ) -> Progress
-    requires { ⌜ Accepted (now sheet) p × (k < p .count) × (size ≤ 8) ⌝ }
-    requires { ⌜ NumberingOf (signatureIn (now sheet) (p .signature)) size n ⌝ }
-    requires { ⌜ Consumes mode (n .count) (instancesOf size (problemIn (now sheet) p) k) (state start (now out) (now work)) ⌝ }
-    ensures { λ r. ⌜ Consumed mode (n .count) (instancesOf size (problemIn (now (sheet .entry)) p) k) (state start (now (out .entry)) (now (work .entry))) (state r (now (out .exit)) (now (work .exit))) ⌝ }
+    requires { ⌜ Accepted (now sheet) p × (k < p .count) × (size .0 ≤ 8) ⌝ }
+    requires { ⌜ NumberingOf (signatureIn (now sheet) (p .signature)) (size .0) n ⌝ }
+    requires { ⌜ ClauseNext mode (now sheet) p k n (size .0) (state start (now out) (now work)) ⌝ }
+    ensures { λ r. ⌜ ClauseTaken mode (now (sheet .entry)) p k n (size .0) (state start (now (out .entry)) (now (work .entry))) (state r (now (out .exit)) (now (work .exit))) ⌝ }
 {
     let words = clause_words(sheet, p, k);
     let signature = p.signature;
@@ -92,17 +91,18 @@ fn clause_instances(
     forms: &[u32],
     count: usize,
     variables: usize,
-    size: u32,
+    size: DomainSize,
     out: &mut [u8],
     work: &mut [u32],
     start: Progress,
 ) -> Progress
-    requires { ⌜ AllSafe count (now forms) × (count ≤ 26) × (count * 10 ≤ length (now forms)) × (variables ≤ 10) × (size ≤ 8) ⌝ }
-    requires { ⌜ ((o : FormsOf size variables count (now forms)) × Consumes mode v (allInstances o) (state start (now out) (now work))) ⌝ }
-    ensures { λ r. ⌜ ((o : FormsOf size variables count (now (forms .entry))) → Consumed mode v (allInstances o) (state start (now (out .entry)) (now (work .entry))) (state r (now (out .exit)) (now (work .exit)))) ⌝ }
+    requires { ⌜ AllSafe count (now forms) × (count ≤ 26) × (count * 10 ≤ length (now forms)) × (variables ≤ 10) × (size .0 ≤ 8) ⌝ }
+    requires { ⌜ FormsNext mode v (size .0) variables count (now forms) (state start (now out) (now work)) ⌝ }
+    ensures { λ r. ⌜ FormsTaken mode v (size .0) variables count (now (forms .entry)) (state start (now (out .entry)) (now (work .entry))) (state r (now (out .exit)) (now (work .exit))) ⌝ }
 {
-    let choices = power(size as usize, variables);
-    let mut values = ArgumentVector::first(variables, DomainSize(size as usize));
+    let elements = size.0;
+    let choices = power(elements, variables);
+    let mut values = ArgumentVector::first(variables, size);
     let mut p = start;
     let mut i: usize = 0;
     while i < choices {
@@ -126,10 +126,10 @@ fn one_instance(
     start: Progress,
 ) -> Progress
     requires { ⌜ AllSafe count (now forms) × (count ≤ 26) × (count * 10 ≤ length (now forms)) × (length (now values) ≡ 10) ⌝ }
-    requires { ⌜ Consumes mode v (kept (formInstance (now values) count (now forms))) (state start (now out) (now work)) ⌝ }
-    ensures { λ r. ⌜ Consumed mode v (kept (formInstance (now (values .entry)) count (now (forms .entry)))) (state start (now (out .entry)) (now (work .entry))) (state r (now (out .exit)) (now (work .exit))) ⌝ }
+    requires { ⌜ InstanceNext mode v (now values) count (now forms) (state start (now out) (now work)) ⌝ }
+    ensures { λ r. ⌜ InstanceTaken mode v (now (values .entry)) count (now (forms .entry)) (state start (now (out .entry)) (now (work .entry))) (state r (now (out .exit)) (now (work .exit))) ⌝ }
 {
-    let mut codes = [0u32; 26];
+    let mut codes = [0u32; Problem::MAX_FLAT_LITERALS];
     let instance = instance_at(forms, count, values, &mut codes);
     if !instance.kept {
         return start;

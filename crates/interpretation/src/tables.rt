@@ -18,13 +18,6 @@ pub struct Tables {
     pub cells: usize,
 }
 
-impl Tables {
-    // the cells of a symbol of the greatest arity at the greatest size
-    pub const MAX_TABLE: usize = Problem::MAX_SIZE * Problem::MAX_SIZE * Problem::MAX_SIZE;
-
-    pub const MAX_CELLS: usize = Self::MAX_TABLE * Problem::MAX_SYMBOLS;
-}
-
 pub fn tables_of(signature: Signature, size: DomainSize) -> Tables
     requires { ⌜ Limited signature × (size .0 ≤ 8) ⌝ }
     ensures { λ r. ⌜ ((sheet : List ℕ) → TablesOf (signatureIn sheet signature) (size .0) r) ⌝ }

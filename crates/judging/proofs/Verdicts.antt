@@ -16,6 +16,7 @@ use Rattle.theory.specs.Operations.{judgeAnswer}
 use Rattle.theory.proofs.Answers.{bind-step, bind-refused}
 use Rattle.theory.proofs.CaseText.{OnlyText, read-exactly}
 use Rattle.syntax.specs.declared.limits.Problem.{Problem}
+use Rattle.syntax.specs.declared.size.DomainSize.{DomainSize}
 use Rattle.syntax.specs.Signatures.{signatureIn}
 use Rattle.clauses.proofs.Held.{small-signatureIn}
 use Rattle.interpretation.specs.declared.tables.Tables.{Tables}
@@ -76,11 +77,14 @@ module _ (sheet case : List ℕ) (r : Reading) (read : readingOf sheet r ≡ rea
   unfolding judgeAnswer
   case-refused l q = bind-step _ _ _ _ (sheet-accepted sheet r read ok) (bind-refused _ _ _ (told (Refused l) q))
 
-  module _ (s : ℕ) (q : k ≡ Read s) where
+  module _ (d : DomainSize) (q : k ≡ Read d) where
+    abbrev s : ℕ
+    s = d .0
+
     -- the case is one of the problem
     pub case-judged : judgeAnswer sheet case ≡ answer (isModel s (problemIn sheet (r .problem) .symbols) (problemIn sheet (r .problem) .clauses) (cellsOf sheet (r .problem) cells s))
     unfolding judgeAnswer
-    case-judged = bind-step _ _ _ _ (sheet-accepted sheet r read ok) (bind-step _ _ _ _ (told (Read s) q) refl)
+    case-judged = bind-step _ _ _ _ (sheet-accepted sheet r read ok) (bind-step _ _ _ _ (told (Read d) q) refl)
 
     exact : OnlyText (signatureIn sheet (r .problem .signature)) case (record { size = s; values = cellsOf sheet (r .problem) cells s })
     exact =

@@ -4,7 +4,6 @@ use answers::JudgeAnswer;
 use answers::at_line;
 use cases::reading::CaseReading;
 use cases::reading::read_case;
-use interpretation::tables::Tables;
 use interpretation::tables::tables_of;
 use problem::sheet::read_problem;
 use syntax::limits::Problem;
@@ -25,10 +24,10 @@ pub fn judge_case(sheet: &[u8], case: &[u8]) -> JudgeAnswer
     }
     let p = r.problem;
     let signature = p.signature;
-    let mut cells = [0; Tables::MAX_CELLS];
+    let mut cells = [0; Problem::MAX_CELLS];
     match read_case(case, sheet, signature, &mut cells) {
         CaseReading::Refused(line) => JudgeAnswer::Refused(at_line(12, line)),
-        CaseReading::Read(size) => judge_cells(sheet, p, &cells, DomainSize(size)),
+        CaseReading::Read(size) => judge_cells(sheet, p, &cells, size),
     }
 }
 

@@ -9,15 +9,15 @@ use lib.Dec.{ltb}
 use lib.ListN.{length, getD, set, length-append, length-set, List·getD-append}
 use lib.Seq.{ext-getD, getD-set-same, getD-set-other, getD-append-seam}
 use borrow.Author.Tests.{le-ltb}
-use Rattle.theory.proofs.WellFormed.{within}
 use Rattle.theory.specs.Lists.{all, placeThat}
 use Rattle.theory.specs.Syntax.{Signature, symbolAt, Term, variable, apply, Terms, count, functionOf, termVariables, termsVariables, termOk, termsOk}
 use Rattle.theory.specs.Flattening.{placeOr0, functionTerms, allFunctionTerms, sameTerm, addTerm, variableFor}
+use Rattle.theory.specs.Lifted.{within, among, covered, coveredAll, isApply}
 use Rattle.theory.proofs.Tests.{iff→≡, ltb-true, ltb-false, ltb-of-<, and-left, and-join}
 use Rattle.theory.proofs.Lists.{all-at, all-append, all-imply}
 use Rattle.theory.proofs.Finding.{placeThat-snoc, any→placeThat-none}
 use Rattle.theory.proofs.Declared.{functionOf→}
-use Rattle.theory.proofs.LiftedTerms.{among, sameTerm-true, sameTerm-of-≡, addTerms-adds, addTerms-all, addTerms-different, Place, place, covered, coveredAll, covered-arguments, isApply}
+use Rattle.theory.proofs.LiftedTerms.{sameTerm-true, sameTerm-of-≡, addTerms-adds, addTerms-all, addTerms-different, Place, place, covered-arguments}
 use Rattle.theory.proofs.Growing.{variablesFor-append, among-grown}
 use Rattle.syntax.specs.Signatures.{Small}
 use Rattle.lifting.specs.declared.table.Table.{Table}

@@ -7,11 +7,12 @@ use mathlib.Core.List.{List, [], _∷_, _++_, append-assoc}
 use native.Mathlib.Nat.{add-zero}
 use native.Mathlib.Omega.{arith}
 use lib.ListN.{length, getD, set, replicate, length-append, getD-replicate}
-use Rattle.theory.proofs.WellFormed.{within, within-left, within-right}
+use Rattle.theory.proofs.WellFormed.{within-left, within-right}
 use Rattle.theory.specs.Lists.{all, elem}
 use Rattle.theory.specs.Syntax.{Signature, symbolAt, Term, variable, apply, Terms, empty, cons, count, functionOf, termVariables, termsVariables, termOk, termsOk}
 use Rattle.theory.specs.Grammar.{Word, letter, symbol, termWords, termsWords}
 use Rattle.theory.specs.Flattening.{functionTerms, allFunctionTerms, addTerm, addTerms, variableFor, placeOr0}
+use Rattle.theory.specs.Lifted.{within}
 use Rattle.theory.proofs.Tests.{ltb-true, and-left, and-right}
 use Rattle.theory.proofs.Lists.{all-elem}
 use Rattle.theory.proofs.Declared.{functionOf→}

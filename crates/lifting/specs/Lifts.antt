@@ -7,8 +7,7 @@ use lib.ListN.{length, getD}
 use Rattle.theory.specs.Lists.{all}
 use Rattle.theory.specs.Syntax.{Signature, Term, variable, apply, Terms, empty, termVariables, termOk}
 use Rattle.theory.specs.Problem.{maxWords, maxArity}
-use Rattle.theory.proofs.WellFormed.{within}
-use Rattle.theory.proofs.LiftedTerms.{covered, isApply, different}
+use Rattle.theory.specs.Lifted.{within, covered, isApply, different}
 use Rattle.lifting.specs.declared.table.Table.{Table}
 use Rattle.lifting.specs.Places.{places}
 

@@ -5,12 +5,12 @@ use mathlib.Core.Bool.{true}
 use mathlib.Core.List.{List, _++_, map}
 use lib.Dec.{eqb}
 use lib.ListN.{length, getD, take, drop}
-use Rattle.theory.proofs.WellFormed.{within}
 use Rattle.theory.specs.Lists.{all, placeThat}
 use Rattle.theory.specs.Syntax.{Signature, Term, Terms, count, termVariables, termsVariables, termOk, termsOk}
 use Rattle.theory.specs.Grammar.{Word, termWords, termsWords}
 use Rattle.theory.specs.Problem.{maxWords}
 use Rattle.theory.specs.Flattening.{functionTerms, allFunctionTerms, addTerms, variableFor}
+use Rattle.theory.specs.Lifted.{within}
 use Rattle.syntax.specs.Codes.{codeWord}
 use Rattle.syntax.specs.Signatures.{Arities, Small}
 use Rattle.syntax.specs.Variables.{isLetter, placeOr8}

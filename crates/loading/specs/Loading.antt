@@ -1,11 +1,12 @@
 -- Loading clauses into a work area, in two passes over the same clauses, and what each step asks: `tally` counts every clause's literals, `bounds` lays out
 -- the blocks, `enter` enters every clause; at last `prefer` tells the first values. Clauses are lists of codes of literals, repeats included.
 use mathlib.Core.Path.{_≡_}
-use mathlib.Core.Bool.{false}
+use mathlib.Core.Bool.{Bool, false}
 use mathlib.Core.List.{List, [], _∷_, _++_, map}
 use Prim.Native.Nat.{ℕ, _+_, _*_, _≤_, _<_, _^_}
 use lib.ListN.{length, getD}
 use Rattle.propagation.specs.Clauses.{once}
+use Rattle.propagation.specs.WorkArea.{Prefers}
 use Rattle.theory.specs.Lists.{elem}
 use Rattle.loading.specs.Filling.{from, to, occurrences, literals, areaEnd, Filling}
 
@@ -61,3 +62,26 @@ pub record LiteralEnterable (v u c : ℕ) (w : List ℕ) : Type 0 where
   pub space : elem u d ≡ false → to v u w < from v u w + occurrences u cs
   pub short : length d < 63
   pub fits : areaEnd v cs < 2 ^ 32
+
+-- of whatever clauses were counted before, the clause is counted too
+abbrev pub Tallies : ℕ → List ℕ → List ℕ → List ℕ → Type 0
+Tallies v clause w w′ = (seen : List (List ℕ)) → Tallied v seen w → Tallied v (seen ++ (clause ∷ [])) w′
+
+-- of whatever m clauses were counted, none is entered and each can be
+abbrev pub LaysOut : ℕ → ℕ → List ℕ → List ℕ → Type 0
+LaysOut v m w w′ = (cs : List (List ℕ)) → Tallied v cs w → length cs ≡ m → Entered v cs [] w′
+
+-- of whatever clauses es, so many, are entered and whatever ds come after it, the clause is entered next
+abbrev pub EntersNext : ℕ → List ℕ → ℕ → List ℕ → List ℕ → Type 0
+EntersNext v clause number w w′ =
+    (es ds : List (List ℕ)) → Entered v (es ++ (clause ∷ ds)) es w → length es ≡ number
+    → Entered v (es ++ (clause ∷ ds)) (es ++ (clause ∷ [])) w′
+
+-- whatever clauses are entered stay so
+abbrev pub KeepsClauses : ℕ → List ℕ → List ℕ → Type 0
+KeepsClauses v w w′ = (cs es : List (List ℕ)) → Entered v cs es w → Entered v cs es w′
+
+-- where the first values of the variables below a are told, those of the variables from a to b are told after them: the given one for each
+abbrev pub PrefersMore : ℕ → ℕ → ℕ → Bool → List ℕ → List ℕ → Type 0
+PrefersMore v a b value w w′ =
+    (first : ℕ → Bool) → Prefers v a first w → ((x : ℕ) → a ≤ x → x < b → first x ≡ value) → Prefers v b first w′

@@ -1,13 +1,15 @@
 // Loading clauses into a work area, in two passes: one counts the occurrences of each literal, one enters the clauses.
 ghost use mathlib.Core.Path.{_≡_};
-ghost use mathlib.Core.Bool.{Bool, cond};
-ghost use mathlib.Core.List.{List, [], _∷_, _++_};
-ghost use Prim.Native.Nat.{ℕ, _*_, _^_, _≤_, _<_};
+ghost use mathlib.Core.Bool.{cond};
+ghost use mathlib.Core.List.{_++_};
+ghost use Prim.Native.Nat.{_^_, _≤_, _<_};
 ghost use lib.ListN.{length, replicate, drop};
-ghost use Rattle.propagation.specs.WorkArea.{Prefers};
+ghost use Rattle.propagation.specs.WorkArea.{Regions};
 ghost use Rattle.loading.specs.Filling.{endsWith, enters};
-ghost use Rattle.loading.specs.Loading.{Tallied, Entered, Tallyable, Boundable, Enterable, LiteralEnterable};
+ghost use Rattle.loading.specs.Loading.{Tallyable, Tallies, Boundable, LaysOut, LiteralEnterable, Enterable, EntersNext, KeepsClauses, PrefersMore};
+use indices::PropVar;
 use propagation::weights;
+use propagation::weights::Weight;
 
 // The first `count` numbers become zeros.
 pub fn clear(work: &mut [u32], count: usize)
@@ -32,7 +34,7 @@ pub fn clear_all(work: &mut [u32])
 // Counts the literals of one clause more, in a work area that was cleared before the first.
 pub fn tally(work: &mut [u32], v: usize, clause: &[u32])
     requires { ⌜ Tallyable v (now clause) (now work) ⌝ }
-    ensures { λ _. ⌜ ((seen : List (List ℕ)) → Tallied v seen (now (work .entry)) → Tallied v (seen ++ (now (clause .entry) ∷ [])) (now (work .exit))) ⌝ }
+    ensures { λ _. ⌜ Tallies v (now (clause .entry)) (now (work .entry)) (now (work .exit)) ⌝ }
 {
     let count = clause.len();
     let mut i = 0;
@@ -54,7 +56,7 @@ pub fn narrow(number: usize) -> u32
 // The m clauses are counted: each literal gets an empty block with room for its occurrences.
 pub fn bounds(work: &mut [u32], v: usize, m: usize)
     requires { ⌜ Boundable v m (now work) ⌝ }
-    ensures { λ _. ⌜ ((cs : List (List ℕ)) → Tallied v cs (now (work .entry)) → length cs ≡ m → Entered v cs [] (now (work .exit))) ⌝ }
+    ensures { λ _. ⌜ LaysOut v m (now (work .entry)) (now (work .exit)) ⌝ }
 {
     let mut start = narrow(7 * v + m);
     let mut literal = 0;
@@ -98,13 +100,13 @@ pub fn enter_literal(work: &mut [u32], v: usize, literal: u32, address: u32)
     let weight = work[place];
     work[to] = address;
     work[at + 1] = end + 1;
-    work[place] = weight + 64 * literal + 1;
+    work[place] = weight + Weight::BASE * literal + 1;
 }
 
 // Enters the next of the counted clauses, `number` of which are entered.
 pub fn enter(work: &mut [u32], v: usize, clause: &[u32], number: usize)
     requires { ⌜ Enterable v (now clause) number (now work) ⌝ }
-    ensures { λ _. ⌜ ((es ds : List (List ℕ)) → Entered v (es ++ (now (clause .entry) ∷ ds)) es (now (work .entry)) → length es ≡ number → Entered v (es ++ (now (clause .entry) ∷ ds)) (es ++ (now (clause .entry) ∷ [])) (now (work .exit))) ⌝ }
+    ensures { λ _. ⌜ EntersNext v (now (clause .entry)) number (now (work .entry)) (now (work .exit)) ⌝ }
 {
     let address = narrow(7 * v + number);
     let mut i = clause.len();
@@ -122,16 +124,17 @@ pub fn number_of(value: bool) -> u32
 }
 
 // The variables from `from` to `to` are tried at this value first. The first values are told after the clauses are entered, from variable 0 on.
-pub fn prefer(work: &mut [u32], v: usize, from: usize, to: usize, value: bool)
-    requires { ⌜ from ≤ to ⌝ }
-    requires { ⌜ to ≤ v ⌝ }
-    requires { ⌜ 7 * v ≤ length (now work) ⌝ }
-    ensures clauses { λ _. ⌜ ((cs es : List (List ℕ)) → Entered v cs es (now (work .entry)) → Entered v cs es (now (work .exit))) ⌝ }
-    ensures values { λ _. ⌜ ((first : ℕ → Bool) → Prefers v from first (now (work .entry)) → ((x : ℕ) → from ≤ x → x < to → first x ≡ value) → Prefers v to first (now (work .exit))) ⌝ }
+pub fn prefer(work: &mut [u32], v: usize, from: PropVar, to: PropVar, value: bool)
+    requires { ⌜ Regions v (now work) ⌝ }
+    requires { ⌜ from .0 ≤ to .0 ⌝ }
+    requires { ⌜ to .0 ≤ v ⌝ }
+    ensures clauses { λ _. ⌜ KeepsClauses v (now (work .entry)) (now (work .exit)) ⌝ }
+    ensures values { λ _. ⌜ PrefersMore v (from .0) (to .0) value (now (work .entry)) (now (work .exit)) ⌝ }
 {
     let number = number_of(value);
-    let mut variable = from;
-    while variable < to {
+    let end = to.0 as usize;
+    let mut variable = from.0 as usize;
+    while variable < end {
         work[6 * v + variable] = number;
         variable += 1;
     }

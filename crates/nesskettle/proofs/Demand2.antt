@@ -20,11 +20,13 @@ use Rattle.theory.proofs.FindsLeast.{finds-least}
 use Rattle.answers.specs.declared.Refusal as answers
 use Rattle.answers.specs.declared.JudgeAnswer.{JudgeAnswer}
 use Rattle.answers.specs.declared.JudgeAnswer.the-variants as judge
+use Rattle.answers.specs.declared.WriteAnswer.{WriteAnswer}
 use Rattle.answers.specs.declared.FindAnswer.{FindAnswer}
 use Rattle.answers.specs.declared.FindAnswer.the-variants.{Found, Nothing, Refused}
 use Rattle.answers.specs.Answers.{refusalIn, judgeIn, findIn}
+use Rattle.answers.specs.Calls.{JudgeCall, WriteCall, FindCall}
 use Rattle.writing.specs.Texts.{clausesText}
-use Rattle.nesskettle.specs.Calls.{JudgeCall, WriteCall, FindCall, Leaves}
+use Rattle.nesskettle.specs.Leaving.{Leaves}
 use Rattle.nesskettle.specs.Models.{IsTrue, Model}
 use Rattle.nesskettle.specs.Demand2.{CaseOf, Judges, Writes, NoModel, LeastModel, Finds, Demand2}
 use Rattle.nesskettle.proofs.Leaving.{left-text}
@@ -55,20 +57,20 @@ module _ (sheet text : List ℕ) where
       unbind _ _ b e₁ λ (k : Case) h₁ e₂.
       (record { problem = p; sheetRead = h; case = k; caseRead = h₁ }, answer-inj (isModel (k .size) (p .symbols) (p .clauses) (k .values)) b e₂)
 
-  judges : (j : JudgeCall sheet text) → Judges sheet text j
-  judges j =
+  judges : (r : JudgeAnswer) → JudgeCall sheet text r → Judges sheet text r
+  judges r j =
       record {
         yes = (
           λ e.
-              let r = judged-case true (sym (j .answer) ∙ ap judgeIn e) in
-              (r .0, true-if-model (r .0 .problem) text (r .0 .case) (r .0 .caseRead) (r .1)),
-          λ h. said-yes (j .result) (j .answer ∙ verdict (h .0) ∙ ap answer (model-if-true (h .0 .problem) text (h .0 .case) (h .0 .caseRead) (h .1))),
+              let c = judged-case true (sym (j .answer) ∙ ap judgeIn e) in
+              (c .0, true-if-model (c .0 .problem) text (c .0 .case) (c .0 .caseRead) (c .1)),
+          λ h. said-yes r (j .answer ∙ verdict (h .0) ∙ ap answer (model-if-true (h .0 .problem) text (h .0 .case) (h .0 .caseRead) (h .1))),
         );
         no = (
           λ e.
-              let r = judged-case false (sym (j .answer) ∙ ap judgeIn e) in
-              (r .0, λ t. true≢false (sym (model-if-true (r .0 .problem) text (r .0 .case) (r .0 .caseRead) t) ∙ r .1)),
-          λ h. said-no (j .result) (j .answer ∙ verdict (h .0) ∙ ap answer (untrue (h .0) (h .1) _ refl)),
+              let c = judged-case false (sym (j .answer) ∙ ap judgeIn e) in
+              (c .0, λ t. true≢false (sym (model-if-true (c .0 .problem) text (c .0 .case) (c .0 .caseRead) t) ∙ c .1)),
+          λ h. said-no r (j .answer ∙ verdict (h .0) ∙ ap answer (untrue (h .0) (h .1) _ refl)),
         );
       }
     where
@@ -78,10 +80,10 @@ module _ (sheet text : List ℕ) where
       untrue c h false e = e
 
 -- Write's text
-writes : (sheet : List ℕ) (size : ℕ) (w : WriteCall sheet size) (text : List ℕ) → Leaves (w .result) (w .output) text → Writes sheet size text
+writes : (sheet : List ℕ) (size : ℕ) (r : WriteAnswer) (output output′ : List ℕ) → WriteCall sheet size r output output′ → (text : List ℕ) → Leaves r output′ text → Writes sheet size text
 unfolding writtenText
-writes sheet size w text l =
-    unbind _ _ text (left-text (w .result) (writtenText sheet size (length (w .lent))) (w .lent) (w .output) (w .answer) (w .left) text l) λ (p : Problem) h e₁.
+writes sheet size r output output′ w text l =
+    unbind _ _ text (left-text (writtenText sheet size (length output)) r output output′ w text l) λ (p : Problem) h e₁.
     unbind _ _ text e₁ λ (u : Unit {0}) _ e₂.
     record { problem = p; content = h; clauses = sym (answer-inj (clausesText p size) text e₂) }
 
@@ -99,12 +101,12 @@ no-case (answer (found s c)) b e = let z : _≡_ {A = ℕ} 0 1 = cc in absurd (o
 no-case (answer (nothing d)) b e = let h : d ≡ b = cc in ap (λ (b : Bool). answer (nothing b)) h
 no-case (refused q) b e = absurd (answer≢refused (noCase b) q (sym e))
 
-module _ (sheet : List ℕ) (p : Problem) (low high : ℕ) (read : readProblem sheet ≡ answer p) (f : FindCall sheet low high) where
+module _ (sheet : List ℕ) (p : Problem) (low high : ℕ) (read : readProblem sheet ≡ answer p) (r : FindAnswer) (work work′ output output′ : List ℕ) (f : FindCall sheet low high r work work′ output output′) where
   abbrev result : Answer Search
-  result = findResult sheet low high (length (f .lentWork)) (length (f .lent))
+  result = findResult sheet low high (length work) (length output)
 
   d : theory.FindsLeast sheet p low high result
-  d = finds-least sheet p low high (length (f .lentWork)) (length (f .lent)) read
+  d = finds-least sheet p low high (length work) (length output) read
 
   least-text : (size : ℕ) (c : List ℕ) → theory.LeastText sheet p low high size c → LeastModel p low high size c
   unfolding judged-is-model
@@ -119,29 +121,29 @@ module _ (sheet : List ℕ) (p : Problem) (low high : ℕ) (read : readProblem s
             rw same at (b .after);
       }
 
-  find-found : (size n : ℕ) → f .result ≡ Found size n → LeastModel p low high size (take n (f .output))
+  find-found : (size n : ℕ) → r ≡ Found size n → LeastModel p low high size (take n output′)
   find-found size n e =
-      let r = found-case result size n (sym (f .answer) ∙ ap findIn e) in
-      let stands : take n (f .output) ≡ r .0 =
-      ap (take n) (f .left ∙ ap (λ (a : Answer Search). findOutput a (f .lent)) (r .1))
-      ∙ ap (λ (n : ℕ). take n (over (r .0) (f .lent))) (sym (r .2))
-      ∙ take-append-seam (r .0) (drop (length (r .0)) (f .lent))
+      let c = found-case result size n (sym (f .answer) ∙ ap findIn e) in
+      let stands : take n output′ ≡ c .0 =
+      ap (take n) (f .left ∙ ap (λ (a : Answer Search). findOutput a output) (c .1))
+      ∙ ap (λ (n : ℕ). take n (over (c .0) output)) (sym (c .2))
+      ∙ take-append-seam (c .0) (drop (length (c .0)) output)
       in
-      rw (sym stands) at (least-text size (r .0) (d .finds size (r .0) (r .1)))
+      rw (sym stands) at (least-text size (c .0) (d .finds size (c .0) (c .1)))
 
-  finds : Finds sheet p low high f
+  finds : Finds p low high r output′
   finds =
       record {
         found = find-found;
         saysNone = λ b e t c le₁ le₂ m. d .findsNone b (no-case result b (sym (f .answer) ∙ ap findIn e)) t c le₁ le₂ (model-is-judged sheet p read t c m);
-        noneIf = go (f .result) refl;
+        noneIf = go r refl;
       }
     where
-      go : (r : FindAnswer) → f .result ≡ r → NoModel p low high → ((q : answers.Refusal) → f .result ≡ Refused q → ⊥) → (b : Bool) × (f .result ≡ Nothing b)
-      go (Found size n) e none unrefused = let l = find-found size n e in absurd (none size (take n (f .output)) (l .searched .0) (l .searched .1) (l .model))
+      go : (a : FindAnswer) → r ≡ a → NoModel p low high → ((q : answers.Refusal) → r ≡ Refused q → ⊥) → (b : Bool) × (r ≡ Nothing b)
+      go (Found size n) e none unrefused = let l = find-found size n e in absurd (none size (take n output′) (l .searched .0) (l .searched .1) (l .model))
       go (Nothing b) e none unrefused = (b, e)
       go (Refused q) e none unrefused = absurd (unrefused q e)
 
 -- the theorem
 pub demand2-of-calls : Demand2
-demand2-of-calls = record { judge = judges; write = writes; find = λ sheet p low high read f. finds sheet p low high read f }
+demand2-of-calls = record { judge = judges; write = writes; find = finds }

@@ -13,9 +13,11 @@ use Rattle.theory.specs.Claims.ReadingBack as theory
 use Rattle.theory.proofs.Tests.{leb-true, leb-of-≤}
 use Rattle.theory.proofs.Answers.{unbind, bind-step, answer-inj, check-true, check-of-true}
 use Rattle.theory.proofs.ReadingBack.{reading-back}
+use Rattle.answers.specs.declared.WriteAnswer.{WriteAnswer}
+use Rattle.answers.specs.Calls.{ReadBackCall}
 use Rattle.writing.specs.Texts.{clausesText}
-use Rattle.nesskettle.specs.Calls.{WriteCall, ReadBackCall, Leaves}
-use Rattle.nesskettle.specs.Demand3.{Demand3, Demand3Holds}
+use Rattle.nesskettle.specs.Leaving.{Leaves}
+use Rattle.nesskettle.specs.Demand3.{ReadBackAs, AlwaysReadBackAs, Demand3, Demand3Holds}
 use Rattle.nesskettle.proofs.Leaving.{leaves, left-text}
 use Rattle.nesskettle.proofs.Models.{judged-is-model, model-is-judged}
 
@@ -59,30 +61,31 @@ module _ (sheet : List ℕ) (p : Problem) (size : ℕ) (content : contentOf shee
   read = content-read sheet size p content
 
   -- a call that leaves a case reads it back in an output of just that length too
-  left-case : (σ c : List ℕ) (b : ReadBackCall sheet size σ) → Leaves (b .result) (b .output) c → readBackText sheet size σ needed ≡ answer c
-  left-case σ c b h =
-      read-back-in sheet size (length (b .lent)) σ c p read (left-text (b .result) (readBackText sheet size σ (length (b .lent))) (b .lent) (b .output) (b .answer) (b .left) c h) needed (le-refl needed)
+  left-case : (σ c : List ℕ) → ReadBackAs sheet size σ c → readBackText sheet size σ needed ≡ answer c
+  left-case σ c b =
+      let room : ℕ = length (b .output) in
+      read-back-in sheet size room σ c p read (left-text (readBackText sheet size σ room) (b .answer) (b .output) (b .output′) (b .call) c (b .leaves)) needed (le-refl needed)
 
   -- and the other way
-  leaves-case : (σ c : List ℕ) → readBackText sheet size σ needed ≡ answer c → (b : ReadBackCall sheet size σ) → needed ≤ length (b .lent) → Leaves (b .result) (b .output) c
-  leaves-case σ c e b fits =
-      leaves (b .result) (readBackText sheet size σ (length (b .lent))) (b .lent) (b .output) (b .answer) (b .left) c (read-back-in sheet size needed σ c p read e (length (b .lent)) fits)
+  leaves-case : (σ c : List ℕ) → readBackText sheet size σ needed ≡ answer c → AlwaysReadBackAs sheet p size σ c
+  leaves-case σ c e r output output′ b fits =
+      leaves (readBackText sheet size σ (length output)) r output output′ b c (read-back-in sheet size needed σ c p read e (length output) fits)
 
   of-calls : Demand3 sheet p size (clausesText p size)
   of-calls =
       record {
-        equal = λ σ τ sσ sτ a b c e la lb. d .equal σ τ c e sσ sτ (left-case σ c a la) (left-case τ e b lb);
-        readsBack = λ σ s b fits. let r = d .readsBack σ s in (r .0, leaves-case σ (r .0) (r .1) b fits, judged-is-model sheet p read size (r .0) (r .2));
+        equal = λ σ τ c e sσ sτ a b. d .equal σ τ c e sσ sτ (left-case σ c a) (left-case τ e b);
+        readsBack = λ σ s. let r = d .readsBack σ s in (r .0, judged-is-model sheet p read size (r .0) (r .2), leaves-case σ (r .0) (r .1));
         onto =
             λ c m.
             let r = d .onto c (model-is-judged sheet p read size c m) in
-            (r .0, r .1, leaves-case (r .0) c (r .2), λ τ s b l. r .3 τ s (left-case τ c b l));
+            (r .0, r .1, leaves-case (r .0) c (r .2), λ τ s b. r .3 τ s (left-case τ c b));
       }
 
 -- the theorem
 pub demand3-of-calls : Demand3Holds
-demand3-of-calls sheet p size content w fits =
-    let t = written sheet size (length (w .lent)) p content fits in (
-      leaves (w .result) (writtenText sheet size (length (w .lent))) (w .lent) (w .output) (w .answer) (w .left) (clausesText p size) t,
-      of-calls sheet p size content (reading-back sheet p size (length (w .lent)) (caseLength size (p .symbols)) (clausesText p size) content t (le-refl (caseLength size (p .symbols)))),
+demand3-of-calls sheet p size content r output output′ w fits =
+    let t = written sheet size (length output) p content fits in (
+      leaves (writtenText sheet size (length output)) r output output′ w (clausesText p size) t,
+      of-calls sheet p size content (reading-back sheet p size (length output) (caseLength size (p .symbols)) (clausesText p size) content t (le-refl (caseLength size (p .symbols)))),
     )

@@ -10,33 +10,34 @@ use Rattle.theory.proofs.Answers.{answer-inj, answer≢refused}
 use Rattle.answers.specs.declared.WriteAnswer.{WriteAnswer}
 use Rattle.answers.specs.declared.WriteAnswer.the-variants.{Written, Refused}
 use Rattle.answers.specs.Answers.{refusalIn, lengthIn}
-use Rattle.nesskettle.specs.Calls.{Leaves}
+use Rattle.answers.specs.Calls.{WritingCall}
+use Rattle.nesskettle.specs.Leaving.{Leaves}
 
 -- the answer that says a length
 length-answered : (r : WriteAnswer) (n : ℕ) → lengthIn r ≡ answer n → r ≡ Written n
 length-answered (Written m) n e = ap Written (answer-inj m n e)
 length-answered (Refused q) n e = absurd (answer≢refused n (refusalIn q) (sym e))
 
-module _ (r : WriteAnswer) (a : Answer (List ℕ)) (lent output : List ℕ) (answered : lengthIn r ≡ lengthAnswer a) (left : output ≡ outputAfter a lent) where
+module _ (a : Answer (List ℕ)) (r : WriteAnswer) (output output′ : List ℕ) (w : WritingCall a r output output′) where
   -- the text that the promise answers is left
-  pub leaves : (text : List ℕ) → a ≡ answer text → Leaves r output text
+  pub leaves : (text : List ℕ) → a ≡ answer text → Leaves r output′ text
   leaves text e =
       record {
-        answered = length-answered r (length text) (answered ∙ ap lengthAnswer e);
-        stands = ap (take (length text)) (left ∙ ap (λ (a : Answer (List ℕ)). outputAfter a lent) e) ∙ take-append-seam text (drop (length text) lent);
+        answered = length-answered r (length text) (w .answer ∙ ap lengthAnswer e);
+        stands = ap (take (length text)) (w .left ∙ ap (λ (a : Answer (List ℕ)). outputAfter a output) e) ∙ take-append-seam text (drop (length text) output);
       }
 
   -- the text that is left is the one that the promise answers
-  pub left-text : (text : List ℕ) → Leaves r output text → a ≡ answer text
+  pub left-text : (text : List ℕ) → Leaves r output′ text → a ≡ answer text
   left-text text h = go a refl
     where
       go : (b : Answer (List ℕ)) → a ≡ b → a ≡ answer text
       go (answer t) e =
-          let n : length text ≡ length t = answer-inj (length text) (length t) (sym (ap lengthIn (h .answered)) ∙ answered ∙ ap lengthAnswer e) in
+          let n : length text ≡ length t = answer-inj (length text) (length t) (sym (ap lengthIn (h .answered)) ∙ w .answer ∙ ap lengthAnswer e) in
           e
           ∙ ap answer
-          (sym (take-append-seam t (drop (length t) lent))
-          ∙ ap (λ (n : ℕ). take n (over t lent)) (sym n)
-          ∙ ap (take (length text)) (sym (left ∙ ap (λ (a : Answer (List ℕ)). outputAfter a lent) e))
+          (sym (take-append-seam t (drop (length t) output))
+          ∙ ap (λ (n : ℕ). take n (over t output)) (sym n)
+          ∙ ap (take (length text)) (sym (w .left ∙ ap (λ (a : Answer (List ℕ)). outputAfter a output) e))
           ∙ h .stands)
-      go (refused q) e = absurd (answer≢refused (length text) q (sym (ap lengthIn (h .answered)) ∙ answered ∙ ap lengthAnswer e))
+      go (refused q) e = absurd (answer≢refused (length text) q (sym (ap lengthIn (h .answered)) ∙ w .answer ∙ ap lengthAnswer e))

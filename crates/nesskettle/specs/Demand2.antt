@@ -11,10 +11,14 @@ use Rattle.theory.specs.CaseText.{Case, readCase}
 use Rattle.theory.specs.Operations.{contentOf}
 use Rattle.theory.specs.Claims.Least.{NotAfter}
 use Rattle.answers.specs.declared.Refusal.{Refusal}
+use Rattle.answers.specs.declared.JudgeAnswer.{JudgeAnswer}
 use Rattle.answers.specs.declared.JudgeAnswer.the-variants.{Yes, No}
+use Rattle.answers.specs.declared.WriteAnswer.{WriteAnswer}
+use Rattle.answers.specs.declared.FindAnswer.{FindAnswer}
 use Rattle.answers.specs.declared.FindAnswer.the-variants.{Found, Nothing, Refused}
+use Rattle.answers.specs.Calls.{JudgeCall, WriteCall, FindCall}
 use Rattle.writing.specs.Texts.{clausesText}
-use Rattle.nesskettle.specs.Calls.{JudgeCall, WriteCall, FindCall, Leaves}
+use Rattle.nesskettle.specs.Leaving.{Leaves}
 use Rattle.nesskettle.specs.Models.{IsTrue, Model}
 
 -- sheet and case are laid out as document 01 says
@@ -25,11 +29,11 @@ pub record CaseOf (sheet text : List ℕ) : Type 0 where
   pub caseRead : readCase (problem .symbols) text ≡ answer case
 
 -- of a call of Judge: a case is judged a model exactly if it is one
-pub record Judges (sheet text : List ℕ) (j : JudgeCall sheet text) : Type 0 where
-  pub yes : (j .result ≡ Yes) ↔ ((c : CaseOf sheet text) × IsTrue (c .problem) (c .case))
-  pub no : (j .result ≡ No) ↔ ((c : CaseOf sheet text) × (IsTrue (c .problem) (c .case) → ⊥))
+pub record Judges (sheet text : List ℕ) (r : JudgeAnswer) : Type 0 where
+  pub yes : (r ≡ Yes) ↔ ((c : CaseOf sheet text) × IsTrue (c .problem) (c .case))
+  pub no : (r ≡ No) ↔ ((c : CaseOf sheet text) × (IsTrue (c .problem) (c .case) → ⊥))
 
--- of a call of Write: the clauses are those of document 01's steps, and no others
+-- of the text that a call of Write leaves: the clauses are those of document 01's steps, and no others
 pub record Writes (sheet : List ℕ) (size : ℕ) (text : List ℕ) : Type 0 where
   pub problem : Problem
   pub content : contentOf sheet size ≡ answer problem
@@ -46,13 +50,15 @@ pub record LeastModel (p : Problem) (low high size : ℕ) (text : List ℕ) : Ty
   pub least : (t : ℕ) (d : List ℕ) → low ≤ t → t ≤ high → (m : Model p t d) → (size < t) ⊎ ((size ≡ t) × NotAfter (model .case .values) (m .case .values))
 
 -- of a call of Find that is not refused: it finds the least model at the smallest size that has one, or it says none; none exactly if no case of a searched size is a model
-pub record Finds (sheet : List ℕ) (p : Problem) (low high : ℕ) (f : FindCall sheet low high) : Type 0 where
-  pub found : (size n : ℕ) → f .result ≡ Found size n → LeastModel p low high size (take n (f .output))
-  pub saysNone : (settled : Bool) → f .result ≡ Nothing settled → NoModel p low high
-  pub noneIf : NoModel p low high → ((r : Refusal) → f .result ≡ Refused r → ⊥) → (settled : Bool) × (f .result ≡ Nothing settled)
+pub record Finds (p : Problem) (low high : ℕ) (r : FindAnswer) (output : List ℕ) : Type 0 where
+  pub found : (size n : ℕ) → r ≡ Found size n → LeastModel p low high size (take n output)
+  pub saysNone : (settled : Bool) → r ≡ Nothing settled → NoModel p low high
+  pub noneIf : NoModel p low high → ((q : Refusal) → r ≡ Refused q → ⊥) → (settled : Bool) × (r ≡ Nothing settled)
 
 -- it holds of every call
 pub record Demand2 : Type 0 where
-  pub judge : (sheet text : List ℕ) (j : JudgeCall sheet text) → Judges sheet text j
-  pub write : (sheet : List ℕ) (size : ℕ) (w : WriteCall sheet size) (text : List ℕ) → Leaves (w .result) (w .output) text → Writes sheet size text
-  pub find : (sheet : List ℕ) (p : Problem) (low high : ℕ) → readProblem sheet ≡ answer p → (f : FindCall sheet low high) → Finds sheet p low high f
+  pub judge : (sheet text : List ℕ) (r : JudgeAnswer) → JudgeCall sheet text r → Judges sheet text r
+  pub write : (sheet : List ℕ) (size : ℕ) (r : WriteAnswer) (output output′ : List ℕ) → WriteCall sheet size r output output′
+      → (text : List ℕ) → Leaves r output′ text → Writes sheet size text
+  pub find : (sheet : List ℕ) (p : Problem) (low high : ℕ) → readProblem sheet ≡ answer p
+      → (r : FindAnswer) (work work′ output output′ : List ℕ) → FindCall sheet low high r work work′ output output′ → Finds p low high r output′

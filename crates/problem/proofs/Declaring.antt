@@ -14,6 +14,7 @@ use Rattle.theory.specs.Bytes.{isDigit}
 use Rattle.theory.specs.Syntax.{Signature, Symbol, noSymbol}
 use Rattle.theory.specs.Refusals.{Answer, answer, atLine, _>>=_, check, orRefuse}
 use Rattle.theory.specs.Problem.{maxArity, isName, symbolOf, isNamed, placeOfName}
+use Rattle.theory.proofs.Tests.{ltb-true, and-right}
 use Rattle.theory.proofs.Lists.{any-at}
 use Rattle.theory.proofs.Finding.{placeThat-some, placeThat-none}
 use Rattle.theory.proofs.Answers.{bind-step, bind-refused, orRefuse-of-some, orRefuse-of-none, check-of-true, check-of-false}
@@ -22,6 +23,9 @@ use Rattle.text.proofs.Part.{length-part, getD-part, take-part}
 use Rattle.syntax.specs.Signatures.{kindOf}
 use Rattle.problem.specs.declared.symbols.SymbolLine.the-variants.{Read, Fault}
 use Rattle.problem.specs.Symbols.{symbolValue, ValueDeclared}
+
+pub digit-below : (a : ℕ) → isDigit a ≡ true → a < 58
+digit-below a e = ltb-true a 58 (and-right (leb 48 a) (ltb a 58) e)
 
 -- a name whose place was found is that of a symbol, and no other is
 pub name-found : (w : List ℕ) (g : Signature) (i n : ℕ) → placeOfName w g ≡ cond (ltb i n) (some i) none → i < n → isNamed w g ≡ true

@@ -8,6 +8,7 @@ use lib.ListN.{length, drop}
 use Rattle.theory.specs.Syntax.{Kind, Signature}
 use Rattle.theory.specs.Refusals.{Answer, answer, refused, atLine, _>>=_}
 use Rattle.theory.specs.Problem.{maxSymbols, countLine, symbolLines}
+use Rattle.syntax.specs.declared.signature.Signature as declared
 use Rattle.syntax.specs.Signatures.{signatureIn}
 use Rattle.problem.specs.declared.sections.Section.{Section}
 use Rattle.clauses.specs.Names.{Readable}
@@ -39,3 +40,7 @@ pub record SectionRead (sheet : List ℕ) (most last : ℕ) (a : Answer Rest) (r
   pub count : r .signature .count ≤ most
   pub line : r .line ≤ last
   pub next : r .next ≤ length sheet
+
+-- r is what `reads` answers from `at` on, where line l starts, after the symbols before; with at most so many symbols and lines more
+abbrev pub SectionFrom : List ℕ → ℕ → ℕ → declared.Signature → ℕ → ℕ → (Signature → ℕ → List ℕ → Answer Rest) → Section → Type 0
+SectionFrom sheet at l before symbols lines reads r = SectionRead sheet (before .count + symbols) (l + lines) (reads (signatureIn sheet before) l (drop at sheet)) r

@@ -1,16 +1,27 @@
 -- The parts of a sheet, read one after the other.
-use Prim.Native.Nat.{ℕ, _+_}
+use Prim.Native.Nat.{ℕ, _+_, _≤_}
 use mathlib.Core.Path.{_≡_}
 use mathlib.Core.List.{List, []}
+use lib.ListN.{length}
 use Rattle.theory.specs.Bytes.{bytes}
 use Rattle.theory.specs.Syntax.{function, predicate, Signature}
 use Rattle.theory.specs.Refusals.{Answer, answer, _>>=_}
 use Rattle.theory.specs.Problem.{maxClauses, countLine, clauseLines, nothingLeft}
 use Rattle.theory.specs.Problem as theory
-use Rattle.syntax.specs.declared.limits.Problem.{Problem}
+use Rattle.theory.specs.Least.{functions}
+use Rattle.syntax.specs.declared.signature.Signature as declared
+use Rattle.syntax.specs.Signatures.{signatureIn}
+use Rattle.clauses.specs.Names.{Readable}
 use Rattle.problem.specs.declared.sheet.Reading.{Reading}
 use Rattle.problem.specs.Sections.{sectionFrom}
 use Rattle.problem.specs.Problems.{readingOf, Accepted}
+
+-- the symbols of a sheet are read up to `at`, where line l starts, no line after `last`; n of them are functions
+pub record SymbolsRead (sheet : List ℕ) (at l last : ℕ) (s : declared.Signature) (n : ℕ) : Type 0 where
+  pub within : at ≤ length sheet
+  pub readable : Readable sheet s
+  pub line : l ≤ last
+  pub counted : n ≡ length (functions (signatureIn sheet s))
 
 -- r is what was read, and the problem is as reading leaves it
 pub record ProblemRead (sheet : List ℕ) (a : Answer theory.Problem) (r : Reading) : Type 0 where

@@ -5,11 +5,12 @@ use crate::symbols::SymbolLine;
 use crate::symbols::symbol_line;
 use syntax::limits::Problem;
 use syntax::signature::Signature;
-ghost use Prim.Native.Nat.{_+_, _^_, _≤_, _<_};
-ghost use lib.ListN.{length, drop};
-ghost use Rattle.syntax.specs.Signatures.{kindOf, signatureIn};
+ghost use Prim.Native.Nat.{_+_, _*_, _^_, _≤_, _<_};
+ghost use lib.ListN.{length};
+ghost use Rattle.theory.specs.Problem.{maxSymbols};
+ghost use Rattle.syntax.specs.Signatures.{kindOf};
 ghost use Rattle.clauses.specs.Names.{Readable};
-ghost use Rattle.problem.specs.Sections.{linesFrom, sectionFrom, SectionRead};
+ghost use Rattle.problem.specs.Sections.{linesFrom, sectionFrom, SectionFrom};
 
 // The symbols after those before them, the place of the next line and its number; or the number of the refusal, else 0, and its line.
 pub struct Section {
@@ -28,8 +29,8 @@ pub fn read_section(
     function: bool,
     before: Signature,
 ) -> Section
-    requires { ⌜ (at ≤ length (now sheet)) × (Readable (now sheet) before × ((before .count ≤ 12) × (line + 13 < 2 ^ 64))) ⌝ }
-    ensures { λ r. ⌜ SectionRead (now (sheet .entry)) (before .count + 12) (line + 13) (sectionFrom (now (counting .entry)) (now (key .entry)) (kindOf function) (signatureIn (now (sheet .entry)) before) line (drop at (now (sheet .entry)))) r ⌝ }
+    requires { ⌜ (at ≤ length (now sheet)) × (Readable (now sheet) before × ((before .count ≤ maxSymbols) × (line + 13 < 2 ^ 64))) ⌝ }
+    ensures { λ r. ⌜ SectionFrom (now (sheet .entry)) at line before 12 13 (sectionFrom (now (counting .entry)) (now (key .entry)) (kindOf function)) r ⌝ }
 {
     match count_line(sheet, at, counting, Problem::MAX_OF_A_KIND) {
         CountLine::Fault(fault) => Section {
@@ -51,8 +52,8 @@ fn symbol_lines(
     n: usize,
     before: Signature,
 ) -> Section
-    requires { ⌜ (at ≤ length (now sheet)) × (Readable (now sheet) before × ((before .count + n ≤ 24) × (line + n < 2 ^ 64))) ⌝ }
-    ensures { λ r. ⌜ SectionRead (now (sheet .entry)) (before .count + n) (line + n) (linesFrom n (now (key .entry)) (kindOf function) (signatureIn (now (sheet .entry)) before) line (drop at (now (sheet .entry)))) r ⌝ }
+    requires { ⌜ (at ≤ length (now sheet)) × (Readable (now sheet) before × ((before .count + n ≤ 2 * maxSymbols) × (line + n < 2 ^ 64))) ⌝ }
+    ensures { λ r. ⌜ SectionFrom (now (sheet .entry)) at line before n n (linesFrom n (now (key .entry)) (kindOf function)) r ⌝ }
 {
     let mut signature = before;
     let mut next = at;

@@ -11,12 +11,10 @@ use syntax::signature::Signature;
 ghost use mathlib.Core.Path.{_≡_};
 ghost use Prim.Native.Nat.{_≤_};
 ghost use lib.ListN.{length, drop};
-ghost use Rattle.theory.specs.Least as least;
-ghost use Rattle.theory.specs.Problem.{readProblem};
+ghost use Rattle.theory.specs.Problem.{maxSymbols, maxClauses, readProblem};
 ghost use Rattle.syntax.specs.Signatures.{signatureIn};
-ghost use Rattle.clauses.specs.Names.{Readable};
 ghost use Rattle.problem.specs.Problems.{readingOf, Accepted};
-ghost use Rattle.problem.specs.Stages.{ProblemRead, clauseLinesFrom, clausesFrom, predicatesFrom, functionsFrom};
+ghost use Rattle.problem.specs.Stages.{ProblemRead, SymbolsRead, clauseLinesFrom, clausesFrom, predicatesFrom, functionsFrom};
 
 // A problem, or the number and the line of the refusal; number 0 for none.
 pub struct Reading {
@@ -74,7 +72,7 @@ fn functions_from(sheet: &[u8], at: usize) -> Reading
 
 // The predicates after the functions, then the rest.
 fn predicates_from(sheet: &[u8], at: usize, line: usize, before: Signature) -> Reading
-    requires { ⌜ (at ≤ length (now sheet)) × (Readable (now sheet) before × ((before .count ≤ 12) × ((line ≤ 15) × (before .count ≡ length (least.functions (signatureIn (now sheet) before)))))) ⌝ }
+    requires { ⌜ SymbolsRead (now sheet) at line 15 before (before .count) × (before .count ≤ maxSymbols) ⌝ }
     ensures { λ r. ⌜ ProblemRead (now (sheet .entry)) (predicatesFrom (signatureIn (now (sheet .entry)) before) line (drop at (now (sheet .entry)))) r ⌝ }
 {
     let p = read_section(sheet, at, line, b"preds=", b"pred=", false, before);
@@ -93,7 +91,7 @@ fn clauses_from(
     signature: Signature,
     functions: usize,
 ) -> Reading
-    requires { ⌜ (at ≤ length (now sheet)) × (Readable (now sheet) signature × ((line ≤ 28) × (functions ≡ length (least.functions (signatureIn (now sheet) signature))))) ⌝ }
+    requires { ⌜ SymbolsRead (now sheet) at line 28 signature functions ⌝ }
     ensures { λ r. ⌜ ProblemRead (now (sheet .entry)) (clausesFrom (signatureIn (now (sheet .entry)) signature) line (drop at (now (sheet .entry)))) r ⌝ }
 {
     match count_line(sheet, at, b"clauses=", Problem::MAX_CLAUSES) {
@@ -111,7 +109,7 @@ fn lines_from(
     functions: usize,
     n: usize,
 ) -> Reading
-    requires { ⌜ (at ≤ length (now sheet)) × (Readable (now sheet) signature × ((line ≤ 29) × ((functions ≡ length (least.functions (signatureIn (now sheet) signature))) × (n ≤ 64)))) ⌝ }
+    requires { ⌜ SymbolsRead (now sheet) at line 29 signature functions × (n ≤ maxClauses) ⌝ }
     ensures { λ r. ⌜ ProblemRead (now (sheet .entry)) (clauseLinesFrom n (signatureIn (now (sheet .entry)) signature) line (drop at (now (sheet .entry)))) r ⌝ }
 {
     let mut starts = [0; Problem::MAX_CLAUSES];

@@ -3,26 +3,31 @@ use Prim.Native.Nat.{ℕ, zero, suc, _+_, _-_, _≤_, _<_, _^_}
 use mathlib.Core.Path.{_≡_, refl, sym, ap, _∙_}
 use mathlib.Core.Bool.{Bool, true, false}
 use mathlib.Core.List.{List, [], _∷_, _++_, append-assoc}
+use native.Mathlib.Nat.{zero-add}
 use native.Mathlib.Omega.{arith}
-use lib.ListN.{length, set, take, drop, length-append, length-set}
-use lib.Seq.{take-append-add}
+use lib.ListN.{length, set, take, drop, take-append-drop, length-append, length-drop}
+use lib.Seq.{length-take-le, drop-drop}
 use Rattle.theory.specs.Bytes.{bytes, LF, decimal}
 use Rattle.theory.specs.Refusals.{Answer, Refusal, answer, refused, atLine}
-use Rattle.theory.specs.Operations.{Search, found, nothing}
+use Rattle.theory.specs.Operations.{over, found, nothing}
 use Rattle.theory.specs.Program.{yesNo, printed}
-use Rattle.text.specs.Put.{put, length-put, put-more, put-cursor, put-run, cursor-run, from-start}
+use Rattle.text.specs.Put.{put, put-cursor, put-run, cursor-run}
 use Rattle.stream.proofs.Texts.{decimal-within}
-use Rattle.program.specs.Reports.{Reports}
+use Rattle.program.specs.Reports.{Responds}
 
 -- a number of 32 bits has at most ten digits
 pub digits : (n : ℕ) → n < 2 ^ 32 → length (decimal n) ≤ 10
 digits n h = decimal-within 9 n (omega arith)
 
--- a text that was put at the start of the output is reported
-pub reported : (l l′ : List ℕ) (r : ℕ) (text : List ℕ) → l′ ≡ put l 0 text → r ≡ 0 + length text → length text ≤ length l → Reports text r l′
-reported l l′ r text p n h =
-    let s = from-start l l′ r text p n h in
-    record { within = omega (arith, n, ap length p, length-put l 0 text (omega arith)); stands = s .1 .0 }
+put-over : (l text : List ℕ) → put l 0 text ≡ over text l
+unfolding put
+put-over l text = rw zero-add refl
+
+-- a text that was put at the start of the output
+responds : (l l′ : List ℕ) (r : ℕ) (text : List ℕ) → l′ ≡ put l 0 text → r ≡ 0 + length text → Responds text r l l′
+responds l l′ r text p n =
+    let left : l′ ≡ over text l = p ∙ put-over l text in
+    record { counted = n ∙ zero-add (length text); within = omega (arith, n, ap length left, length-append text (drop (length text) l)); left = left }
 
 -- a key and a number
 pub field : (l l₁ l₂ : List ℕ) (at a r : ℕ) (key : List ℕ) (n : ℕ) → l₁ ≡ put l at key → a ≡ at + length key → l₂ ≡ put l₁ a (decimal n) → r ≡ a + length (decimal n)
@@ -52,7 +57,7 @@ refusal-text n m =
 -- a refusal's number and line
 pub refusal : (l l₁ l₂ : List ℕ) (a b n m : ℕ) → n < 256 → m < 2 ^ 32 → 24915 ≤ length l
     → l₁ ≡ put l 0 (reason ++ decimal n) → a ≡ 0 + length (reason ++ decimal n) → l₂ ≡ put l₁ a (line ++ decimal m) → b ≡ a + length (line ++ decimal m)
-    → Reports (printed (refused (atLine n m))) (b + 1) (set l₂ b LF)
+    → Responds (printed (refused (atLine n m))) (b + 1) l (set l₂ b LF)
 refusal l l₁ l₂ a b n m hn hm h p e q f =
     let x = reason-short n hn in
     let y = line-short m hm in
@@ -61,35 +66,44 @@ refusal l l₁ l₂ a b n m hn hm h p e q f =
     let e₂ : b ≡ 0 + length both = cursor-run 0 a b (reason ++ decimal n) (line ++ decimal m) e f in
     let p₃ : set l₂ b LF ≡ put l 0 (printed (refused (atLine n m))) = put-cursor l l₂ 0 b both (printed (refused (atLine n m))) LF p₂ e₂ (omega (arith, e, f, x, y)) (refusal-text n m) in
     let e₃ : b + 1 ≡ 0 + length (printed (refused (atLine n m))) = omega (arith, e₂, length-append both (LF ∷ []), ap length (refusal-text n m)) in
-    reported l (set l₂ b LF) (b + 1) (printed (refused (atLine n m))) p₃ e₃ (omega (arith, e, f, e₃, x, y))
+    responds l (set l₂ b LF) (b + 1) (printed (refused (atLine n m))) p₃ e₃
 
 abbrev none : List ℕ
 none = bytes "answer=none\nsettled="
 
 -- none, and the mark settled
 pub settled-yes : (l l₁ l₂ : List ℕ) (a r : ℕ) (b : Bool) → b ≡ true → 24915 ≤ length l → l₁ ≡ put l 0 none → a ≡ 0 + length none → l₂ ≡ put l₁ a (bytes "yes\n") → r ≡ a + length (bytes "yes\n")
-    → Reports (printed (answer (nothing b))) r l₂
+    → Responds (printed (answer (nothing b))) r l l₂
 unfolding printed
 settled-yes l l₁ l₂ a r true t h p e q f =
-    reported l l₂ r (none ++ bytes "yes\n") (put-run l l₁ l₂ 0 a none (bytes "yes\n") p e q (omega arith)) (cursor-run 0 a r none (bytes "yes\n") e f) (omega arith)
+    responds l l₂ r (none ++ bytes "yes\n") (put-run l l₁ l₂ 0 a none (bytes "yes\n") p e q (omega arith)) (cursor-run 0 a r none (bytes "yes\n") e f)
 settled-yes l l₁ l₂ a r false t h p e q f = let z : _≡_ {A = Bool} false true = t in absurd (false-true z)
   where
     false-true : false ≡ true → ⊥
     false-true z = let n : _≡_ {A = ℕ} 0 1 = cc in absurd (omega arith)
 
 pub settled-no : (l l₁ l₂ : List ℕ) (a r : ℕ) (b : Bool) → b ≡ false → 24915 ≤ length l → l₁ ≡ put l 0 none → a ≡ 0 + length none → l₂ ≡ put l₁ a (bytes "no\n") → r ≡ a + length (bytes "no\n")
-    → Reports (printed (answer (nothing b))) r l₂
+    → Responds (printed (answer (nothing b))) r l l₂
 unfolding printed
 settled-no l l₁ l₂ a r false t h p e q f =
-    reported l l₂ r (none ++ bytes "no\n") (put-run l l₁ l₂ 0 a none (bytes "no\n") p e q (omega arith)) (cursor-run 0 a r none (bytes "no\n") e f) (omega arith)
+    responds l l₂ r (none ++ bytes "no\n") (put-run l l₁ l₂ 0 a none (bytes "no\n") p e q (omega arith)) (cursor-run 0 a r none (bytes "no\n") e f)
 settled-no l l₁ l₂ a r true t h p e q f = let n : _≡_ {A = ℕ} 0 1 = cc in absurd (omega arith)
 
+abbrev found-line : List ℕ
+found-line = bytes "answer=found\n"
+
 -- the outcome's line, and the case that stands after it
-pub found-case : (l l₁ : List ℕ) (a n s : ℕ) → 13 + n ≤ length l → l₁ ≡ put l 0 (bytes "answer=found\n") → a ≡ 0 + length (bytes "answer=found\n")
-    → Reports (printed (answer (found s (take n (drop 13 l))))) (a + n) l₁
-unfolding printed put
+pub found-case : (l l₁ : List ℕ) (a n s : ℕ) → 13 + n ≤ length l → l₁ ≡ put l 0 found-line → a ≡ 0 + length found-line
+    → Responds (printed (answer (found s (take n (drop 13 l))))) (a + n) l l₁
+unfolding printed
 found-case l l₁ a n s h p e =
-    record {
-      within = omega (arith, ap length p, length-put l 0 (bytes "answer=found\n") (omega arith));
-      stands = ap (take (a + n)) p ∙ ap (λ (k : ℕ). take (k + n) (bytes "answer=found\n" ++ drop 13 l)) e ∙ take-append-add (bytes "answer=found\n") (drop 13 l) n;
-    }
+    let case : List ℕ = take n (drop 13 l) in
+    let long : length (found-line ++ case) ≡ 13 + n = length-append found-line case ∙ omega (arith, length-take-le n (drop 13 l) (omega (arith, length-drop 13 l))) in
+    let left : l₁ ≡ over (found-line ++ case) l =
+    p
+    ∙ put-over l found-line
+    ∙ ap (λ (t : List ℕ). found-line ++ t) (sym (take-append-drop n (drop 13 l)))
+    ∙ sym (append-assoc found-line case (drop n (drop 13 l)))
+    ∙ ap (λ (t : List ℕ). (found-line ++ case) ++ t) (drop-drop n 13 l ∙ ap (λ (k : ℕ). drop k l) (sym long))
+    in
+    record { counted = omega (arith, e, long); within = omega (arith, e, long, ap length left, length-append (found-line ++ case) (drop (length (found-line ++ case)) l)); left = left }

@@ -4,7 +4,7 @@ use mathlib.Core.Path.{_≡_, refl, sym, ap, _∙_}
 use mathlib.Core.List.{List, [], _++_, append-nil}
 use native.Mathlib.Omega.{arith}
 use lib.ListN.{length, take, drop, length-drop, length-append, drop-of-length-le}
-use lib.Seq.{drop-at, length-take-le}
+use lib.Seq.{take-all, length-take-le}
 use Rattle.theory.specs.Refusals.{Answer}
 use Rattle.theory.specs.Operations.{Search, findResult, findAnswer, findOutput}
 use Rattle.answers.specs.declared.FindAnswer.{FindAnswer}
@@ -17,26 +17,30 @@ module _ (out : List ℕ) (h : length out ≡ 24915) where
   abbrev lent : List ℕ
   lent = take (length out - 13) (drop 13 out)
 
+  pub lent-rest : lent ≡ drop 13 out
+  lent-rest = take-all (length out - 13) (drop 13 out) (omega (arith, length-drop 13 out))
+
   pub lent-long : length lent ≡ 24902
-  lent-long = length-take-le (length out - 13) (drop 13 out) (omega (arith, length-drop 13 out)) ∙ omega arith
+  lent-long = ap length lent-rest ∙ length-drop 13 out ∙ omega arith
 
   unfoldable pub reportable : (sheet : List ℕ) (low high : ℕ) (work : ℕ) → work ≡ 16000 → (a : FindAnswer) (left : List ℕ) → length left ≡ length lent
       → findIn a ≡ findAnswer (findResult sheet low high work (length lent)) → left ≡ findOutput (findResult sheet low high work (length lent)) lent
       → Reportable a (take 13 out ++ (left ++ drop (length out - 13) (drop 13 out)))
   reportable sheet low high work w a left n e l =
-      let output : List ℕ = take 13 out ++ (left ++ drop (length out - 13) (drop 13 out)) in
-      let same : findResult sheet low high work (length lent) ≡ findResult sheet low high 16000 24902 =
+      let result : Answer Search = findResult sheet low high 16000 24902 in
+      let same : findResult sheet low high work (length lent) ≡ result =
       ap (λ (k : ℕ). findResult sheet low high k (length lent)) w ∙ ap (findResult sheet low high 16000) lent-long in
       let nothing-left : drop (length out - 13) (drop 13 out) ≡ [] = drop-of-length-le (drop 13 out) {i = length out - 13} (omega (arith, length-drop 13 out)) in
-      let front : length (take 13 out) ≡ 13 = length-take-le 13 out (omega arith) in
-      let behind : drop 13 output ≡ left =
-      ap (λ (t : List ℕ). drop 13 (take 13 out ++ (left ++ t))) nothing-left ∙ ap (λ (t : List ℕ). drop 13 (take 13 out ++ t)) (append-nil left) ∙ drop-at (take 13 out) left 13 front in
+      let whole : left ++ drop (length out - 13) (drop 13 out) ≡ findOutput result (drop 13 out) =
+      ap (λ (t : List ℕ). left ++ t) nothing-left ∙ append-nil left ∙ l ∙ ap (λ (r : Answer Search). findOutput r lent) same ∙ ap (findOutput result) lent-rest in
       record {
-        result = findResult sheet low high 16000 24902;
+        result = result;
         answered = e ∙ ap findAnswer same;
-        lent = lent;
-        left = behind ∙ l ∙ ap (λ (r : Answer Search). findOutput r lent) same;
-        long = length-append (take 13 out) (left ++ drop (length out - 13) (drop 13 out)) ∙ omega (arith, front, length-append left (drop (length out - 13) (drop 13 out)), ap length nothing-left, n, lent-long);
-        fits = lent-long;
+        before = out;
+        left = ap (λ (t : List ℕ). take 13 out ++ t) whole;
+        long =
+            length-append (take 13 out) (left ++ drop (length out - 13) (drop 13 out))
+            ∙ omega (arith, length-take-le 13 out (omega arith), length-append left (drop (length out - 13) (drop 13 out)), ap length nothing-left, n, lent-long);
+        kept = h;
         placed = refusal-near sheet low high 16000 24902;
       }

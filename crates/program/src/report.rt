@@ -11,12 +11,15 @@ ghost use Rattle.theory.specs.Program as theory;
 ghost use Rattle.theory.specs.Refusals as refusals;
 ghost use Rattle.theory.specs.Operations as operations;
 ghost use Rattle.text.specs.Put.{put};
-ghost use Rattle.program.specs.Reports.{Reports, Reportable};
+ghost use Rattle.program.specs.Reports.{Reportable, Responds};
 
-// A found case stands from place 13 on already: the outcome's line is put before it.
+// The bytes of the line before a found case.
+pub const OUTCOME: usize = 13;
+
+// A found case stands after the outcome's line already.
 pub fn put_result(out: &mut [u8], answer: FindAnswer) -> usize
     requires { ⌜ Reportable answer (now out) ⌝ }
-    ensures { λ r. ⌜ ((s : Reportable answer (now (out .entry))) → Reports (theory.printed (s .result)) r (now (out .exit))) ⌝ }
+    ensures { λ r. ⌜ ((s : Reportable answer (now (out .entry))) → Responds (theory.printed (s .result)) r (s .before) (now (out .exit))) ⌝ }
 {
     match answer {
         FindAnswer::Found(_, count) => put_found(out, count),
@@ -28,7 +31,7 @@ pub fn put_result(out: &mut [u8], answer: FindAnswer) -> usize
 // The outcome's line before the case.
 fn put_found(out: &mut [u8], count: usize) -> usize
     requires { ⌜ 13 + count ≤ length (now out) ⌝ }
-    ensures { λ r. ⌜ Reports (theory.printed (refusals.answer (operations.found 0 (take count (drop 13 (now (out .entry))))))) r (now (out .exit)) ⌝ }
+    ensures { λ r. ⌜ Responds (theory.printed (refusals.answer (operations.found 0 (take count (drop 13 (now (out .entry))))))) r (now (out .entry)) (now (out .exit)) ⌝ }
 {
     put_bytes(out, 0, b"answer=found\n") + count
 }
@@ -36,7 +39,7 @@ fn put_found(out: &mut [u8], count: usize) -> usize
 // None, and the mark settled.
 fn put_none(out: &mut [u8], settled: bool) -> usize
     requires { ⌜ 24915 ≤ length (now out) ⌝ }
-    ensures { λ r. ⌜ Reports (theory.printed (refusals.answer (operations.nothing settled))) r (now (out .exit)) ⌝ }
+    ensures { λ r. ⌜ Responds (theory.printed (refusals.answer (operations.nothing settled))) r (now (out .entry)) (now (out .exit)) ⌝ }
 {
     let at = put_bytes(out, 0, b"answer=none\nsettled=");
     if settled {
@@ -48,7 +51,7 @@ fn put_none(out: &mut [u8], settled: bool) -> usize
 // A refusal's number and line.
 pub fn put_refusal(out: &mut [u8], number: u8, line: usize) -> usize
     requires { ⌜ (24915 ≤ length (now out)) × (line < 2 ^ 32) ⌝ }
-    ensures { λ r. ⌜ Reports (theory.printed (refusals.refused (refusals.atLine number line))) r (now (out .exit)) ⌝ }
+    ensures { λ r. ⌜ Responds (theory.printed (refusals.refused (refusals.atLine number line))) r (now (out .entry)) (now (out .exit)) ⌝ }
 {
     let a = put_field(out, 0, b"answer=refused\nreason=", number as u32);
     let b = put_field(out, a, b"\nline=", line as u32);

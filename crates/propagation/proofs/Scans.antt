@@ -1,5 +1,5 @@
 -- One turn of a scan: what a visit leaves can be scanned on.
-use mathlib.Core.Path.{_≡_, refl, sym, ap, _∙_}
+use mathlib.Core.Path.{_≡_, refl, sym, ap, _∙_, subst⁻¹}
 use mathlib.Core.Bool.{Bool, true, false}
 use mathlib.Core.Logic.{_⊎_, inl, inr, ⊎-elim}
 use mathlib.Core.List.{List, _∷_}
@@ -141,30 +141,25 @@ abbrev pub Scanning : List ℕ → ℕ → ℕ → ℕ → ℕ → List ℕ → 
 Scanning w₀ v from to len w n k =
     Scannable v from k to n w × (length w ≡ length w₀) × (scanned v (slice k to w) n w ≡ scanned v (slice from to w₀) len w₀)
 
--- a result, in parts, is that of the whole scan
-abbrev pub Scanned : List ℕ → ℕ → ℕ → ℕ → ℕ → ℕ → Bool → List ℕ → Type 0
-Scanned w₀ v from to len n clash w =
-    (n ≡ scanned v (slice from to w₀) len w₀ .len) × (clash ≡ scanned v (slice from to w₀) len w₀ .clash) × (w ≡ scanned v (slice from to w₀) len w₀ .mem)
-
 module _ (w₀ : List ℕ) (v from to len : ℕ) (w : List ℕ) (n k : ℕ) (now : Scanning w₀ v from to len w n k) where
-  module _ (go : k < to) (q : ℕ) (at : q ≡ getD w k 0) (n′ : ℕ) (clash : Bool) (w′ : List ℕ)
-      (a : n′ ≡ visited v q n w .len) (b : clash ≡ visited v q n w .clash) (c : w′ ≡ visited v q n w .mem) where
+  module _ (go : k < to) (q : ℕ) (at : q ≡ getD w k 0) (n′ : ℕ) (clash : Bool) (w′ : List ℕ) (r : record { len = n′; clash = clash; mem = w′ } ≡ visited v q n w) where
     pub scanning-length : length w′ ≡ length w₀
-    scanning-length = ap length c ∙ onward v from k to n w (now .0) go q at .2 ∙ now .1
+    scanning-length = ap (λ (z : Visit). length (z .mem)) r ∙ onward v from k to n w (now .0) go q at .2 ∙ now .1
+
+    clashes : visited v q n w .clash ≡ clash
+    clashes = ap (λ (z : Visit). z .clash) (sym r)
 
     pub scanning-turn : clash ≡ false → Scanning w₀ v from to len w′ n′ (k + 1)
     scanning-turn e =
         let o = onward v from k to n w (now .0) go q at in
-        let whole = sym (scan-goes v from k to n w (now .0) go q at (sym b ∙ e)) ∙ now .2 in
-        rw (a, c) (o .0, o .2 ∙ now .1, whole)
+        let whole = sym (scan-goes v from k to n w (now .0) go q at (clashes ∙ e)) ∙ now .2 in
+        subst⁻¹ (λ (z : Visit). Scanning w₀ v from to len (z .mem) (z .len) (k + 1)) r (o .0, o .2 ∙ now .1, whole)
 
-    pub scanning-stop : clash ≡ true → Scanned w₀ v from to len n′ true w′
+    pub scanning-stop : clash ≡ true → record { len = n′; clash = true; mem = w′ } ≡ scanned v (slice from to w₀) len w₀
     scanning-stop e =
-        let whole = sym (scan-stops v from k to n w (now .0) go q at (sym b ∙ e)) ∙ now .2 in
-        (a ∙ ap (λ (r : Visit). r .len) whole, sym e ∙ b ∙ ap (λ (r : Visit). r .clash) whole, c ∙ ap (λ (r : Visit). r .mem) whole)
+        ap (λ (b : Bool). record { len = n′; clash = b; mem = w′ }) (sym e) ∙ r ∙ sym (scan-stops v from k to n w (now .0) go q at (clashes ∙ e)) ∙ now .2
 
-  pub scanning-done : to ≤ k → Scanned w₀ v from to len n false w
+  pub scanning-done : to ≤ k → stays n false w ≡ scanned v (slice from to w₀) len w₀
   scanning-done past =
       let same : k ≡ to = omega (arith, now .0 .ordered) in
-      let whole = rw (same, slice-empty to w) at (now .2) in
-      (ap (λ (r : Visit). r .len) whole, ap (λ (r : Visit). r .clash) whole, ap (λ (r : Visit). r .mem) whole)
+      rw (same, slice-empty to w) at (now .2)

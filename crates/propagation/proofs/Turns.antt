@@ -1,12 +1,13 @@
 -- A turn of propagation, and its end.
-use mathlib.Core.Path.{_≡_}
+use mathlib.Core.Path.{_≡_, subst⁻¹}
 use mathlib.Core.Bool.{Bool, true, false, true≢false, false≢true}
 use mathlib.Core.List.{List, []}
 use Prim.Native.Nat.{ℕ, _+_, _≤_, _<_}
 use native.Mathlib.Omega.{arith}
 use lib.ListN.{length, getD}
+use Rattle.propagation.specs.Units.{Visit}
 use Rattle.propagation.specs.WorkArea.{trail, falses, WorkHeld, Frame}
-use Rattle.propagation.specs.Forcing.{Forces, none, Quiet}
+use Rattle.propagation.specs.Forcing.{Forces, no-more, Quiet}
 use Rattle.propagation.specs.Advance.{advanced, Calm, Propagated}
 use Rattle.propagation.proofs.Visits.{Looked, forces-trans}
 use Rattle.propagation.proofs.Advances.{advance-held, advance-frame, advance-meaning}
@@ -21,20 +22,23 @@ pub record Going (v : ℕ) (cs : List (List ℕ)) (start len : ℕ) (w₀ : List
   pub calm : Calm v cs start len w₀ → Calm v cs head n w
 
 pub going-start : (v : ℕ) (cs : List (List ℕ)) (start len : ℕ) (w₀ : List ℕ) → WorkHeld v cs start len w₀ → Going v cs start len w₀ start len w₀
-going-start v cs start len w₀ h = record { held = h; frame = frame-none v (length cs) w₀; onward = omega arith; forces = λ k. none; calm = λ k. k }
+going-start v cs start len w₀ h = record { held = h; frame = frame-none v (length cs) w₀; onward = omega arith; forces = λ k. no-more; calm = λ k. k }
 
 module _ (v : ℕ) (cs : List (List ℕ)) (start len : ℕ) (w₀ : List ℕ) (head n : ℕ) (w : List ℕ) (g : Going v cs start len w₀ head n w) where
-  module _ (go : head < n) (n′ : ℕ) (clash : Bool) (w′ : List ℕ) (ne : n′ ≡ advanced v head n w .len) (ke : clash ≡ advanced v head n w .clash) (we : w′ ≡ advanced v head n w .mem) where
+  module _ (go : head < n) (n′ : ℕ) (clash : Bool) (w′ : List ℕ) (r : record { len = n′; clash = clash; mem = w′ } ≡ advanced v head n w) where
     held′ : WorkHeld v cs (head + 1) n′ w′
-    held′ = rw (ne, we) (advance-held v cs head n w (g .held) go)
+    held′ = subst⁻¹ (λ (z : Visit). WorkHeld v cs (head + 1) (z .len) (z .mem)) r (advance-held v cs head n w (g .held) go)
 
     frame′ : Frame v (length cs) w₀ w′
-    frame′ = frame-trans (g .frame) (rw we (advance-frame v cs head n w (g .held) go))
+    frame′ = frame-trans (g .frame) (subst⁻¹ (λ (z : Visit). Frame v (length cs) w (z .mem)) r (advance-frame v cs head n w (g .held) go))
 
-    meaning : (calm : Calm v cs start len w₀)
-        → Looked v cs w (head + 1) (trail w v (head + 1)) (trail w v n) (λ l. (i : ℕ) → i < length cs → Quiet (falses (trail w v (head + 1))) l (getD cs i []))
-        (record { len = n′; clash = clash; mem = w′ })
-    meaning calm = rw (ne, ke, we) (advance-meaning v cs head n w (g .held) go (g .calm calm))
+    -- every clause is quiet after one entry more, where its variables have the values l
+    abbrev AllCalm : List ℕ → Type 0
+    AllCalm l = (i : ℕ) → i < length cs → Quiet (falses (trail w v (head + 1))) l (getD cs i [])
+
+    meaning : Calm v cs start len w₀ → Looked v cs w (head + 1) (trail w v (head + 1)) (trail w v n) AllCalm (record { len = n′; clash = clash; mem = w′ })
+    meaning calm =
+        subst⁻¹ (Looked v cs w (head + 1) (trail w v (head + 1)) (trail w v n) AllCalm) r (advance-meaning v cs head n w (g .held) go (g .calm calm))
 
     forces′ : Calm v cs start len w₀ → Forces v cs (trail w₀ v len) (trail w′ v n′)
     forces′ k = forces-trans (g .forces k) (meaning k .forces)

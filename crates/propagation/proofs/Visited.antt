@@ -1,6 +1,6 @@
--- Laws of counts of values, and of what a push leaves.
-use mathlib.Core.Path.{_≡_, refl, sym, ap, _∙_}
-use mathlib.Core.Bool.{Bool, true, false, cond}
+-- Laws of counts of values, of what a push leaves, and of what a visit does.
+use mathlib.Core.Path.{_≡_, refl, _∙_}
+use mathlib.Core.Bool.{Bool, true, false, cond, not}
 use mathlib.Core.List.{List, [], _∷_}
 use Prim.Native.Nat.{ℕ, zero, suc, _+_, _*_, _/_, _%_, _≤_, _<_}
 use native.Mathlib.Nat.{le-of-suc-le-suc, not-suc-le-zero}
@@ -9,7 +9,7 @@ use borrow.Author.Tests.{eq-eqb, ne-eqb}
 use lib.Dec.{eqb}
 use lib.ListN.{length, getD, set, take}
 use lib.Seq.{getD-take, length-take-le, take-set-lt, take-set-le}
-use Rattle.propagation.specs.Units.{setCount, pushed, Visit, visited, forced, stays}
+use Rattle.propagation.specs.Units.{setCount, pushed, visited, forced, stays}
 
 one-at-most : (b : Bool) → cond b 0 1 ≤ 1
 one-at-most true = omega arith
@@ -44,10 +44,6 @@ pushed-count v n u mark w l h e =
     rw (take-set-le v (set w (u / 2) (1 + u % 2)) (v + n) (2 * u + mark) (omega arith), take-set-lt v w (u / 2) (1 + u % 2) h)
     (count-set (take v w) (u / 2) (1 + u % 2) (omega (arith, m)) (getD-take v w (u / 2) 0 h ∙ e) (omega arith))
 
--- the parts of two equal visits
-pub parts : (a b : Visit) → a ≡ b → (b .len ≡ a .len) × (b .clash ≡ a .clash) × (b .mem ≡ a .mem)
-parts a b e = (ap (λ (r : Visit). r .len) (sym e), ap (λ (r : Visit). r .clash) (sym e), ap (λ (r : Visit). r .mem) (sym e))
-
 -- what a visit does, by the clause's weight t and the value of the variable that it names
 module _ (v q n : ℕ) (w : List ℕ) where
   pub visit-none : getD w q 0 % 64 ≡ 0 → visited v q n w ≡ stays n true w
@@ -62,14 +58,14 @@ module _ (v q n : ℕ) (w : List ℕ) where
   pub visit-new : getD w q 0 % 64 ≡ 1 → getD w (getD w q 0 / 64 / 2) 0 ≡ 0 → visited v q n w ≡ record { len = n + 1; clash = false; mem = pushed v n (getD w q 0 / 64) 0 w }
   visit-new e z = visit-one e ∙ rw (eq-eqb (getD w (getD w q 0 / 64 / 2) 0) 0 z) refl
 
+  pub visit-set : getD w q 0 % 64 ≡ 1 → (getD w (getD w q 0 / 64 / 2) 0 ≡ 0 → ⊥)
+      → visited v q n w ≡ stays n (not (eqb (getD w (getD w q 0 / 64 / 2) 0) (1 + getD w q 0 / 64 % 2))) w
+  visit-set e z = visit-one e ∙ rw (ne-eqb (getD w (getD w q 0 / 64 / 2) 0) 0 z) refl
+
   pub visit-true : getD w q 0 % 64 ≡ 1 → (getD w (getD w q 0 / 64 / 2) 0 ≡ 0 → ⊥) → getD w (getD w q 0 / 64 / 2) 0 ≡ 1 + getD w q 0 / 64 % 2
       → visited v q n w ≡ stays n false w
-  visit-true e z s =
-      visit-one e
-      ∙ rw (ne-eqb (getD w (getD w q 0 / 64 / 2) 0) 0 z, eq-eqb (getD w (getD w q 0 / 64 / 2) 0) (1 + getD w q 0 / 64 % 2) s) refl
+  visit-true e z s = visit-set e z ∙ rw (eq-eqb (getD w (getD w q 0 / 64 / 2) 0) (1 + getD w q 0 / 64 % 2) s) refl
 
   pub visit-false : getD w q 0 % 64 ≡ 1 → (getD w (getD w q 0 / 64 / 2) 0 ≡ 0 → ⊥) → (getD w (getD w q 0 / 64 / 2) 0 ≡ 1 + getD w q 0 / 64 % 2 → ⊥)
       → visited v q n w ≡ stays n true w
-  visit-false e z s =
-      visit-one e
-      ∙ rw (ne-eqb (getD w (getD w q 0 / 64 / 2) 0) 0 z, ne-eqb (getD w (getD w q 0 / 64 / 2) 0) (1 + getD w q 0 / 64 % 2) s) refl
+  visit-false e z s = visit-set e z ∙ rw (ne-eqb (getD w (getD w q 0 / 64 / 2) 0) (1 + getD w q 0 / 64 % 2) s) refl

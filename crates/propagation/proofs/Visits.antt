@@ -13,7 +13,7 @@ use Rattle.propagation.specs.Clauses.{weight}
 use Rattle.propagation.specs.Units.{Visit, stays, visited, scanned}
 use Rattle.propagation.proofs.Visited.{visit-none, visit-many, visit-new, visit-true, visit-false}
 use Rattle.propagation.specs.WorkArea.{trail, values, Fresh, falses, live, ShortClause, WorkHeld, Frame}
-use Rattle.propagation.specs.Forcing.{Forces, none, more, Void, Quiet}
+use Rattle.propagation.specs.Forcing.{Forces, no-more, one-more, Void, Quiet}
 use Rattle.propagation.proofs.Trails.{set-nonzero, values-length}
 use Rattle.propagation.proofs.Lives.{none-left, one-left, one-names, left-none, left-one, all-at}
 use Rattle.propagation.proofs.Truths.{value-own, unset-live, value-false, value-small, falses-down, live-live}
@@ -61,11 +61,11 @@ module _ (v : ℕ) (cs : List (List ℕ)) (head n : ℕ) (w hs : List ℕ) (held
   -- nothing is done
   stay-good : Quiet (falses hs) (values v ts) c → Looked v cs w head hs ts (λ l. Quiet (falses hs) l c) (stays n false w)
   stay-good g =
-      record { held = held; frame = frame-none v (length cs) w; first = first; forces = none; good = λ e. g; void = λ e. absurd (false≢true e) }
+      record { held = held; frame = frame-none v (length cs) w; first = first; forces = no-more; good = λ e. g; void = λ e. absurd (false≢true e) }
 
   stay-void : Void cs (falses ts) → Looked v cs w head hs ts (λ l. Quiet (falses hs) l c) (stays n true w)
   stay-void g =
-      record { held = held; frame = frame-none v (length cs) w; first = first; forces = none; good = λ e. absurd (true≢false e); void = λ e. g }
+      record { held = held; frame = frame-none v (length cs) w; first = first; forces = no-more; good = λ e. absurd (true≢false e); void = λ e. g }
 
   abbrev Goal : Type 0
   Goal = Looked v cs w head hs ts (λ l. Quiet (falses hs) l c) (visited v q n w)
@@ -114,7 +114,7 @@ module _ (v : ℕ) (cs : List (List ℕ)) (head n : ℕ) (w hs : List ℕ) (held
           held = h;
           frame = pushed-frame v cs head n w held u 0 (omega arith) named z;
           first = older v cs head n w held u 0 (omega arith) named z head (held .head-len) ∙ first;
-          forces = rw s (more {v = v} {cs = cs} {ts′ = ts} i (2 * u + 0) none is (omega arith) (rw half now) (rw half named) (rw half unset));
+          forces = rw s (one-more {v = v} {cs = cs} {ts′ = ts} i (2 * u + 0) no-more is (omega arith) (rw half now) (rw half named) (rw half unset));
           good = λ k. rw s (set-good (values v ((2 * u + 0) ∷ ts)) (λ o. omega (arith, value-own v (2 * u + 0) ts f, ap (λ (m : ℕ). getD (values v ((2 * u + 0) ∷ ts)) (m / 2) 0) half, o)));
           void = λ k. absurd (false≢true k);
         })
@@ -153,13 +153,13 @@ module _ (v : ℕ) (cs : List (List ℕ)) (head n : ℕ) (w hs : List ℕ) (held
   visit-meaning = by-none (eqb (getD w q 0 % 64) 0) refl
 
 pub forces-trans : {v : ℕ} {cs : List (List ℕ)} {a b c : List ℕ} → Forces v cs a b → Forces v cs b c → Forces v cs a c
-forces-trans f none = f
-forces-trans f (more i t g is even l named unset) = more i t (forces-trans f g) is even l named unset
+forces-trans f no-more = f
+forces-trans f (one-more i t g is even l named unset) = one-more i t (forces-trans f g) is even l named unset
 
 -- what is set stays set
 pub forces-set : {v : ℕ} {cs : List (List ℕ)} {a b : List ℕ} (k : ℕ) → Forces v cs a b → (getD (values v a) k 0 ≡ 0 → ⊥) → getD (values v b) k 0 ≡ 0 → ⊥
-forces-set k none n = n
-forces-set {v} k (more {ts′ = ts′} i t g is even l named unset) n =
+forces-set k no-more n = n
+forces-set {v} k (one-more {ts′ = ts′} i t g is even l named unset) n =
     set-nonzero (values v ts′) (t / 2 / 2) (1 + t / 2 % 2) k (omega (arith, values-length v ts′, named)) (omega arith) (forces-set k g n)
 
 pub quiet-on : {v : ℕ} {cs : List (List ℕ)} {a b : List ℕ} (D c : List ℕ) → Forces v cs a b → Quiet D (values v a) c → Quiet D (values v b) c
@@ -211,7 +211,7 @@ pub scan-meaning : (v : ℕ) (cs : List (List ℕ)) (head : ℕ) (hs qs : List �
     → ((j : ℕ) → j < length qs → (i : ℕ) × (i < length cs) × (getD qs j 0 ≡ 7 * v + i)) → WorkHeld v cs head n w → trail w v head ≡ hs
     → Looked v cs w head hs (trail w v n) (AllQuiet v cs hs qs) (scanned v qs n w)
 scan-meaning v cs head hs [] n w a held first =
-    record { held = held; frame = frame-none v (length cs) w; first = first; forces = none; good = λ e i is h. absurd (false≢true h); void = λ e. absurd (false≢true e) }
+    record { held = held; frame = frame-none v (length cs) w; first = first; forces = no-more; good = λ e i is h. absurd (false≢true h); void = λ e. absurd (false≢true e) }
 scan-meaning v cs head hs (q ∷ qs) n w a held first =
     let at₀ = a 0 (omega arith) in
     joined v cs head hs q qs n w (at₀ .0) (at₀ .2) (visit-at v cs head n w hs held first q (at₀ .0) (at₀ .1) (at₀ .2)) (visited v q n w .clash) refl

@@ -5,6 +5,7 @@ use mathlib.Core.List.{List, []}
 use Prim.Native.Nat.{ℕ, _+_, _*_, _/_, _<_}
 use lib.ListN.{length, getD}
 use lib.Seq.{slice}
+use Rattle.propagation.specs.declared.Front.{Front}
 use Rattle.propagation.specs.Weights.{changed, less}
 use Rattle.propagation.specs.Units.{Visit, scanned}
 use Rattle.propagation.specs.WorkArea.{negated, trail, values, falses, WorkHeld, Frame}
@@ -45,3 +46,9 @@ pub record Propagated (v : ℕ) (cs : List (List ℕ)) (start len : ℕ) (w : Li
   pub calm : clash ≡ false → (head′ ≡ len′) × Calm v cs head′ len′ w′
   pub void : clash ≡ true → Void cs (falses (trail w′ v len′))
   pub ahead : clash ≡ true → start < head′
+
+-- of whatever clauses the work area holds that are quiet
+abbrev pub PropagatesFrom : ℕ → ℕ → ℕ → List ℕ → Front → List ℕ → Type 0
+PropagatesFrom v start len w front w′ =
+    (cs : List (List ℕ)) → WorkHeld v cs start len w → Calm v cs start len w
+    → Propagated v cs start len w (front .head) (front .len) (front .clash) w′

@@ -7,8 +7,8 @@ use Rattle.propagation.specs.WorkArea.{values, falses, live}
 
 -- the second trail has, on top of the first, entries that clauses force one after the other
 pub data Forces : ℕ → List (List ℕ) → List ℕ → List ℕ → Type 0 where
-  none : {v : ℕ} {cs : List (List ℕ)} {ts : List ℕ} → Forces v cs ts ts
-  more : {v : ℕ} {cs : List (List ℕ)} {ts ts′ : List ℕ} (i t : ℕ) → Forces v cs ts ts′ → i < length cs → t % 2 ≡ 0
+  no-more : {v : ℕ} {cs : List (List ℕ)} {ts : List ℕ} → Forces v cs ts ts
+  one-more : {v : ℕ} {cs : List (List ℕ)} {ts ts′ : List ℕ} (i t : ℕ) → Forces v cs ts ts′ → i < length cs → t % 2 ≡ 0
       → live (falses ts′) (getD cs i []) ≡ t / 2 ∷ [] → t / 2 / 2 < v → getD (values v ts′) (t / 2 / 2) 0 ≡ 0 → Forces v cs ts (t ∷ ts′)
 
 -- a clause all of whose literals are false

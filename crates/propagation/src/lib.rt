@@ -1,11 +1,11 @@
 // Unit propagation to the end, over clauses that are held in lent numbers (specs/WorkArea.antt says how).
 ghost use mathlib.Core.Path.{_≡_};
-ghost use mathlib.Core.List.{List};
-ghost use Prim.Native.Nat.{ℕ, _<_};
-ghost use Rattle.propagation.specs.WorkArea.{WorkHeld};
-ghost use Rattle.propagation.specs.Advance.{advanced, Ready, Calm, Propagated};
+ghost use Prim.Native.Nat.{_<_};
+ghost use Rattle.propagation.specs.Units.{visitOf};
+ghost use Rattle.propagation.specs.Advance.{advanced, Ready, PropagatesFrom};
 use literals::negated;
 use units::Seen;
+use weights::Weight;
 
 pub mod literals; // literals.rt: literals as numbers
 pub mod weights; // weights.rt: lowering and raising the weights of clauses
@@ -23,20 +23,20 @@ pub struct Front {
 pub fn advance(work: &mut [u32], v: usize, head: usize, len: usize) -> Seen
     requires { ⌜ Ready v head len (now work) ⌝ }
     requires { ⌜ head < len ⌝ }
-    ensures { λ r. ⌜ (r .len ≡ advanced v head len (now (work .entry)) .len) × (r .clash ≡ advanced v head len (now (work .entry)) .clash) × (now (work .exit) ≡ advanced v head len (now (work .entry)) .mem) ⌝ }
+    ensures { λ r. ⌜ visitOf r (now (work .exit)) ≡ advanced v head len (now (work .entry)) ⌝ }
 {
     let literal = negated(work[v + head] / 2);
     let at = 2 * v + 2 * weights::wide(literal);
     let from = weights::wide(work[at]);
     let to = weights::wide(work[at + 1]);
-    weights::lower(work, from, to, 64 * literal + 1);
+    weights::lower(work, from, to, Weight::BASE * literal + 1);
     units::scan(work, v, from, to, len)
 }
 
 // Propagates from the entry at start on, until a clause is wholly false or nothing is forced.
 pub fn propagate(work: &mut [u32], v: usize, start: usize, len: usize) -> Front
     requires { ⌜ Ready v start len (now work) ⌝ }
-    ensures { λ r. ⌜ ((cs : List (List ℕ)) → WorkHeld v cs start len (now (work .entry)) → Calm v cs start len (now (work .entry)) → Propagated v cs start len (now (work .entry)) (r .head) (r .len) (r .clash) (now (work .exit))) ⌝ }
+    ensures { λ r. ⌜ PropagatesFrom v start len (now (work .entry)) r (now (work .exit)) ⌝ }
 {
     let mut head = start;
     let mut entries = len;

@@ -3,8 +3,9 @@
 ghost use mathlib.Core.Path.{_≡_};
 ghost use Prim.Native.Nat.{_+_, _*_, _/_, _%_, _<_};
 ghost use lib.Seq.{slice};
-ghost use Rattle.propagation.specs.Units.{pushed, visited, scanned, Pushable, Visitable, Scannable};
+ghost use Rattle.propagation.specs.Units.{pushed, visitOf, visited, scanned, Pushable, Visitable, Scannable};
 use crate::weights;
+use crate::weights::Weight;
 
 // The trail's length after looking, and whether a clause is wholly false.
 pub struct Seen {
@@ -25,10 +26,10 @@ pub fn push(work: &mut [u32], v: usize, place: usize, literal: u32, mark: u32)
 // Looks at the clause whose weight stands at the address.
 pub fn visit(work: &mut [u32], v: usize, address: usize, len: usize) -> Seen
     requires { ⌜ Visitable v address len (now work) ⌝ }
-    ensures { λ r. ⌜ (r .len ≡ visited v address len (now (work .entry)) .len) × (r .clash ≡ visited v address len (now (work .entry)) .clash) × (now (work .exit) ≡ visited v address len (now (work .entry)) .mem) ⌝ }
+    ensures { λ r. ⌜ visitOf r (now (work .exit)) ≡ visited v address len (now (work .entry)) ⌝ }
 {
-    let weight = work[address];
-    let live = weight % 64;
+    let weight = Weight(work[address]);
+    let live = weight.0 % Weight::BASE;
     if live == 0 {
         return Seen {
             len: len,
@@ -41,7 +42,7 @@ pub fn visit(work: &mut [u32], v: usize, address: usize, len: usize) -> Seen
             clash: false,
         };
     }
-    let literal = weight / 64;
+    let literal = weight.0 / Weight::BASE;
     let variable = weights::wide(literal / 2);
     let value = work[variable];
     if value == 0 {
@@ -52,23 +53,16 @@ pub fn visit(work: &mut [u32], v: usize, address: usize, len: usize) -> Seen
         };
     }
     let own = 1 + literal % 2;
-    if value == own {
-        Seen {
-            len: len,
-            clash: false,
-        }
-    } else {
-        Seen {
-            len: len,
-            clash: true,
-        }
+    Seen {
+        len: len,
+        clash: value != own,
     }
 }
 
 // Looks at the clauses whose weights' addresses stand in work from `from` to `to`, up to a clash.
 pub fn scan(work: &mut [u32], v: usize, from: usize, to: usize, len: usize) -> Seen
     requires { ⌜ Scannable v from from to len (now work) ⌝ }
-    ensures { λ r. ⌜ (r .len ≡ scanned v (slice from to (now (work .entry))) len (now (work .entry)) .len) × (r .clash ≡ scanned v (slice from to (now (work .entry))) len (now (work .entry)) .clash) × (now (work .exit) ≡ scanned v (slice from to (now (work .entry))) len (now (work .entry)) .mem) ⌝ }
+    ensures { λ r. ⌜ visitOf r (now (work .exit)) ≡ scanned v (slice from to (now (work .entry))) len (now (work .entry)) ⌝ }
 {
     let mut entries = len;
     let mut place = from;

@@ -3,6 +3,14 @@ ghost use mathlib.Core.Path.{_≡_};
 ghost use lib.Seq.{slice};
 ghost use Rattle.propagation.specs.Weights.{changed, less, more, Addresses, AtLeast, RoomFor};
 
+// The weight of a clause, one number: the sum of BASE * l + 1 over its literals l that are not false.
+pub struct Weight(pub u32);
+
+impl Weight {
+    // more than a clause has literals: a weight's remainder by it is how many of them are left
+    pub const BASE: u32 = 64;
+}
+
 // A 32-bit number as an index.
 pub fn wide(number: u32) -> usize
     ensures { λ r. ⌜ r ≡ number ⌝ }

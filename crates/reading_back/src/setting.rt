@@ -9,21 +9,17 @@ use syntax::signature::Signature;
 use syntax::size::DomainSize;
 use syntax::size::SizeCheck;
 use valuations::numbering::numbering_of;
-use valuations::valuation::is_binary;
 use valuations::valuation::is_functional;
-ghost use mathlib.Core.Path.{_≡_};
+use valuations::valuation::is_valuation;
 ghost use Prim.Native.Nat.{_≤_};
 ghost use lib.ListN.{length};
-ghost use Rattle.theory.specs.Operations.{lengthAnswer, outputAfter, readBackText};
-ghost use Rattle.answers.specs.Answers.{lengthIn};
-ghost use Rattle.syntax.specs.Signatures.{signatureIn};
+ghost use Rattle.answers.specs.Calls.{ReadBackCall};
 ghost use Rattle.clauses.specs.Names.{Readable};
-ghost use Rattle.reading_back.specs.Settings.{settingText};
+ghost use Rattle.reading_back.specs.Settings.{SettingCall};
 
 // The sheet's refusals, 8, then those of the setting and the output.
 pub fn read_setting_back(sheet: &[u8], size: u64, setting: &[u8], output: &mut [u8]) -> WriteAnswer
-    ensures answer { λ r. ⌜ lengthIn r ≡ lengthAnswer (readBackText (now (sheet .entry)) size (now (setting .entry)) (length (now (output .entry)))) ⌝ }
-    ensures left { λ r. ⌜ now (output .exit) ≡ outputAfter (readBackText (now (sheet .entry)) size (now (setting .entry)) (length (now (output .entry)))) (now (output .entry)) ⌝ }
+    ensures { λ r. ⌜ ReadBackCall (now (sheet .entry)) size (now (setting .entry)) r (now (output .entry)) (now (output .exit)) ⌝ }
 {
     let r = read_problem(sheet);
     if r.fault != 0 {
@@ -45,20 +41,16 @@ fn write_setting(
     output: &mut [u8],
 ) -> WriteAnswer
     requires { ⌜ Readable (now sheet) signature × ((length (now sheet) ≤ 16384) × ((1 ≤ size .0) × (size .0 ≤ 8))) ⌝ }
-    ensures answer { λ r. ⌜ lengthIn r ≡ lengthAnswer (settingText (size .0) (signatureIn (now (sheet .entry)) signature) (now (setting .entry)) (length (now (output .entry)))) ⌝ }
-    ensures left { λ r. ⌜ now (output .exit) ≡ outputAfter (settingText (size .0) (signatureIn (now (sheet .entry)) signature) (now (setting .entry)) (length (now (output .entry)))) (now (output .entry)) ⌝ }
+    ensures { λ r. ⌜ SettingCall (now (sheet .entry)) signature (size .0) (now (setting .entry)) r (now (output .entry)) (now (output .exit)) ⌝ }
 {
     let n = numbering_of(signature, size);
-    if setting.len() != n.count as usize {
-        return WriteAnswer::Refused(at_line(13, 0));
-    }
-    if !is_binary(setting) {
+    if !is_valuation(setting, n) {
         return WriteAnswer::Refused(at_line(13, 0));
     }
     if !is_functional(setting, signature, n, size) {
         return WriteAnswer::Refused(at_line(14, 0));
     }
-    let length = case_length(signature, size.0);
+    let length = case_length(signature, size);
     if output.len() < length {
         return WriteAnswer::Refused(needing(11, length));
     }

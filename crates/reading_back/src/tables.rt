@@ -2,6 +2,7 @@
 use cases::writing::put_table;
 use indices::PropVar;
 use interpretation::vector::power;
+use syntax::limits::Problem;
 use syntax::signature::Symbol;
 use syntax::size::DomainSize;
 use valuations::numbering::width;
@@ -99,9 +100,8 @@ pub fn put_symbol(
     ensures written { λ r. ⌜ now (out .exit) ≡ put (now (out .entry)) at (tableLine (now (sheet .entry)) symbol (from .0) (size .0) (bitsHeld (now (setting .entry)) (now (values .entry)))) ⌝ }
     ensures place { λ r. ⌜ r ≡ at + length (tableLine (now (sheet .entry)) symbol (from .0) (size .0) (bitsHeld (now (setting .entry)) (now (values .entry)))) ⌝ }
 {
-    // a symbol has at most 8^3 cells, and a cell at most 8 variables
-    let mut bits = [0u8; 4096];
-    let mut table = [0u8; 512];
+    let mut bits = [0u8; Problem::MAX_TABLE_BITS];
+    let mut table = [0u8; Problem::MAX_TABLE];
     let cells = power(size.0, symbol.arity as usize);
     put_line(
         sheet,

@@ -28,9 +28,9 @@ pub fn write_case(
     requires { ⌜ WritableBits (now sheet) signature n (size .0) (bitsHeld (now setting) (now values)) ⌝ }
     requires { ⌜ caseLength (size .0) (signatureIn (now sheet) signature) ≤ length (now out) ⌝ }
     ensures written { λ r. ⌜ now (out .exit) ≡ over (caseSaid (now (sheet .entry)) signature (size .0) (bitsHeld (now (setting .entry)) (now (values .entry)))) (now (out .entry)) ⌝ }
-    ensures length { λ r. ⌜ r ≡ caseLength (size .0) (signatureIn (now (sheet .entry)) signature) ⌝ }
+    ensures place { λ r. ⌜ r ≡ caseLength (size .0) (signatureIn (now (sheet .entry)) signature) ⌝ }
 {
-    let at = put_heading(out, size.0);
+    let at = put_heading(out, size);
     put_tables(sheet, signature, n, size, setting, values, out, at)
 }
 

@@ -10,7 +10,7 @@ use lib.ListN.{length, length-map, getD}
 use Rattle.propagation.specs.Clauses.{codes, once, coded}
 use Rattle.propagation.specs.Units.{visited, Visitable, setCount}
 use Rattle.propagation.specs.WorkArea.{trail, values, falses, ShortClause, WorkHeld, Loaded, Frame}
-use Rattle.propagation.specs.Forcing.{Forces, none, Void, Quiet}
+use Rattle.propagation.specs.Forcing.{Forces, no-more, Void, Quiet}
 use Rattle.propagation.proofs.Frames.{trail-length, frame-none, frame-trans}
 use Rattle.propagation.proofs.Trails.{values-count}
 use Rattle.propagation.proofs.Lives.{one-names, all-at}
@@ -30,7 +30,7 @@ pub record Beginning (v : ℕ) (cs : List (List ℕ)) (w₀ : List ℕ) (q n : �
   pub quiet : (i : ℕ) → i < length cs → 7 * v + i < q → Quiet [] (values v (trail w v n)) (getD cs i [])
 
 pub beginning-start : (v : ℕ) (cs : List (List ℕ)) (q : ℕ) (w : List ℕ) → q ≡ 7 * v → WorkHeld v cs 0 0 w → Beginning v cs w q 0 w
-beginning-start v cs q w e h = record { held = h; frame = frame-none v (length cs) w; forces = none; quiet = λ i is k. absurd (omega (arith, e, k)) }
+beginning-start v cs q w e h = record { held = h; frame = frame-none v (length cs) w; forces = no-more; quiet = λ i is k. absurd (omega (arith, e, k)) }
 
 module _ (v : ℕ) (cs : List (List ℕ)) (w₀ : List ℕ) (to q n : ℕ) (w : List ℕ) (end : to ≡ 7 * v + length cs) (from : 7 * v ≤ q) (g : Beginning v cs w₀ q n w) where
   module _ (go : q < to) where
@@ -55,9 +55,9 @@ module _ (v : ℕ) (cs : List (List ℕ)) (w₀ : List ℕ) (to q n : ℕ) (w : 
           counts = ap setCount (g .held .gives) ∙ values-count v (trail w v n) (g .held .fresh) ∙ trail-length v w n;
         }
 
-    module _ (n′ : ℕ) (clash : Bool) (w′ : List ℕ) (ne : n′ ≡ visited v q n w .len) (ke : clash ≡ visited v q n w .clash) (we : w′ ≡ visited v q n w .mem) where
+    module _ (n′ : ℕ) (clash : Bool) (w′ : List ℕ) (r : record { len = n′; clash = clash; mem = w′ } ≡ visited v q n w) where
       looked : Looked v cs w 0 [] (trail w v n) (λ l. Quiet [] l (getD cs i [])) (record { len = n′; clash = clash; mem = w′ })
-      looked = rw (ne, ke, we) (visit-at v cs 0 n w [] (g .held) refl q i is at)
+      looked = subst⁻¹ (Looked v cs w 0 [] (trail w v n) (λ l. Quiet [] l (getD cs i []))) r (visit-at v cs 0 n w [] (g .held) refl q i is at)
 
       forces′ : Forces v cs [] (trail w′ v n′)
       forces′ = forces-trans (g .forces) (looked .forces)
@@ -91,15 +91,15 @@ module _ (v : ℕ) (cs : List PropClause) (first : ℕ → Bool) (w₀ : List �
   pub begun-visitable : q < to → Visitable v q n w
   begun-visitable go = begin-visitable v (coded cs) w₀ to q n w end-coded from g go
 
-  pub begun-turn : (go : q < to) (n′ : ℕ) (clash : Bool) (w′ : List ℕ) → n′ ≡ visited v q n w .len → clash ≡ visited v q n w .clash → w′ ≡ visited v q n w .mem
+  pub begun-turn : (go : q < to) (n′ : ℕ) (clash : Bool) (w′ : List ℕ) → record { len = n′; clash = clash; mem = w′ } ≡ visited v q n w
       → clash ≡ false → Beginning v (coded cs) w₀ (q + 1) n′ w′
-  begun-turn go n′ clash w′ ne ke we e = beginning-turn v (coded cs) w₀ to q n w end-coded from g go n′ clash w′ ne ke we e
+  begun-turn go n′ clash w′ r e = beginning-turn v (coded cs) w₀ to q n w end-coded from g go n′ clash w′ r e
 
   -- a wholly false clause: the walk finds nothing
-  pub begun-stop : (go : q < to) (n′ : ℕ) (clash : Bool) (w′ : List ℕ) → n′ ≡ visited v q n w .len → clash ≡ visited v q n w .clash → w′ ≡ visited v q n w .mem
+  pub begun-stop : (go : q < to) (n′ : ℕ) (clash : Bool) (w′ : List ℕ) → record { len = n′; clash = clash; mem = w′ } ≡ visited v q n w
       → clash ≡ true → Begun v cs first n′ true w₀ w′
-  begun-stop go n′ clash w′ ne ke we e =
-      let (h, f, s, z) = stopped v (coded cs) w₀ to q n w end-coded from g go n′ clash w′ ne ke we e in
+  begun-stop go n′ clash w′ r e =
+      let (h, f, s, z) = stopped v (coded cs) w₀ to q n w end-coded from g go n′ clash w′ r e in
       record {
         frame = frame-coded cs f;
         started = λ k. absurd (true≢false k);

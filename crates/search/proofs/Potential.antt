@@ -9,8 +9,8 @@ use borrow.Author.Tests.{eq-eqb, ne-eqb}
 use lib.Dec.{eqb}
 use lib.ListN.{length}
 use Rattle.propagation.specs.WorkArea.{negated}
-use Rattle.propagation.specs.Forcing.{Forces, none, more}
-use Rattle.search.specs.Moves.{BackTo, here, pops}
+use Rattle.propagation.specs.Forcing.{Forces, no-more, one-more}
+use Rattle.search.specs.Moves.{BackTo, flips, pops}
 
 -- a power of 3 for each open choice
 abbrev opens : ℕ → List ℕ → ℕ
@@ -24,8 +24,8 @@ potential v ts = 3 ^ (v - length ts) + opens v ts
 -- the potential falls
 module _ (v : ℕ) where
   pub forced-falls : {cs : List (List ℕ)} {ts us : List ℕ} → Forces v cs ts us → potential v us ≤ potential v ts
-  forced-falls none = omega arith
-  forced-falls (more {ts′ = ts′} i t g is even l named unset) =
+  forced-falls no-more = omega arith
+  forced-falls (one-more {ts′ = ts′} i t g is even l named unset) =
       let p : 3 ^ (v - length (t ∷ ts′)) ≤ 3 ^ (v - length ts′) = pow-le-pow-right (omega arith) (omega arith) in
       rw (ne-eqb (t % 2) 1 (λ z. omega (arith, z, even))) (omega (arith, p, forced-falls g))
 
@@ -38,7 +38,7 @@ module _ (v : ℕ) where
       rw (eq-eqb ((2 * u + 1) % 2) 1 (omega arith)) (omega (arith, p, q))
 
   back-opens : {ts us : List ℕ} → BackTo ts us → potential v us ≤ opens v ts
-  back-opens (here {ts} t e) =
+  back-opens (flips {ts} t e) =
       rw (eq-eqb (t % 2) 1 e, ne-eqb ((2 * negated (t / 2) + 0) % 2) 1 (λ z. omega (arith, z))) (omega arith)
   back-opens (pops {ts} t e b) = omega (arith, back-opens b)
 

@@ -14,12 +14,12 @@ use Rattle.theory.specs.Walk.{lowest, bytesOf, Walked, choose, walked}
 use Rattle.theory.specs.Valuation.{settingOf}
 use Rattle.propagation.specs.Clauses.{coded}
 use Rattle.propagation.specs.WorkArea.{negated, values, Fresh, falses}
-use Rattle.propagation.specs.Forcing.{Forces, none as no-more, more, Void}
-use Rattle.search.specs.Moves.{BackTo, here as back-here, pops, NoneOpen}
+use Rattle.propagation.specs.Forcing.{Forces, no-more, one-more, Void}
+use Rattle.search.specs.Moves.{BackTo, flips, pops, NoneOpen}
 use Rattle.search.proofs.Partials.{partial, partial-bytes}
 use Rattle.search.proofs.Walks.{AllQuiet, nothing, from, from-forces, from-void, from-end, from-choice}
 
--- the walk with k choices more
+-- the walk with k choices one-more
 abbrev pub added : ℕ → Walked → Walked
 added k r = record { answer = r .answer; choices = k + r .choices }
 
@@ -96,7 +96,7 @@ module _ (v : ℕ) (cs : List PropClause) (first : ℕ → Bool) (numbered : all
 
   later-forces : {ts us : List ℕ} (r : Walked) → Forces v (coded cs) ts us → later us r ≡ later ts r
   later-forces r no-more = refl
-  later-forces r (more {ts′ = ts′} i t g is even l named unset) = later-shut t ts′ r even ∙ later-forces r g
+  later-forces r (one-more {ts′ = ts′} i t g is even l named unset) = later-shut t ts′ r even ∙ later-forces r g
 
   later-found : (σ : List ℕ) (ts : List ℕ) (r : Walked) → r .answer ≡ some σ → later ts r ≡ r
   later-found σ [] r e = refl
@@ -111,7 +111,7 @@ module _ (v : ℕ) (cs : List PropClause) (first : ℕ → Bool) (numbered : all
 
   -- where nothing was found, the latest open choice's other value is tried
   later-back : {ts us : List ℕ} → BackTo ts us → later ts nothing ≡ later us (go us)
-  later-back (back-here {ts} t e) =
+  later-back (flips {ts} t e) =
       later-open t ts nothing e
       ∙ ap (later ts) (orElse-nothing (go ((2 * negated (t / 2) + 0) ∷ ts)))
       ∙ sym (later-shut (2 * negated (t / 2) + 0) ts (go ((2 * negated (t / 2) + 0) ∷ ts)) (omega arith))
@@ -137,7 +137,7 @@ module _ (v : ℕ) (cs : List PropClause) (first : ℕ → Bool) (numbered : all
         ap (λ (r : Walked). r .answer) (e ∙ ap (added k) (ap (later ts) (from-end v cs first numbered ts f q low) ∙ later-found (bytesOf (partial v ts)) ts r refl))
         ∙ ap some (partial-bytes (values v ts))
 
-    -- a choice is one more, and leaves its other value open
+    -- a choice is one one-more, and leaves its other value open
     pub whole-choice : (x : ℕ) → lowest (partial v ts) ≡ some x → Whole k ts
         → Whole (k + 1) ((2 * cond (first x) (2 * x) (2 * x + 1) + 1) ∷ ts)
     whole-choice x low e =

@@ -14,7 +14,7 @@ use Rattle.propagation.specs.WorkArea.{negated, trail, values, Fresh, WorkHeld,
 use Rattle.propagation.proofs.Frames.{trail-length, frame-none, frame-trans}
 use Rattle.propagation.proofs.Trails.{negated-half}
 use Rattle.propagation.proofs.Pushing.{free, pushed-held, pushed-frame, pushed-trail}
-use Rattle.search.specs.Moves.{BackTo, here, pops, NoneOpen, OpenUnder}
+use Rattle.search.specs.Moves.{BackTo, flips, pops, NoneOpen, OpenUnder}
 use Rattle.search.specs.Search.{Popped, Lowered, Returned}
 use Rattle.search.proofs.Popping.{pop-fresh}
 
@@ -105,7 +105,7 @@ module _ (v : ℕ) (cs : List (List ℕ)) (head len : ℕ) (w₀ : List ℕ) (h 
 
           back-to : BackTo (trail w v n) (trail w₂ v (m + 1))
           back-to =
-              subst⁻¹ (λ (l : List ℕ). BackTo l (trail w₂ v (m + 1))) top (subst⁻¹ (λ (l : List ℕ). BackTo (t ∷ trail w v m) l) new (here t odd))
+              subst⁻¹ (λ (l : List ℕ). BackTo l (trail w₂ v (m + 1))) top (subst⁻¹ (λ (l : List ℕ). BackTo (t ∷ trail w v m) l) new (flips t odd))
 
           returned : Returned v cs head len w₀ h′ (m + 1) true w₂
           returned =

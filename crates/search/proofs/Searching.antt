@@ -16,12 +16,12 @@ use Rattle.theory.specs.Claims.Counts.{isNumbered}
 use Rattle.propagation.specs.Clauses.{coded}
 use Rattle.propagation.specs.Units.{pushed, Pushable}
 use Rattle.propagation.specs.WorkArea.{negated, trail, values, Fresh, falses, WorkHeld, Regions, Prefers, Frame}
-use Rattle.propagation.specs.Forcing.{Forces, none as no-more, more, Quiet}
+use Rattle.propagation.specs.Forcing.{Forces, no-more, one-more, Quiet}
 use Rattle.propagation.specs.Advance.{Calm, Propagated}
 use Rattle.propagation.proofs.Frames.{trail-length, frame-none, frame-trans}
 use Rattle.propagation.proofs.Trails.{set-nonzero, values-length}
 use Rattle.propagation.proofs.Pushing.{free, pushed-held, pushed-frame, pushed-trail, older}
-use Rattle.search.specs.Moves.{BackTo, here, pops, NoneOpen, OpenUnder}
+use Rattle.search.specs.Moves.{BackTo, flips, pops, NoneOpen, OpenUnder}
 use Rattle.search.specs.Search.{partialOf, preferred, searchAnswer, Returned, Started, Solved}
 use Rattle.search.proofs.LowestUnset.{lowest-is}
 use Rattle.search.proofs.Partials.{partial}
@@ -49,7 +49,7 @@ pub record Searching (v : ℕ) (cs : List PropClause) (first : ℕ → Bool) (w�
 
 forces-closed : {v : ℕ} {ds : List (List ℕ)} {ts us : List ℕ} → Forces v ds ts us → NoneOpen ts → NoneOpen us
 forces-closed no-more c = c
-forces-closed (more i t g is even l named unset) c = (even, forces-closed g c)
+forces-closed (one-more i t g is even l named unset) c = (even, forces-closed g c)
 
 under-closed : (h : ℕ) (ts : List ℕ) → NoneOpen ts → OpenUnder h ts
 under-closed h [] c = tt
@@ -65,7 +65,7 @@ under-all h (t ∷ ts) l = (λ e. omega arith, under-all h ts (omega arith))
 
 under-forced : {v : ℕ} {ds : List (List ℕ)} {ts us : List ℕ} (h : ℕ) → Forces v ds ts us → OpenUnder h ts → OpenUnder h us
 under-forced h no-more u = u
-under-forced h (more i t g is even l named unset) u = (λ e. absurd (omega (arith, e, even)), under-forced h g u)
+under-forced h (one-more i t g is even l named unset) u = (λ e. absurd (omega (arith, e, even)), under-forced h g u)
 
 grounded-closed : (v : ℕ) (ds : List (List ℕ)) (ts : List ℕ) → NoneOpen ts → Grounded v ds ts
 grounded-closed v ds [] c = tt
@@ -73,7 +73,7 @@ grounded-closed v ds (t ∷ ts) c = (λ e. absurd (omega (arith, e, c .0)), grou
 
 grounded-forced : {v : ℕ} {ds : List (List ℕ)} {ts us : List ℕ} → Forces v ds ts us → Grounded v ds ts → Grounded v ds us
 grounded-forced no-more u = u
-grounded-forced (more i t g is even l named unset) u = (λ e. absurd (omega (arith, e, even)), grounded-forced g u)
+grounded-forced (one-more i t g is even l named unset) u = (λ e. absurd (omega (arith, e, even)), grounded-forced g u)
 
 pub searching-start : (v : ℕ) (cs : List PropClause) (first : ℕ → Bool) (len : ℕ) (w : List ℕ) → Started v cs first len w → Searching v cs first w 0 len w
 searching-start v cs first len w s =
@@ -93,7 +93,7 @@ searching-start v cs first len w s =
 pub regions : {v head n : ℕ} {ds : List (List ℕ)} {w : List ℕ} → WorkHeld v ds head n w → Regions v w
 regions h = record { small = h .small; room = omega (arith, h .room) }
 
--- what was quiet stays so with one entry more
+-- what was quiet stays so with one entry one-more
 quiet-push : (v t : ℕ) (ts D c : List ℕ) → t / 2 / 2 < v → Quiet D (values v ts) c → Quiet D (values v (t ∷ ts)) c
 quiet-push v t ts D c h q =
     (q .0, λ u l. set-nonzero (values v ts) (t / 2 / 2) (1 + t / 2 % 2) (u / 2) (omega (arith, values-length v ts, h)) (omega arith) (q .1 u l))
@@ -103,7 +103,7 @@ abbrev Ground : ℕ → List (List ℕ) → List ℕ → Type 0
 Ground v ds us = (t : ℕ) × (ts : List ℕ) × (us ≡ t ∷ ts) × (t % 2 ≡ 0) × AllQuiet v ds ts × Grounded v ds ts
 
 back-ground : {v : ℕ} {ds : List (List ℕ)} {ts us : List ℕ} → BackTo ts us → Grounded v ds ts → Ground v ds us
-back-ground (here {ts} t e) g = (2 * negated (t / 2) + 0, ts, refl, omega arith, g .0 e, g .1)
+back-ground (flips {ts} t e) g = (2 * negated (t / 2) + 0, ts, refl, omega arith, g .0 e, g .1)
 back-ground (pops t e b) g = back-ground b (g .1)
 
 module _ (v : ℕ) (cs : List PropClause) (first : ℕ → Bool) (w₀ : List ℕ) (head n : ℕ) (w : List ℕ) (s : Searching v cs first w₀ head n w)

@@ -19,7 +19,7 @@ use Rattle.theory.proofs.Propagation.{Stable}
 use Rattle.theory.proofs.AnyOrder.{walkFrom, walked-from, walk-failed, walk-forced, walk-stable}
 use Rattle.propagation.specs.Clauses.{codes, once, coded}
 use Rattle.propagation.specs.WorkArea.{negated, values, Fresh, falses, live}
-use Rattle.propagation.specs.Forcing.{Forces, none as no-more, more, Void, Quiet}
+use Rattle.propagation.specs.Forcing.{Forces, no-more, one-more, Void, Quiet}
 use Rattle.propagation.proofs.Trails.{negated-half, negated-sign}
 use Rattle.search.proofs.Partials.{partial, literalOf, partial-push, partial-none}
 use Rattle.search.proofs.Statuses.{failed-status, forces-status, quiet-status}
@@ -71,7 +71,7 @@ module _ (v : ℕ) (cs : List PropClause) (first : ℕ → Bool) (numbered : all
   -- forced entries change nothing
   pub from-forces : {ts us : List ℕ} → Forces v ds ts us → Fresh v us → from ts ≡ from us
   from-forces no-more f = refl
-  from-forces (more {ts′ = ts′} i t g is even l named unset) f =
+  from-forces (one-more {ts′ = ts′} i t g is even l named unset) f =
       from-forces g (f .2)
       ∙ walk-forced cs first (partial v ts′) (c i is) (literalOf (t / 2)) (is-member i is)
       (forces-status v ts′ (f .2) (c i is) (is-numbered i is) (t / 2) (ap (λ (d : List ℕ). live (falses ts′) d) (sym (is-coded i is)) ∙ l) named unset)

@@ -7,7 +7,7 @@ use Rattle.propagation.specs.WorkArea.{negated}
 
 -- back to the latest choice whose other value is untried, which takes that value
 pub data BackTo : List ℕ → List ℕ → Type 0 where
-  here : {ts : List ℕ} (t : ℕ) → t % 2 ≡ 1 → BackTo (t ∷ ts) ((2 * negated (t / 2) + 0) ∷ ts)
+  flips : {ts : List ℕ} (t : ℕ) → t % 2 ≡ 1 → BackTo (t ∷ ts) ((2 * negated (t / 2) + 0) ∷ ts)
   pops : {ts us : List ℕ} (t : ℕ) → t % 2 ≡ 0 → BackTo ts us → BackTo (t ∷ ts) us
 
 -- no choice has an untried value

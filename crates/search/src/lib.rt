@@ -10,6 +10,7 @@ use propagation::literals::literal;
 use propagation::literals::negated;
 use propagation::units;
 use propagation::weights;
+use propagation::weights::Weight;
 
 // Where going back ends: how many entries of the trail are false in their clauses, the trail's length, and whether a choice was open.
 pub struct Back {
@@ -57,7 +58,7 @@ pub fn recall(work: &mut [u32], v: usize, place: usize, len: usize)
     let at = 2 * v + 2 * weights::wide(against);
     let from = weights::wide(work[at]);
     let to = weights::wide(work[at + 1]);
-    weights::raise(work, from, to, 64 * against + 1);
+    weights::raise(work, from, to, Weight::BASE * against + 1);
 }
 
 // Takes the newest of len entries off the trail, and answers how many of the rest are false in their clauses:

@@ -7,12 +7,12 @@ use mathlib.Core.List.{List, _∷_, _++_, map, append-assoc}
 use native.Mathlib.Omega.{arith}
 use lib.Dec.{eqb}
 use lib.ListN.{length, getD, take}
-use Rattle.theory.proofs.WellFormed.{within}
 use Rattle.theory.specs.Lists.{elem}
 use Rattle.theory.specs.Syntax.{Signature, symbolAt, Term, Terms, Atom, equal, holds, count, predicateOf, termVariables, atomVariables, termOk, termsOk, atomOk}
 use Rattle.theory.specs.Syntax as theory
 use Rattle.theory.specs.Grammar.{Word, sign, equals, symbol, termWords, termsWords, atomWords}
 use Rattle.theory.specs.Flattening.{allFunctionTerms, addTerms, FlatVariable, new, variablesFor, flatPredicate}
+use Rattle.theory.specs.Lifted.{within}
 use Rattle.theory.proofs.Tests.{and-left, and-right}
 use Rattle.theory.proofs.Lists.{all-append}
 use Rattle.theory.proofs.Declared.{predicateOf→}

@@ -24,7 +24,8 @@ use Rattle.shallow.specs.declared.literals.Literal.{Literal}
 use Rattle.shallow.specs.declared.literals.Lifting.{Lifting}
 use Rattle.shallow.specs.Placed.{placedVariable, placedLiteral}
 use Rattle.shallow.specs.Shallow.{withLiteral, EqualityThere, LiteralAdded, EqualityMade}
-use Rattle.shallow.proofs.Written.{three, literalWith, literal-added, arguments-right}
+use Rattle.shallow.specs.Literals.{literalWith}
+use Rattle.shallow.proofs.Written.{three, literal-added, arguments-right}
 
 -- a variable is read to its place
 own-at : {codes place arities : List ℕ} {owns at : ℕ} {t : Table} (s : TermThere codes place arities owns at t) (h : 65 ≤ getD codes at 0) (v : VariableTerm s)

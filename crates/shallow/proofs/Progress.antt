@@ -11,10 +11,11 @@ use Rattle.theory.specs.Lists.{all, concatMap, placeThat}
 use Rattle.theory.specs.Syntax.{Signature, Term, variable, apply, Atom, equal, holds, Literal, Clause, atomVariables, variables, atomOk, clauseOk}
 use Rattle.theory.specs.Grammar.{Word, sign, termWords, termsWords, atomWords, clauseWords}
 use Rattle.theory.specs.Flattening.{merged, turnedAtom, turned, functionTerms, allFunctionTerms, toLift, addTerms, liftedTerms}
+use Rattle.theory.specs.Lifted.{within}
 use Rattle.theory.proofs.Tests.{and-left, and-right}
 use Rattle.theory.proofs.Lists.{all-append, all-distinct, concatMap-append}
 use Rattle.theory.proofs.Letters.{merged-length}
-use Rattle.theory.proofs.WellFormed.{within, variables-within}
+use Rattle.theory.proofs.WellFormed.{variables-within}
 use Rattle.theory.proofs.Growing.{addTerms-append, addTerms-length, functionTerms-words, allFunctionTerms-words}
 use Rattle.syntax.specs.declared.words.ClauseWords.{ClauseWords}
 use Rattle.syntax.specs.Codes.{wordsIn, clauseIn}

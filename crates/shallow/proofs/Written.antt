@@ -13,9 +13,10 @@ use Rattle.theory.specs.Lists.{all, upFrom, upTo}
 use Rattle.theory.specs.Syntax.{Signature, noSymbol, symbolAt, Term, Terms, Clause, count}
 use Rattle.theory.specs.Syntax as theory
 use Rattle.theory.specs.Flattening.{turnedAtom, turned, toLift, addTerms, new, variablesFor, FlatAtom, flatPredicate, flatResult, flatEquality, FlatLiteral, shallow}
+use Rattle.theory.specs.Lifted.{coveredAtom}
 use Rattle.theory.proofs.Tests.{ltb-true, ltb-false, and-join}
 use Rattle.theory.proofs.Lists.{all-append, all-imply, map-upFrom, map-all, upFrom-append}
-use Rattle.theory.proofs.LiftedTerms.{addTerms-adds, coveredAtom}
+use Rattle.theory.proofs.LiftedTerms.{addTerms-adds}
 use Rattle.theory.proofs.Growing.{among-grown, shallowAtom-grown}
 use Rattle.syntax.specs.Signatures.{Small}
 use Rattle.lifting.specs.declared.table.Table.{Table}
@@ -29,7 +30,7 @@ use Rattle.shallow.specs.declared.literals.Shape.the-variants.{Predicate
 use Rattle.shallow.specs.declared.literals.Literal.{Literal}
 use Rattle.shallow.specs.declared.literals.Lifting.{Lifting}
 use Rattle.shallow.specs.Placed.{placedVariable, placedLiteral}
-use Rattle.shallow.specs.Literals.{atomIn, noLiteral, literalIn, threeAt}
+use Rattle.shallow.specs.Literals.{atomIn, noLiteral, literalIn, threeAt, atomWith, literalWith}
 use Rattle.shallow.specs.Shallow.{withLiteral, Made, LiteralAdded}
 
 -- no symbol of a small signature has more than three arguments
@@ -55,15 +56,6 @@ pub take-three : (vs ps : List ℕ) (n : ℕ) → length ps ≡ n → n ≤ 3 �
 take-three vs ps n e h s =
     ext-getD 0 (take n (three vs)) ps (length-take-le n (three vs) h ∙ sym e)
     (λ i l. let k : i < n = omega (arith, l, length-take-le n (three vs) h) in getD-take n (three vs) i 0 k ∙ getD-three vs i (omega arith) ∙ s i (omega arith))
-
--- the shallow literal of a literal and its three arguments
-abbrev pub atomWith : Signature → List ℕ → Shape → FlatAtom
-atomWith g xs (Predicate p) = flatPredicate p (map new (take (symbolAt g p .arity) xs))
-atomWith g xs (FunctionResult f y) = flatResult f (map new (take (symbolAt g f .arity) xs)) (new y)
-atomWith g xs (VariableEquality x y) = flatEquality (new x) (new y)
-
-abbrev pub literalWith : Signature → Literal → List ℕ → FlatLiteral
-literalWith g k xs = record { sign = k .sign; atom = atomWith g xs (k .shape) }
 
 front-three : (xs : List ℕ) (i : ℕ) → i * 3 + 2 < length xs → take 3 (drop (i * 3) xs) ≡ threeAt xs i
 front-three xs i h =

@@ -31,3 +31,12 @@ literalIn g literals arguments i =
 -- the three arguments of number i
 abbrev pub threeAt : List ℕ → ℕ → List ℕ
 threeAt xs i = getD xs (i * 3) 0 ∷ (getD xs (i * 3 + 1) 0 ∷ (getD xs (i * 3 + 2) 0 ∷ []))
+
+-- the shallow literal of a literal and its three arguments
+abbrev pub atomWith : Signature → List ℕ → Shape → FlatAtom
+atomWith g xs (Predicate p) = flatPredicate p (map new (take (symbolAt g p .arity) xs))
+atomWith g xs (FunctionResult f y) = flatResult f (map new (take (symbolAt g f .arity) xs)) (new y)
+atomWith g xs (VariableEquality x y) = flatEquality (new x) (new y)
+
+abbrev pub literalWith : Signature → Literal → List ℕ → FlatLiteral
+literalWith g k xs = record { sign = k .sign; atom = atomWith g xs (k .shape) }

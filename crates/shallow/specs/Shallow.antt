@@ -4,14 +4,13 @@ use mathlib.Core.Path.{_≡_}
 use mathlib.Core.Bool.{Bool, true}
 use mathlib.Core.List.{List, [], _∷_, _++_, map}
 use lib.ListN.{length, getD, set, replicate}
-use Rattle.theory.proofs.WellFormed.{within}
 use Rattle.theory.specs.Lists.{all, upTo}
 use Rattle.theory.specs.Syntax.{Signature, Term, equal, Clause, termVariables, atomVariables, variables, termOk, atomOk}
 use Rattle.theory.specs.Syntax as theory
 use Rattle.theory.specs.Grammar.{Word, sign, termWords, atomWords}
 use Rattle.theory.specs.Problem.{maxWords, maxLiterals, maxArity}
 use Rattle.theory.specs.Flattening.{merged, turnedAtom, turned, toLift, addTerms, liftedTerms, shallow}
-use Rattle.theory.proofs.LiftedTerms.{coveredAtom}
+use Rattle.theory.specs.Lifted.{within, coveredAtom}
 use Rattle.syntax.specs.declared.words.ClauseWords.{ClauseWords}
 use Rattle.syntax.specs.Codes.{clauseIn}
 use Rattle.lifting.specs.declared.table.Table.{Table}
@@ -95,13 +94,19 @@ pub record LiteralAdded (g : Signature) (xs : List ℕ) (found : List Term) (don
   pub lifts : Lifts g xs (addTerms found (toLift (turnedAtom (k .atom)))) (r .table)
   pub made : Made g xs (addTerms found (toLift (turnedAtom (k .atom)))) (done ++ (k ∷ [])) r
 
+-- the literal that stands there is added
 abbrev pub LiteralMade : {codes place arities : List ℕ} {l : Lifting} → LiteralThere codes place arities l → Lifting → Type 0
 LiteralMade {codes} {place} {arities} {l} s r =
     LiteralAdded (s .source .signature) (s .source .variables) (s .found) (s .done) l (s .literal) (l .next + length (sign (s .literal .sign) ∷ atomWords (s .literal .atom))) r
 
+-- the equality of two terms, or that they differ
+abbrev pub equalityLiteral : Bool → Term → Term → theory.Literal
+equalityLiteral b t u = record { sign = b; atom = equal t u }
+
+-- that of the two terms that stand there is added
 abbrev pub EqualityMade : {codes place arities : List ℕ} {l : Lifting} {b : Bool} {at : ℕ} → EqualityThere codes place arities l b at → Lifting → Type 0
 EqualityMade {codes} {place} {arities} {l} {b} {at} s r =
-    LiteralAdded (s .source .signature) (s .source .variables) (s .found) (s .done) l (record { sign = b; atom = equal (s .left) (s .right) }) (at + length (termWords (s .left) ++ termWords (s .right))) r
+    LiteralAdded (s .source .signature) (s .source .variables) (s .found) (s .done) l (equalityLiteral b (s .left) (s .right)) (at + length (termWords (s .left) ++ termWords (s .right))) r
 
 -- all literals of the clause after step 1 are made shallow
 pub record ClauseLifted {arities : List ℕ} {w : ClauseWords} (s : Flattenable arities w) (r : Lifting) : Type 0 where

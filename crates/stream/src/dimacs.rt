@@ -44,8 +44,8 @@ pub fn put_clause(out: &mut [u8], at: usize, clause: &[u32]) -> usize
         e = put_literal(out, e, clause[i]);
         i += 1;
     }
-    out[e] = 48;
-    out[e + 1] = 10;
+    out[e] = b'0';
+    out[e + 1] = b'\n';
     e + 2
 }
 
@@ -56,7 +56,7 @@ fn put_literal(out: &mut [u8], at: usize, l: u32) -> usize
     ensures place { λ r. ⌜ r ≡ at + length (literalSpaced (literalOf l)) ⌝ }
 {
     if l % 2 == 1 {
-        out[at] = 45;
+        out[at] = b'-';
         return put_spaced(out, at + 1, l / 2 + 1);
     }
     put_spaced(out, at, l / 2 + 1)
@@ -69,7 +69,7 @@ fn put_spaced(out: &mut [u8], at: usize, n: u32) -> usize
     ensures place { λ r. ⌜ r ≡ at + length (decimal n ++ (space ∷ [])) ⌝ }
 {
     let e = put_number(out, at, n);
-    out[e] = 32;
+    out[e] = b' ';
     e + 1
 }
 
@@ -82,7 +82,7 @@ pub fn put_header(out: &mut [u8], at: usize, variables: u32, clauses: u32) -> us
     let a = put_bytes(out, at, b"p cnf ");
     let b = put_spaced(out, a, variables);
     let c = put_number(out, b, clauses);
-    out[c] = 10;
+    out[c] = b'\n';
     c + 1
 }
 

@@ -14,6 +14,7 @@ use Rattle.theory.specs.Vectors.{vectors, rank}
 use Rattle.theory.specs.Syntax.{Signature, symbolAt, Clause, clauseOk}
 use Rattle.theory.specs.Cells.{tableSize}
 use Rattle.theory.specs.Flattening.{FlatVariable, FlatAtom, flatPredicate, flatResult, flatEquality, FlatLiteral, FlatClause, flatten, variableCount}
+use Rattle.theory.specs.Lifted.{flatAtomOk, flatOk}
 use Rattle.theory.specs.Propositional.{PropClause, width, propBase, propCount}
 use Rattle.theory.specs.Instances.{flatValue, Ground, known, variable, ground, addLiteral, instance, kept, instances}
 use Rattle.theory.specs.PropClauses.{someResult, notBoth, notTwo, cellClauses, Part, functionPart, clausePart, functionPlaces, parts, propClauses, instanceCount, literalCount}
@@ -25,7 +26,7 @@ use Rattle.theory.proofs.Parts.{tables, tables←, all-propClauses}
 use Rattle.theory.proofs.CellClauses.{pairs}
 use Rattle.theory.proofs.Numbering.{variable-within, propVariable-within}
 use Rattle.theory.proofs.Declared.{functionOf→, predicateOf→}
-use Rattle.theory.proofs.WellFormed.{flatAtomOk, flatOk, flatten-ok}
+use Rattle.theory.proofs.WellFormed.{flatten-ok}
 use Rattle.theory.proofs.Instances.{flatValue-below}
 
 -- the number of literals of a list of clauses

@@ -10,9 +10,10 @@ use Rattle.theory.specs.Lists.{all}
 use Rattle.theory.specs.Syntax.{Term, variable, apply, Terms, empty, cons, Atom, equal, holds}
 use Rattle.theory.specs.Grammar.{termWords, termsWords}
 use Rattle.theory.specs.Flattening.{turnedAtom, functionTerms, allFunctionTerms, sameTerm, addTerm, addTerms, FlatVariable, own, new, placeOr0, variableFor, variablesFor, flatPredicate, flatResult, shallowAtom}
+use Rattle.theory.specs.Lifted.{among, covered, coveredAll, coveredAtom}
 use Rattle.theory.proofs.Lists.{all-imply}
 use Rattle.theory.proofs.Finding.{placeThat-append}
-use Rattle.theory.proofs.LiftedTerms.{among, addTerms-keeps, place, covered, coveredAll, covered-among, coveredAtom, covered-first, covered-rest, covered-left, covered-right}
+use Rattle.theory.proofs.LiftedTerms.{addTerms-keeps, place, covered-among, covered-first, covered-rest, covered-left, covered-right}
 
 -- terms are added one list after the other
 pub addTerms-append : (found ts us : List Term) → addTerms found (ts ++ us) ≡ addTerms (addTerms found ts) us

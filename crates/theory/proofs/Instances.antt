@@ -13,6 +13,7 @@ use Rattle.theory.specs.Syntax.{Kind, function, predicate, Signature, sy
 use Rattle.theory.specs.Truth.{Interpretation}
 use Rattle.theory.specs.Cells.{cell, cellKinds, interpretation}
 use Rattle.theory.specs.Flattening.{FlatVariable, own, new, FlatAtom, flatPredicate, flatResult, flatEquality, FlatLiteral, FlatClause, variableCount}
+use Rattle.theory.specs.Lifted.{flatAtomOk, flatOk}
 use Rattle.theory.specs.Propositional.{PropClause, propVariable}
 use Rattle.theory.specs.Instances.{flatValue, Ground, known, variable, ground, addLiteral, instance, kept, instances}
 use Rattle.theory.specs.Valuation.{says, satisfiesClause, satisfies, valuesOf}
@@ -22,7 +23,6 @@ use Rattle.theory.proofs.Lists.{all-concatMap}
 use Rattle.theory.proofs.Declared.{Declared, functionOf→, predicateOf→}
 use Rattle.theory.proofs.Vectors.{all-vectors, vectors-all, allBelow-map, allBelow-drop, allBelow-getD}
 use Rattle.theory.proofs.Truth.{assign-lt}
-use Rattle.theory.proofs.WellFormed.{flatAtomOk, flatOk}
 use Rattle.theory.proofs.Numbering.{offset, cell-below, kind-at-cell, length-cellKinds, propVariable-offset}
 use Rattle.theory.proofs.Valuations.{Functional, says-result, says-holds}
 

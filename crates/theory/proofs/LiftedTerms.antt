@@ -9,6 +9,7 @@ use lib.ListN.{length, getD}
 use Rattle.theory.specs.Lists.{any, all, concatMap, placeThat}
 use Rattle.theory.specs.Syntax.{Term, variable, apply, Terms, empty, cons, Atom, equal, holds, Literal, Clause}
 use Rattle.theory.specs.Flattening.{turnedAtom, turned, functionTerms, allFunctionTerms, toLift, sameTerm, sameTerms, addTerm, addTerms, liftedTerms, new, placeOr0, variableFor}
+use Rattle.theory.specs.Lifted.{among, covered, coveredAll, coveredAtom, isApply, different}
 use Rattle.theory.proofs.Tests.{eqb-true, eqb-same, not-true, both-false, false-of-not, and-left, and-right, and-join, or-left, or-right, or-false-left, or-false-right, or-false-join}
 use Rattle.theory.proofs.Lists.{any-append, all-append, all-imply, all-map, all-concatMap}
 use Rattle.theory.proofs.Finding.{placeThat-some, any→placeThat}
@@ -44,10 +45,6 @@ mutual
 
 pub sameTerm-of-≡ : (t u : Term) → t ≡ u → sameTerm t u ≡ true
 sameTerm-of-≡ t u e = ap (sameTerm t) (sym e) ∙ sameTerm-same t
-
--- the term is among those of the list
-abbrev pub among : List Term → Term → Bool
-among ts t = any (sameTerm t) ts
 
 -- adding a term keeps those found before, and the term is among them then
 addTerm-keeps : (found : List Term) (t u : Term) → among found u ≡ true → among (addTerm found t) u ≡ true
@@ -138,47 +135,36 @@ liftedTerms-all p c h =
     addTerms-all p [] (concatMap (λ (l : Literal). toLift (l .atom)) c) refl (all-concatMap p (λ (l : Literal). toLift (l .atom)) c ∙ h)
 
 module _ (lifted : List Term) where
-  -- the function terms of the term, or of the terms, are among the lifted ones
-  abbrev pub covered : Term → Bool
-  covered t = all (among lifted) (functionTerms t)
-
-  abbrev pub coveredAll : Terms → Bool
-  coveredAll ts = all (among lifted) (allFunctionTerms ts)
-
-  -- and those that are lifted from an atom
-  abbrev pub coveredAtom : Atom → Bool
-  coveredAtom a = all (among lifted) (toLift a)
-
   covered-split : (xs ys : List Term) → all (among lifted) (xs ++ ys) ≡ true → (all (among lifted) xs ≡ true) × (all (among lifted) ys ≡ true)
   covered-split xs ys h =
       let k : (all (among lifted) xs && all (among lifted) ys) ≡ true = sym (all-append (among lifted) xs ys) ∙ h in
       (and-left (all (among lifted) xs) (all (among lifted) ys) k, and-right (all (among lifted) xs) (all (among lifted) ys) k)
 
-  pub covered-arguments : (f : ℕ) (ts : Terms) → covered (apply f ts) ≡ true → coveredAll ts ≡ true
+  pub covered-arguments : (f : ℕ) (ts : Terms) → covered lifted (apply f ts) ≡ true → coveredAll lifted ts ≡ true
   covered-arguments f ts h = covered-split (allFunctionTerms ts) (apply f ts ∷ []) h .0
 
-  pub covered-among : (f : ℕ) (ts : Terms) → covered (apply f ts) ≡ true → among lifted (apply f ts) ≡ true
+  pub covered-among : (f : ℕ) (ts : Terms) → covered lifted (apply f ts) ≡ true → among lifted (apply f ts) ≡ true
   covered-among f ts h = and-left (among lifted (apply f ts)) true (covered-split (allFunctionTerms ts) (apply f ts ∷ []) h .1)
 
-  pub covered-first : (t : Term) (ts : Terms) → coveredAll (cons t ts) ≡ true → covered t ≡ true
+  pub covered-first : (t : Term) (ts : Terms) → coveredAll lifted (cons t ts) ≡ true → covered lifted t ≡ true
   covered-first t ts h = covered-split (functionTerms t) (allFunctionTerms ts) h .0
 
-  pub covered-rest : (t : Term) (ts : Terms) → coveredAll (cons t ts) ≡ true → coveredAll ts ≡ true
+  pub covered-rest : (t : Term) (ts : Terms) → coveredAll lifted (cons t ts) ≡ true → coveredAll lifted ts ≡ true
   covered-rest t ts h = covered-split (functionTerms t) (allFunctionTerms ts) h .1
 
-  pub covered-left : (f : ℕ) (ts : Terms) (u : Term) → coveredAtom (equal (apply f ts) u) ≡ true → coveredAll ts ≡ true
+  pub covered-left : (f : ℕ) (ts : Terms) (u : Term) → coveredAtom lifted (equal (apply f ts) u) ≡ true → coveredAll lifted ts ≡ true
   covered-left f ts u h = covered-split (allFunctionTerms ts) (functionTerms u) h .0
 
-  pub covered-right : (f : ℕ) (ts : Terms) (u : Term) → coveredAtom (equal (apply f ts) u) ≡ true → covered u ≡ true
+  pub covered-right : (f : ℕ) (ts : Terms) (u : Term) → coveredAtom lifted (equal (apply f ts) u) ≡ true → covered lifted u ≡ true
   covered-right f ts u h = covered-split (allFunctionTerms ts) (functionTerms u) h .1
 
-  covered-sources : (a : Atom) → coveredAtom a ≡ true → Sources covered coveredAll a
+  covered-sources : (a : Atom) → coveredAtom lifted a ≡ true → Sources (covered lifted) (coveredAll lifted) a
   covered-sources (equal (variable x) u) h = tt
   covered-sources (equal (apply f ts) u) h = (covered-left f ts u h, covered-right f ts u h)
   covered-sources (holds q ts) h = h
 
-  coveredAtom-all : (a : Atom) → coveredAtom a ≡ true → all covered (toLift a) ≡ true
-  coveredAtom-all a h = toLift-all covered coveredAll covered-arguments covered-first covered-rest a (covered-sources a h)
+  coveredAtom-all : (a : Atom) → coveredAtom lifted a ≡ true → all (covered lifted) (toLift a) ≡ true
+  coveredAtom-all a h = toLift-all (covered lifted) (coveredAll lifted) covered-arguments covered-first covered-rest a (covered-sources a h)
 
 -- what is to be lifted from a clause is among its lifted terms
 pub liftedTerms-atoms : (c : Clause) → all (λ (l : Literal). coveredAtom (liftedTerms c) (l .atom)) c ≡ true
@@ -198,11 +184,6 @@ liftedTerms-covered c =
     (all-imply (λ (l : Literal). coveredAtom (liftedTerms c) (l .atom)) (λ (l : Literal). all (covered (liftedTerms c)) (toLift (l .atom))) c
     (λ l. coveredAtom-all (liftedTerms c) (l .atom)) (liftedTerms-atoms c))
 
--- Every lifted term is a function's: not a variable.
-abbrev pub isApply : Term → Bool
-isApply (variable x) = false
-isApply (apply f ts) = true
-
 mutual
   functionTerms-apply : (t : Term) → all isApply (functionTerms t) ≡ true
   functionTerms-apply (variable x) = refl
@@ -214,11 +195,6 @@ mutual
   allFunctionTerms-apply (cons t ts) =
       all-append isApply (functionTerms t) (allFunctionTerms ts)
       ∙ and-join (all isApply (functionTerms t)) (all isApply (allFunctionTerms ts)) (functionTerms-apply t) (allFunctionTerms-apply ts)
-
--- Lifted terms are pairwise different.
-abbrev pub different : List Term → Bool
-different [] = true
-different (t ∷ ts) = not (among ts t) && different ts
 
 different-snoc : (ts : List Term) (t : Term) → among ts t ≡ false → different ts ≡ true → different (ts ++ (t ∷ [])) ≡ true
 different-snoc [] t h k = refl

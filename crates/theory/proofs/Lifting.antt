@@ -11,10 +11,11 @@ use Rattle.theory.specs.Lists.{all}
 use Rattle.theory.specs.Syntax.{Term, variable, apply, Terms, empty, cons, Atom, equal, holds, Literal, Clause}
 use Rattle.theory.specs.Truth.{Interpretation, Assignment, value, values, atomTrue, literalTrue, clauseTrue}
 use Rattle.theory.specs.Flattening.{turnedAtom, turned, FlatVariable, own, new, variableFor, variablesFor, termEquals, shallowAtom, shallow, definitions}
+use Rattle.theory.specs.Lifted.{covered, coveredAll, coveredAtom}
 use Rattle.theory.specs.Claims.Flattening.{flatAtomTrue, flatTrue}
 use Rattle.theory.proofs.Tests.{eqb-true, eqb-of-≡, eqb-sym, and-left, and-right, or-false-left, or-false-right, or-false-join, beq-false, of-beq-false}
 use Rattle.theory.proofs.Lists.{all-at}
-use Rattle.theory.proofs.LiftedTerms.{Place, place, variableFor-place, covered, coveredAll, coveredAtom, covered-arguments, covered-among, covered-first, covered-rest, covered-left, covered-right}
+use Rattle.theory.proofs.LiftedTerms.{Place, place, variableFor-place, covered-arguments, covered-among, covered-first, covered-rest, covered-left, covered-right}
 
 module _ (I : Interpretation) (ν : FlatVariable → ℕ) (lifted : List Term) where
   -- the values of the clause's own variables

@@ -10,25 +10,16 @@ use lib.ListN.{length}
 use Rattle.theory.specs.Lists.{all, concatMap, elem, distinct}
 use Rattle.theory.specs.Syntax.{Term, variable, apply, Terms, empty, cons, Atom, equal, holds, Literal, Clause, Signature, termVariables, termsVariables, atomVariables, variables, count, functionOf, predicateOf, termOk, termsOk, atomOk, clauseOk}
 use Rattle.theory.specs.Flattening.{merged, turnedAtom, turned, toLift, liftedTerms, FlatVariable, own, new, variableFor, variablesFor, FlatAtom, flatPredicate, flatResult, flatEquality, FlatLiteral, termEquals, shallowAtom, shallow, definitions, flatten}
+use Rattle.theory.specs.Lifted.{covered, coveredAll, coveredAtom, within, flatAtomOk, flatOk, scoped, flatAtomScoped, flatScoped}
 use Rattle.theory.proofs.Tests.{and-left, and-right, and-join, ltb-of-<}
 use Rattle.theory.proofs.Lists.{all-append, all-imply, all-and, all-map, all-concatMap, elem-all, elem-distinct}
 use Rattle.theory.proofs.Merging.{merged-ok}
-use Rattle.theory.proofs.LiftedTerms.{Sources, toLift-all, place, variableFor-place, covered, coveredAll, coveredAtom, covered-arguments, covered-among, covered-first, covered-rest, covered-left, covered-right, liftedTerms-all, liftedTerms-turned, liftedTerms-covered}
+use Rattle.theory.proofs.LiftedTerms.{Sources, toLift-all, place, variableFor-place, covered-arguments, covered-among, covered-first, covered-rest, covered-left, covered-right, liftedTerms-all, liftedTerms-turned, liftedTerms-covered}
 
 -- one variable stands for each term
 pub length-variablesFor : (lifted : List Term) (ts : Terms) → length (variablesFor lifted ts) ≡ count ts
 length-variablesFor lifted empty = refl
 length-variablesFor lifted (cons t ts) = ap suc (length-variablesFor lifted ts)
-
--- every symbol of a shallow atom is declared, and stands before as many variables as its arity
-abbrev pub flatAtomOk : Signature → FlatAtom → Bool
-flatAtomOk g (flatPredicate p xs) = predicateOf g p (length xs)
-flatAtomOk g (flatResult f xs y) = functionOf g f (length xs)
-flatAtomOk g (flatEquality x y) = true
-
--- the same of a list of shallow literals
-abbrev pub flatOk : Signature → List FlatLiteral → Bool
-flatOk g ls = all (λ (l : FlatLiteral). flatAtomOk g (l .atom)) ls
 
 module _ (g : Signature) where
   termOk-arguments : (f : ℕ) (ts : Terms) → termOk g (apply f ts) ≡ true → termsOk g ts ≡ true
@@ -94,66 +85,47 @@ module _ (g : Signature) where
       all-append (λ (l : FlatLiteral). flatAtomOk g (l .atom)) (definitions lifted 0 lifted) (map (shallow lifted) m)
       ∙ and-join (flatOk g (definitions lifted 0 lifted)) (flatOk g (map (shallow lifted) m)) (definitions-ok lifted 0 lifted (liftedTerms-ok m k)) (shallow-ok lifted m k)
 
--- the variable is one of the own ones, or one of the n new ones
-abbrev pub scoped : List ℕ → ℕ → FlatVariable → Bool
-scoped owns n (own x) = elem x owns
-scoped owns n (new i) = ltb i n
-
--- every variable of a shallow atom is
-abbrev pub flatAtomScoped : List ℕ → ℕ → FlatAtom → Bool
-flatAtomScoped owns n (flatPredicate p xs) = all (scoped owns n) xs
-flatAtomScoped owns n (flatResult f xs y) = all (scoped owns n) xs && scoped owns n y
-flatAtomScoped owns n (flatEquality x y) = scoped owns n x && scoped owns n y
-
--- the same of a list of shallow literals
-abbrev pub flatScoped : List ℕ → ℕ → List FlatLiteral → Bool
-flatScoped owns n ls = all (λ (l : FlatLiteral). flatAtomScoped owns n (l .atom)) ls
-
 module _ (owns : List ℕ) where
-  -- every variable of the list is one of the own ones
-  abbrev pub within : List ℕ → Bool
-  within xs = all (λ x. elem x owns) xs
+  pub within-left : (xs ys : List ℕ) → within owns (xs ++ ys) ≡ true → within owns xs ≡ true
+  within-left xs ys h = and-left (within owns xs) (within owns ys) (sym (all-append (λ x. elem x owns) xs ys) ∙ h)
 
-  pub within-left : (xs ys : List ℕ) → within (xs ++ ys) ≡ true → within xs ≡ true
-  within-left xs ys h = and-left (within xs) (within ys) (sym (all-append (λ x. elem x owns) xs ys) ∙ h)
+  pub within-right : (xs ys : List ℕ) → within owns (xs ++ ys) ≡ true → within owns ys ≡ true
+  within-right xs ys h = and-right (within owns xs) (within owns ys) (sym (all-append (λ x. elem x owns) xs ys) ∙ h)
 
-  pub within-right : (xs ys : List ℕ) → within (xs ++ ys) ≡ true → within ys ≡ true
-  within-right xs ys h = and-right (within xs) (within ys) (sym (all-append (λ x. elem x owns) xs ys) ∙ h)
-
-  turnedAtom-within : (a : Atom) → within (atomVariables a) ≡ true → within (atomVariables (turnedAtom a)) ≡ true
+  turnedAtom-within : (a : Atom) → within owns (atomVariables a) ≡ true → within owns (atomVariables (turnedAtom a)) ≡ true
   turnedAtom-within (equal (variable x) (variable y)) h = h
   turnedAtom-within (equal (variable x) (apply f ts)) h =
       let xs : List ℕ = termsVariables ts in
       all-append (λ x. elem x owns) xs (x ∷ [])
-      ∙ and-join (within xs) (elem x owns && true) (and-right (elem x owns) (within xs) h) (and-join (elem x owns) true (and-left (elem x owns) (within xs) h) refl)
+      ∙ and-join (within owns xs) (elem x owns && true) (and-right (elem x owns) (within owns xs) h) (and-join (elem x owns) true (and-left (elem x owns) (within owns xs) h) refl)
   turnedAtom-within (equal (apply f ts) u) h = h
   turnedAtom-within (holds p ts) h = h
 
-  atom-sources : (a : Atom) → within (atomVariables a) ≡ true → Sources (λ t. within (termVariables t)) (λ ts. within (termsVariables ts)) a
+  atom-sources : (a : Atom) → within owns (atomVariables a) ≡ true → Sources (λ t. within owns (termVariables t)) (λ ts. within owns (termsVariables ts)) a
   atom-sources (equal (variable x) u) h = tt
   atom-sources (equal (apply f ts) u) h = (within-left (termsVariables ts) (termVariables u) h, within-right (termsVariables ts) (termVariables u) h)
   atom-sources (holds p ts) h = h
 
   -- the variables of the lifted terms are variables of the clause
-  liftedTerms-within : (c : Clause) → all (λ (l : Literal). within (atomVariables (l .atom))) c ≡ true → all (λ t. within (termVariables t)) (liftedTerms c) ≡ true
+  liftedTerms-within : (c : Clause) → all (λ (l : Literal). within owns (atomVariables (l .atom))) c ≡ true → all (λ t. within owns (termVariables t)) (liftedTerms c) ≡ true
   liftedTerms-within c h =
-      liftedTerms-all (λ t. within (termVariables t)) c
-      (all-imply (λ (l : Literal). within (atomVariables (l .atom))) (λ (l : Literal). all (λ t. within (termVariables t)) (toLift (l .atom))) c
+      liftedTerms-all (λ t. within owns (termVariables t)) c
+      (all-imply (λ (l : Literal). within owns (atomVariables (l .atom))) (λ (l : Literal). all (λ t. within owns (termVariables t)) (toLift (l .atom))) c
       (λ l k.
-      toLift-all (λ t. within (termVariables t)) (λ ts. within (termsVariables ts)) (λ f ts e. e)
+      toLift-all (λ t. within owns (termVariables t)) (λ ts. within owns (termsVariables ts)) (λ f ts e. e)
       (λ t ts. within-left (termVariables t) (termsVariables ts)) (λ t ts. within-right (termVariables t) (termsVariables ts)) (l .atom) (atom-sources (l .atom) k)) h)
 
   module _ (lifted : List Term) where
     abbrev inScope : FlatVariable → Bool
     inScope x = scoped owns (length lifted) x
 
-    variableFor-scoped : (t : Term) → within (termVariables t) ≡ true → covered lifted t ≡ true → inScope (variableFor lifted t) ≡ true
+    variableFor-scoped : (t : Term) → within owns (termVariables t) ≡ true → covered lifted t ≡ true → inScope (variableFor lifted t) ≡ true
     variableFor-scoped (variable x) h k = and-left (elem x owns) true h
     variableFor-scoped (apply f ts) h k =
         let q = place lifted (apply f ts) (covered-among lifted f ts k) in
         ap inScope (variableFor-place lifted f ts q) ∙ ltb-of-< (q .at) (length lifted) (q .below)
 
-    variablesFor-scoped : (ts : Terms) → within (termsVariables ts) ≡ true → coveredAll lifted ts ≡ true → all inScope (variablesFor lifted ts) ≡ true
+    variablesFor-scoped : (ts : Terms) → within owns (termsVariables ts) ≡ true → coveredAll lifted ts ≡ true → all inScope (variablesFor lifted ts) ≡ true
     variablesFor-scoped empty h k = refl
     variablesFor-scoped (cons t ts) h k =
         and-join (inScope (variableFor lifted t)) (all inScope (variablesFor lifted ts))
@@ -163,11 +135,11 @@ module _ (owns : List ℕ) where
     abbrev atomInScope : FlatAtom → Bool
     atomInScope a = flatAtomScoped owns (length lifted) a
 
-    result-scoped : (f : ℕ) (ts : Terms) (y : FlatVariable) → within (termsVariables ts) ≡ true → coveredAll lifted ts ≡ true → inScope y ≡ true
+    result-scoped : (f : ℕ) (ts : Terms) (y : FlatVariable) → within owns (termsVariables ts) ≡ true → coveredAll lifted ts ≡ true → inScope y ≡ true
         → atomInScope (flatResult f (variablesFor lifted ts) y) ≡ true
     result-scoped f ts y h k e = and-join (all inScope (variablesFor lifted ts)) (inScope y) (variablesFor-scoped ts h k) e
 
-    shallowAtom-scoped : (a : Atom) → within (atomVariables (turnedAtom a)) ≡ true → coveredAtom lifted (turnedAtom a) ≡ true
+    shallowAtom-scoped : (a : Atom) → within owns (atomVariables (turnedAtom a)) ≡ true → coveredAtom lifted (turnedAtom a) ≡ true
         → atomInScope (shallowAtom lifted (turnedAtom a)) ≡ true
     shallowAtom-scoped (equal (variable x) (variable y)) h k =
         and-join (elem x owns) (elem y owns) (and-left (elem x owns) (elem y owns && true) h) (and-left (elem y owns) true (and-right (elem x owns) (elem y owns && true) h))
@@ -180,17 +152,17 @@ module _ (owns : List ℕ) where
     shallowAtom-scoped (holds p ts) h k = variablesFor-scoped ts h k
 
     -- t ≠ y, for a lifted term t and its new variable y
-    termEquals-scoped : (t : Term) (i : ℕ) → within (termVariables t) ≡ true → covered lifted t ≡ true → i < length lifted → atomInScope (termEquals lifted t (new i)) ≡ true
+    termEquals-scoped : (t : Term) (i : ℕ) → within owns (termVariables t) ≡ true → covered lifted t ≡ true → i < length lifted → atomInScope (termEquals lifted t (new i)) ≡ true
     termEquals-scoped (variable x) i h k l = and-join (elem x owns) (ltb i (length lifted)) (and-left (elem x owns) true h) (ltb-of-< i (length lifted) l)
     termEquals-scoped (apply f ts) i h k l = result-scoped f ts (new i) h (covered-arguments lifted f ts k) (ltb-of-< i (length lifted) l)
 
-    definitions-scoped : (i : ℕ) (ts : List Term) → i + length ts ≡ length lifted → all (λ t. within (termVariables t)) ts ≡ true → all (covered lifted) ts ≡ true
+    definitions-scoped : (i : ℕ) (ts : List Term) → i + length ts ≡ length lifted → all (λ t. within owns (termVariables t)) ts ≡ true → all (covered lifted) ts ≡ true
         → flatScoped owns (length lifted) (definitions lifted i ts) ≡ true
     definitions-scoped i [] e h k = refl
     definitions-scoped i (t ∷ ts) e h k =
         and-join (atomInScope (termEquals lifted t (new i))) (flatScoped owns (length lifted) (definitions lifted (suc i) ts))
-        (termEquals-scoped t i (and-left (within (termVariables t)) (all (λ t. within (termVariables t)) ts) h) (and-left (covered lifted t) (all (covered lifted) ts) k) (omega arith))
-        (definitions-scoped (suc i) ts (omega arith) (and-right (within (termVariables t)) (all (λ t. within (termVariables t)) ts) h) (and-right (covered lifted t) (all (covered lifted) ts) k))
+        (termEquals-scoped t i (and-left (within owns (termVariables t)) (all (λ t. within owns (termVariables t)) ts) h) (and-left (covered lifted t) (all (covered lifted) ts) k) (omega arith))
+        (definitions-scoped (suc i) ts (omega arith) (and-right (within owns (termVariables t)) (all (λ t. within owns (termVariables t)) ts) h) (and-right (covered lifted t) (all (covered lifted) ts) k))
 
 -- the variables of each literal are variables of the clause
 pub variables-within : (c : Clause) → all (λ (l : Literal). within (variables c) (atomVariables (l .atom))) c ≡ true

@@ -5,6 +5,7 @@ pub mod Syntax
 pub mod Truth
 pub mod Cells
 pub mod Flattening
+pub mod Lifted
 pub mod Propositional
 pub mod Instances
 pub mod PropClauses

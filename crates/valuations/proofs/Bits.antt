@@ -10,9 +10,10 @@ use lib.Dec.{eqb, ltb}
 use lib.ListN.{length, getD, set, take, drop, replicate, length-append, length-drop}
 use lib.Seq.{take-suc, drop-cons, getD-drop, drop-drop, take-suc-set}
 use Rattle.theory.specs.Lists.{all, select}
-use Rattle.theory.specs.Syntax.{Kind, function, predicate}
-use Rattle.theory.specs.Propositional.{width}
-use Rattle.theory.specs.Valuation.{hasValue, firstOne, valueOf, allHaveValues, valuesOf, settingOf}
+use Rattle.theory.specs.Syntax.{Kind, function, predicate, Signature}
+use Rattle.theory.specs.Propositional.{width, propCount}
+use Rattle.theory.specs.Valuation.{isValuation, hasValue, firstOne, valueOf, allHaveValues, valuesOf, settingOf}
+use Rattle.theory.proofs.Tests.{eqb-true, and-left, and-right}
 use Rattle.theory.proofs.Lists.{select-append}
 use Rattle.valuations.specs.Cells.{bitsAt, ones}
 
@@ -22,6 +23,24 @@ binary-on σ i h l = ap (all (λ b. ltb b 2)) (drop-cons σ i 0 h) ∙ ap (λ (b
 
 pub not-binary : (σ : List ℕ) (i : ℕ) → i < length σ → 1 < getD σ i 0 → all (λ b. ltb b 2) (drop i σ) ≡ false
 not-binary σ i h l = ap (all (λ b. ltb b 2)) (drop-cons σ i 0 h) ∙ ap (λ (b : Bool). b && all (λ b. ltb b 2) (drop (suc i) σ)) (le-ltb (getD σ i 0) 2 l)
+
+-- a valuation: a byte for each variable, and every byte 0 or 1
+module _ (s : ℕ) (g : Signature) (σ : List ℕ) where
+  pub uncounted : (length σ ≡ propCount s g → ⊥) → isValuation s g σ ≡ false
+  unfolding isValuation
+  uncounted h = ap (λ (b : Bool). b && all (λ b. ltb b 2) σ) (ne-eqb (length σ) (propCount s g) h)
+
+  pub counted : length σ ≡ propCount s g → isValuation s g σ ≡ all (λ b. ltb b 2) σ
+  unfolding isValuation
+  counted h = ap (λ (b : Bool). b && all (λ b. ltb b 2) σ) (eq-eqb (length σ) (propCount s g) h)
+
+  pub is-counted : isValuation s g σ ≡ true → length σ ≡ propCount s g
+  unfolding isValuation
+  is-counted h = eqb-true (length σ) (propCount s g) (and-left (eqb (length σ) (propCount s g)) (all (λ b. ltb b 2) σ) h)
+
+  pub is-binary : isValuation s g σ ≡ true → all (λ b. ltb b 2) σ ≡ true
+  unfolding isValuation
+  is-binary h = and-right (eqb (length σ) (propCount s g)) (all (λ b. ltb b 2) σ) h
 
 -- the bytes from a place on: the first and the others, the last and the others
 pub bits-cons : (σ : List ℕ) (from n : ℕ) → from < length σ → bitsAt σ from (suc n) ≡ getD σ from 0 ∷ bitsAt σ (suc from) n

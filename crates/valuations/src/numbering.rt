@@ -1,29 +1,16 @@
 // Propositional variables and their numbering: symbol by symbol, the last argument fastest, a function's cell one for each result.
-use indices::PropVar;
 use interpretation::vector::power;
 use syntax::limits::Problem;
 use syntax::signature::Signature;
 use syntax::signature::Symbol;
 use syntax::size::DomainSize;
 ghost use mathlib.Core.Path.{_≡_};
-ghost use mathlib.Core.Bool.{cond};
 ghost use mathlib.Core.List.{List};
-ghost use Prim.Native.Nat.{ℕ, _+_, _*_, _^_, _≤_, _<_};
+ghost use Prim.Native.Nat.{ℕ, _*_, _^_, _≤_};
 ghost use Rattle.theory.specs.Propositional as theory;
 ghost use Rattle.syntax.specs.Signatures.{kindOf, signatureIn};
 ghost use Rattle.clauses.specs.Names.{Limited};
 ghost use Rattle.valuations.specs.Numbers.{NumberingOf};
-
-// A propositional literal as one number: 2x says yes to variable x, 2x + 1 says no.
-pub fn literal(x: PropVar, positive: bool) -> u32
-    requires { ⌜ x .0 < 2 ^ 31 ⌝ }
-    ensures { λ r. ⌜ r ≡ 2 * x .0 + cond positive 0 1 ⌝ }
-{
-    if positive {
-        return 2 * x.0;
-    }
-    2 * x.0 + 1
-}
 
 // Each symbol's first propositional variable, and how many a cell of it has.
 pub struct Numbering {

@@ -15,14 +15,14 @@ ghost use lib.ListN.{length, replicate, drop};
 ghost use Rattle.theory.specs.Lists.{all};
 ghost use Rattle.theory.specs.Syntax as syntax;
 ghost use Rattle.theory.specs.Propositional.{width};
-ghost use Rattle.theory.specs.Valuation.{allHaveValues, firstOne, isFunctional, settingOf};
+ghost use Rattle.theory.specs.Valuation.{allHaveValues, firstOne, isFunctional, isValuation, settingOf};
 ghost use Rattle.syntax.specs.Signatures.{kindOf, signatureIn};
 ghost use Rattle.clauses.specs.Names.{Limited};
 ghost use Rattle.valuations.specs.Numbers.{NumberingOf};
 ghost use Rattle.valuations.specs.Cells.{bitsAt, cellValues, ones};
 
-// Every byte is 0 or 1; otherwise refusal 13.
-pub fn is_binary(setting: &[u8]) -> bool
+// Every byte is 0 or 1.
+fn is_binary(setting: &[u8]) -> bool
     ensures { λ r. ⌜ r ≡ all (λ b. ltb b 2) (now (setting .entry)) ⌝ }
 {
     let mut i: usize = 0;
@@ -33,6 +33,16 @@ pub fn is_binary(setting: &[u8]) -> bool
         i += 1;
     }
     true
+}
+
+// A byte for each variable, and every byte 0 or 1; otherwise refusal 13.
+pub fn is_valuation(setting: &[u8], n: Numbering) -> bool
+    ensures { λ r. ⌜ ((s : ℕ) (g : syntax.Signature) → NumberingOf g s n → r ≡ isValuation s g (now (setting .entry))) ⌝ }
+{
+    if setting.len() != n.count as usize {
+        return false;
+    }
+    is_binary(setting)
 }
 
 // Each function cell has exactly one result; otherwise refusal 14.

@@ -14,21 +14,18 @@ use Rattle.theory.proofs.Answers.{bind-step, bind-refused, check-of-true, check
 use Rattle.answers.specs.declared.Refusal.{Refusal}
 use Rattle.answers.specs.declared.WriteAnswer.{WriteAnswer}
 use Rattle.answers.specs.declared.WriteAnswer.the-variants.{Written, Refused}
-use Rattle.answers.specs.Answers.{refusalIn, lengthIn}
+use Rattle.answers.specs.Answers.{refusalIn}
+use Rattle.answers.specs.Calls.{WritingCall}
 use Rattle.writing.specs.Texts.{instancesAt, clausesText, textWithin, textAt}
 
--- an answer and the output after it, as a call promises them
-abbrev pub Answers : Answer (List ℕ) → WriteAnswer → List ℕ → List ℕ → Type 0
-Answers a r out out′ = (lengthIn r ≡ lengthAnswer a) × (out′ ≡ outputAfter a out)
+pub refuses : (a : Answer (List ℕ)) (q : theory.Refusal) (r : Refusal) (out : List ℕ) → a ≡ refused q → refusalIn r ≡ q → WritingCall a (Refused r) out out
+refuses a q r out e h = record { answer = ap refused h ∙ sym (ap lengthAnswer e); left = sym (ap (λ (b : Answer (List ℕ)). outputAfter b out) e) }
 
-pub refuses : (a : Answer (List ℕ)) (q : theory.Refusal) (r : Refusal) (out : List ℕ) → a ≡ refused q → refusalIn r ≡ q → Answers a (Refused r) out out
-refuses a q r out e h = (ap refused h ∙ sym (ap lengthAnswer e), sym (ap (λ (b : Answer (List ℕ)). outputAfter b out) e))
+pub writes : (a : Answer (List ℕ)) (t : List ℕ) (n : ℕ) (out out′ : List ℕ) → a ≡ answer t → n ≡ length t → out′ ≡ over t out → WritingCall a (Written n) out out′
+writes a t n out out′ e h o = record { answer = ap answer h ∙ sym (ap lengthAnswer e); left = o ∙ sym (ap (λ (b : Answer (List ℕ)). outputAfter b out) e) }
 
-pub writes : (a : Answer (List ℕ)) (t : List ℕ) (n : ℕ) (out out′ : List ℕ) → a ≡ answer t → n ≡ length t → out′ ≡ over t out → Answers a (Written n) out out′
-writes a t n out out′ e h o = (ap answer h ∙ sym (ap lengthAnswer e), o ∙ sym (ap (λ (b : Answer (List ℕ)). outputAfter b out) e))
-
-pub answers-as : (a b : Answer (List ℕ)) (r : WriteAnswer) (out out′ : List ℕ) → a ≡ b → Answers b r out out′ → Answers a r out out′
-answers-as a b r out out′ e h = (h .0 ∙ sym (ap lengthAnswer e), h .1 ∙ sym (ap (λ (b : Answer (List ℕ)). outputAfter b out) e))
+pub answers-as : (a b : Answer (List ℕ)) (r : WriteAnswer) (out out′ : List ℕ) → a ≡ b → WritingCall b r out out′ → WritingCall a r out out′
+answers-as a b r out out′ e h = record { answer = h .answer ∙ sym (ap lengthAnswer e); left = h .left ∙ sym (ap (λ (b : Answer (List ℕ)). outputAfter b out) e) }
 
 module _ (p : Problem) (s room : ℕ) where
   -- 11

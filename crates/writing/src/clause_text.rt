@@ -13,8 +13,7 @@ use valuations::numbering::numbering_of;
 ghost use mathlib.Core.Path.{_≡_};
 ghost use Prim.Native.Nat.{_+_, _≤_};
 ghost use lib.ListN.{length};
-ghost use Rattle.theory.specs.Operations.{lengthAnswer, outputAfter};
-ghost use Rattle.answers.specs.Answers.{lengthIn};
+ghost use Rattle.answers.specs.Calls.{WritingCall};
 ghost use Rattle.text.specs.Put.{put};
 ghost use Rattle.stream.specs.Consuming.{texts};
 ghost use Rattle.valuations.specs.Numbers.{NumberingOf};
@@ -24,26 +23,24 @@ ghost use Rattle.writing.specs.Texts.{Writable, clausesAt, textWithin};
 
 pub fn write_text(sheet: &[u8], p: Problem, s: DomainSize, output: &mut [u8]) -> WriteAnswer
     requires { ⌜ Writable (now sheet) p (s .0) ⌝ }
-    ensures answer { λ r. ⌜ lengthIn r ≡ lengthAnswer (textWithin (problemIn (now (sheet .entry)) p) (s .0) (length (now (output .entry)))) ⌝ }
-    ensures left { λ r. ⌜ now (output .exit) ≡ outputAfter (textWithin (problemIn (now (sheet .entry)) p) (s .0) (length (now (output .entry)))) (now (output .entry)) ⌝ }
+    ensures { λ r. ⌜ WritingCall (textWithin (problemIn (now (sheet .entry)) p) (s .0) (length (now (output .entry)))) r (now (output .entry)) (now (output .exit)) ⌝ }
 {
-    let size = s.0 as u32;
     let n = numbering_of(p.signature, s);
-    let m = measured(sheet, p, n, size);
+    let m = measured(sheet, p, n, s);
     let clauses = m.count as u32;
     let needed = header_length(n.count, clauses) + m.at;
     if output.len() < needed {
         return WriteAnswer::Refused(needing(11, needed));
     }
     let at = put_header(output, 0, n.count, clauses);
-    WriteAnswer::Written(put_clauses(sheet, p, n, size, output, at))
+    WriteAnswer::Written(put_clauses(sheet, p, n, s, output, at))
 }
 
 // The number of the clauses, and the length of their lines.
-fn measured(sheet: &[u8], p: Problem, n: Numbering, size: u32) -> Progress
-    requires { ⌜ Writable (now sheet) p size × NumberingOf (signatureIn (now sheet) (p .signature)) size n ⌝ }
-    ensures count { λ r. ⌜ r .count ≡ length (clausesAt (problemIn (now (sheet .entry)) p) size) ⌝ }
-    ensures length { λ r. ⌜ r .at ≡ length (texts (clausesAt (problemIn (now (sheet .entry)) p) size)) ⌝ }
+fn measured(sheet: &[u8], p: Problem, n: Numbering, size: DomainSize) -> Progress
+    requires { ⌜ Writable (now sheet) p (size .0) × NumberingOf (signatureIn (now sheet) (p .signature)) (size .0) n ⌝ }
+    ensures count { λ r. ⌜ r .count ≡ length (clausesAt (problemIn (now (sheet .entry)) p) (size .0)) ⌝ }
+    ensures length { λ r. ⌜ r .at ≡ length (texts (clausesAt (problemIn (now (sheet .entry)) p) (size .0))) ⌝ }
 {
     let mut out = [0u8; 1];
     let mut work = [0u32; 1];
@@ -56,14 +53,14 @@ fn put_clauses(
     sheet: &[u8],
     p: Problem,
     n: Numbering,
-    size: u32,
+    size: DomainSize,
     output: &mut [u8],
     at: usize,
 ) -> usize
-    requires { ⌜ Writable (now sheet) p size × NumberingOf (signatureIn (now sheet) (p .signature)) size n ⌝ }
-    requires { ⌜ at + length (texts (clausesAt (problemIn (now sheet) p) size)) ≤ length (now output) ⌝ }
-    ensures written { λ r. ⌜ now (output .exit) ≡ put (now (output .entry)) at (texts (clausesAt (problemIn (now (sheet .entry)) p) size)) ⌝ }
-    ensures place { λ r. ⌜ r ≡ at + length (texts (clausesAt (problemIn (now (sheet .entry)) p) size)) ⌝ }
+    requires { ⌜ Writable (now sheet) p (size .0) × NumberingOf (signatureIn (now sheet) (p .signature)) (size .0) n ⌝ }
+    requires { ⌜ at + length (texts (clausesAt (problemIn (now sheet) p) (size .0))) ≤ length (now output) ⌝ }
+    ensures written { λ r. ⌜ now (output .exit) ≡ put (now (output .entry)) at (texts (clausesAt (problemIn (now (sheet .entry)) p) (size .0))) ⌝ }
+    ensures place { λ r. ⌜ r ≡ at + length (texts (clausesAt (problemIn (now (sheet .entry)) p) (size .0))) ⌝ }
 {
     let mut work = [0u32; 1];
     let start = Progress { at, count: 0 };

@@ -10,16 +10,13 @@ use problem::sheet::read_problem;
 use syntax::limits::Problem;
 use syntax::size::DomainSize;
 use syntax::size::SizeCheck;
-ghost use mathlib.Core.Path.{_≡_};
 ghost use lib.ListN.{length};
-ghost use Rattle.theory.specs.Operations.{lengthAnswer, outputAfter, writtenText};
-ghost use Rattle.answers.specs.Answers.{lengthIn};
+ghost use Rattle.answers.specs.Calls.{WriteCall, WritingCall};
 ghost use Rattle.problem.specs.Problems.{problemIn};
 ghost use Rattle.writing.specs.Texts.{Sized, textAt};
 
 pub fn write_clauses(sheet: &[u8], size: u64, output: &mut [u8]) -> WriteAnswer
-    ensures answer { λ r. ⌜ lengthIn r ≡ lengthAnswer (writtenText (now (sheet .entry)) size (length (now (output .entry)))) ⌝ }
-    ensures left { λ r. ⌜ now (output .exit) ≡ outputAfter (writtenText (now (sheet .entry)) size (length (now (output .entry)))) (now (output .entry)) ⌝ }
+    ensures { λ r. ⌜ WriteCall (now (sheet .entry)) size r (now (output .entry)) (now (output .exit)) ⌝ }
 {
     let r = read_problem(sheet);
     if r.fault != 0 {
@@ -35,8 +32,7 @@ pub fn write_clauses(sheet: &[u8], size: u64, output: &mut [u8]) -> WriteAnswer
 // At a checked size.
 fn write_at(sheet: &[u8], p: Problem, s: DomainSize, output: &mut [u8]) -> WriteAnswer
     requires { ⌜ Sized (now sheet) p (s .0) ⌝ }
-    ensures answer { λ r. ⌜ lengthIn r ≡ lengthAnswer (textAt (problemIn (now (sheet .entry)) p) (s .0) (length (now (output .entry)))) ⌝ }
-    ensures left { λ r. ⌜ now (output .exit) ≡ outputAfter (textAt (problemIn (now (sheet .entry)) p) (s .0) (length (now (output .entry)))) (now (output .entry)) ⌝ }
+    ensures { λ r. ⌜ WritingCall (textAt (problemIn (now (sheet .entry)) p) (s .0) (length (now (output .entry)))) r (now (output .entry)) (now (output .exit)) ⌝ }
 {
     let c = counts_at(sheet, p, s);
     if Counts::MAX_INSTANCES < c.instances {

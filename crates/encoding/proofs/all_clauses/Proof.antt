@@ -13,8 +13,8 @@ all-cells-requires c κs =
     let x = state (a .start) (a .out .now) (a .work .now) in (
       (z .pre .0 .0 .readable .limited, z .pre .0 .1),
       (
-        λ other. numbering-anywhere (a .p .signature) (z .pre .0 .0 .readable .limited) sheet other (a .size) (a .n) (z .pre .1 .0),
-        (sheet, cells-first sheet (a .p) (a .mode) (a .size) (a .n .count) x (z .pre .1 .1)),
+        λ other. numbering-anywhere (a .p .signature) (z .pre .0 .0 .readable .limited) sheet other (a .size .0) (a .n) (z .pre .1 .0),
+        (sheet, cells-first sheet (a .p) (a .mode) (a .size .0) (a .n .count) x (z .pre .1 .1)),
       ),
     )
 
@@ -26,7 +26,7 @@ all-instances-requires c κs =
     let x = state (a .start) (a .out .now) (a .work .now) in
     let t = c .before .before .before .before .before .before .all-cells in
     let y = state (t .result) (t .last .1 .1 .1 .1 .0) (t .last .1 .1 .1 .1 .1 .0) in
-    (z .pre .0, (z .pre .1 .0, instances-next sheet (a .p) (a .mode) (a .size) (a .n .count) x y (z .pre .1 .1) (t .ensures sheet)))
+    (z .pre .0, (z .pre .1 .0, instances-next sheet (a .p) (a .mode) (a .size .0) (a .n .count) x y (z .pre .1 .1) (t .ensures sheet)))
 
 same-length : tie.Need-same-length
 same-length c = search needs
@@ -44,7 +44,7 @@ returns c =
     let y = state (t .result) (t .last .1 .1 .1 .1 .0) (t .last .1 .1 .1 .1 .1 .0) in
     let u = c .before .before .before .before .all-instances in
     let w = state (u .result) (u .last .1 .1 .1 .1 .1 .0) (u .last .1 .1 .1 .1 .1 .1 .0) in
-    all-taken sheet (a .p) (a .mode) (a .size) (a .n .count) x y w (t .ensures sheet) (u .ensures)
+    all-taken sheet (a .p) (a .mode) (a .size .0) (a .n .count) x y w (t .ensures sheet) (u .ensures)
 
 pub all-clauses-spec : {M : Type 1} → statement M
 all-clauses-spec =

@@ -27,7 +27,7 @@ same-length-2 c = search needs
 
 -- src/lib.rt:150:1
 returns : tie.Need-returns
-returns c = let f = c .before .before .before .before .before .find in (c .find-out .ensures ∙ ap findOut (f .ensures .0), (f .ensures .1 .0, f .ensures .1 .1))
+returns c = let f = c .before .before .before .before .before .find in record { answer = c .find-out .ensures ∙ ap findOut (f .ensures .answer); worked = f .ensures .worked; left = f .ensures .left }
 
 pub nk-find-spec : {M : Type 1} → statement M
 nk-find-spec =

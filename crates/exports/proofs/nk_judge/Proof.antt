@@ -19,7 +19,7 @@ judge-out-requires c κs = search needs
 
 -- src/lib.rt:81:1
 returns : tie.Need-returns
-returns c = c .judge-out .ensures ∙ ap judgeOut (c .before .judge .ensures)
+returns c = c .judge-out .ensures ∙ ap judgeOut (c .before .judge .ensures .answer)
 
 pub nk-judge-spec : {M : Type 1} → statement M
 nk-judge-spec = tie.close (tie.spec judge-requires judge-out-requires returns)

@@ -19,7 +19,7 @@ read-out-requires c κs = search needs
 
 -- src/lib.rt:51:1
 returns : tie.Need-returns
-returns c = c .read-out .ensures ∙ ap readOut (c .before .read .ensures)
+returns c = c .read-out .ensures ∙ ap readOut (c .before .read .ensures .answer)
 
 pub nk-read-spec : {M : Type 1} → statement M
 nk-read-spec = tie.close (tie.spec read-requires read-out-requires returns)

@@ -23,7 +23,7 @@ same-length c = search needs
 
 -- src/lib.rt:137:1
 returns : tie.Need-returns
-returns c = (c .write-out .ensures ∙ ap writeOut (c .before .before .before .read-back .ensures .0), c .before .before .before .read-back .ensures .1)
+returns c = let b = c .before .before .before .read-back in record { answer = c .write-out .ensures ∙ ap writeOut (b .ensures .answer); left = b .ensures .left }
 
 pub nk-read-back-spec : {M : Type 1} → statement M
 nk-read-back-spec = tie.close (tie.spec read-back-requires write-out-requires same-length returns)

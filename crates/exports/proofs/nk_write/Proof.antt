@@ -23,7 +23,7 @@ same-length c = search needs
 
 -- src/lib.rt:110:1
 returns : tie.Need-returns
-returns c = (c .write-out .ensures ∙ ap writeOut (c .before .before .before .write .ensures .0), c .before .before .before .write .ensures .1)
+returns c = let w = c .before .before .before .write in record { answer = c .write-out .ensures ∙ ap writeOut (w .ensures .answer); left = w .ensures .left }
 
 pub nk-write-spec : {M : Type 1} → statement M
 nk-write-spec = tie.close (tie.spec write-requires write-out-requires same-length returns)

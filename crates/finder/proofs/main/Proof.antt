@@ -17,35 +17,27 @@ slice-aggregate-read-full c = search needs
 read-full-requires : tie.Need-read-full-requires
 read-full-requires c κs = search needs
 
--- src/main.rt:10:30
+-- src/main.rt:9:30
 array-share-prefix-input : tie.Need-array-share-prefix-input
 array-share-prefix-input c = search needs
 
--- src/main.rt:10:30
+-- src/main.rt:9:30
 slice-aggregate-respond : tie.Need-slice-aggregate-respond
 slice-aggregate-respond c = search needs
 
--- src/main.rt:10:43
-slice-aggregate-respond-2 : tie.Need-slice-aggregate-respond-2
-slice-aggregate-respond-2 c = search needs
-
--- src/main.rt:10:54
-slice-aggregate-respond-3 : tie.Need-slice-aggregate-respond-3
-slice-aggregate-respond-3 c = search needs
-
--- src/main.rt:10:9
+-- src/main.rt:9:9
 respond-requires : tie.Need-respond-requires
 respond-requires c κs = search needs
 
--- src/main.rt:11:34
+-- src/main.rt:10:34
 array-share-prefix-out : tie.Need-array-share-prefix-out
-array-share-prefix-out c = search needs
+array-share-prefix-out c = c .respond .ensures .within
 
--- src/main.rt:11:34
+-- src/main.rt:10:34
 slice-aggregate-write-all : tie.Need-slice-aggregate-write-all
-slice-aggregate-write-all c = sym (length-take-le _ _ (c .before .before .before .respond .ensures .within))
+slice-aggregate-write-all c = sym (length-take-le _ _ (c .before .respond .ensures .within))
 
--- src/main.rt:11:5
+-- src/main.rt:10:5
 write-all-requires : tie.Need-write-all-requires
 write-all-requires c κs = search needs
 
@@ -61,8 +53,6 @@ main-spec =
     read-full-requires
     array-share-prefix-input
     slice-aggregate-respond
-    slice-aggregate-respond-2
-    slice-aggregate-respond-3
     respond-requires
     array-share-prefix-out
     slice-aggregate-write-all

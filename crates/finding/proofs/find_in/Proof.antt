@@ -1,19 +1,17 @@
 -- `find_in` meets its contract: the first check that fails refuses.
 use Prim.Native.Nat.{_≤_}
-use mathlib.Core.Path.{_≡_, sym, ap, _∙_, subst}
-use mathlib.Core.Bool.{true, false}
+use mathlib.Core.Path.{_≡_, ap, _∙_}
 use native.Mathlib.Omega.{arith}
-use borrow.Author.Tests.{not-true, not-false}
 use lib.ListN.{length}
 use Rattle.theory.specs.PropClauses.{instanceCount, workNeeded}
+use Rattle.theory.specs.Refusals.{unplaced, needing}
 use Rattle.theory.specs.CaseText.{caseLength}
-use Rattle.theory.specs.Refusals.{Answer, unplaced, needing}
-use Rattle.theory.specs.Operations.{Search}
+use Rattle.theory.specs.Operations.{maxInstances}
 use Rattle.theory.proofs.Parsing.{readProblem-bytes}
 use Rattle.problem.specs.Problems.{problemIn}
-use Rattle.finding.specs.Ending.{Ends, foundIn}
-use Rattle.finding.proofs.Endings.{ends-refused}
-use Rattle.finding.proofs.Refusing.{areSizes, sizes-bounds, refused-8, refused-9, refused-10, refused-11, searches, work-is, length-is, all-sizes}
+use Rattle.finding.specs.Ending.{foundIn, foundWithin}
+use Rattle.finding.proofs.Endings.{ends-as, ends-refused}
+use Rattle.finding.proofs.Refusing.{refused-9, refused-10, refused-11, searches, work-is, length-is, all-sizes}
 use borrow.Author.Needs.{needs}
 use Rattle.finding.proofs.find_in.Statement.{statement}
 use Rattle.finding.proofs.find_in.Tie as tie
@@ -22,15 +20,14 @@ use Rattle.finding.proofs.find_in.Lts as lts
 use Rattle.answers.proofs.at_line.Reads as at-line-reads
 use Rattle.answers.proofs.needing.Reads as needing-reads
 use Rattle.cases.proofs.writing.case_length.Reads as case-length-reads
-use Rattle.finding.proofs.are_sizes.Reads as are-sizes-reads
-use Rattle.finding.proofs.sizes.search_sizes.Reads as search-sizes-reads
 use Rattle.counts.proofs.counts_at.Reads as counts-at-reads
+use Rattle.finding.proofs.sizes.search_sizes.Reads as search-sizes-reads
 use Rattle.finding.proofs.work_needed.Reads as work-needed-reads
 use Rattle.valuations.proofs.numbering.numbering_of.Reads as numbering-of-reads
 
--- src/lib.rt:64:9
-are-sizes-requires : tie.Need-are-sizes-requires
-are-sizes-requires c κs = search needs
+-- src/lib.rt:63:9
+counts-at-requires : tie.Need-counts-at-requires
+counts-at-requires c κs = search needs
 
 -- src/lib.rt:65:36
 at-line-requires : tie.Need-at-line-requires
@@ -39,68 +36,63 @@ at-line-requires c κs = search needs
 -- src/lib.rt:65:9
 returns : tie.Need-returns
 returns c =
-    let s = c .before .before .before .before .before .before in
+    let s = c .before .before .before .before .before .before .before in
     let a = s .args in
     let q = problemIn (a .sheet .now) (a .p) in
     let W = length (a .work .now) in
     let R = length (a .output .now) in
-    let sizes : areSizes (a .low) (a .high) ≡ false = sym (c .before .before .are-sizes .ensures) ∙ not-true (c .before .before .are-sizes .result) (c .before .if1 .taken) in
-    ends-refused (foundIn q (a .low) (a .high) W R) (c .at-line .result) (unplaced 8) (a .work .now) (a .output .now) (refused-8 q (a .low) (a .high) W R sizes) (c .at-line .ensures)
+    let k = c .before .before .before .counts-at in
+    ends-refused (foundIn q (a .low .0) (a .high .0)) (c .at-line .result) (unplaced 9) (a .work .now) (a .output .now)
+    (refused-9 q (a .low .0) (a .high .0) W R (omega (arith, k .ensures .0, c .before .if1 .taken))) (c .at-line .ensures)
 
 -- src/lib.rt:68:9
-counts-at-requires : tie.Need-counts-at-requires
-counts-at-requires c κs =
-    let s = c .before .before .before .before .before in
-    let a = s .args in
-    let q = problemIn (a .sheet .now) (a .p) in
-    let W = length (a .work .now) in
-    let R = length (a .output .now) in
-    let sizes : areSizes (a .low) (a .high) ≡ true = sym (c .before .are-sizes .ensures) ∙ not-false (c .before .are-sizes .result) (c .if1 .left) in
-    (s .pre .0, sizes-bounds (a .low) (a .high) sizes .1)
-
--- src/lib.rt:70:36
-at-line-requires-2 : tie.Need-at-line-requires-2
-at-line-requires-2 c κs = search needs
-
--- src/lib.rt:70:9
-returns-2 : tie.Need-returns-2
-returns-2 c =
-    let s = c .before .before .before .before .before .before .before .before .before in
-    let a = s .args in
-    let q = problemIn (a .sheet .now) (a .p) in
-    let W = length (a .work .now) in
-    let R = length (a .output .now) in
-    let sizes : areSizes (a .low) (a .high) ≡ true = sym (c .before .before .before .before .before .are-sizes .ensures) ∙ not-false (c .before .before .before .before .before .are-sizes .result) (c .before .before .before .before .if1 .left) in
-    let k = c .before .before .before .counts-at in
-    ends-refused (foundIn q (a .low) (a .high) W R) (c .at-line2 .result) (unplaced 9) (a .work .now) (a .output .now) (refused-9 q (a .low) (a .high) W R sizes (omega (arith, k .ensures .0, c .before .if2 .taken))) (c .at-line2 .ensures)
-
--- src/lib.rt:73:9
 numbering-of-requires : tie.Need-numbering-of-requires
-numbering-of-requires c κs =
-    let s = c .before .before .before .before .before .before .before .before .before in
-    let a = s .args in
-    let q = problemIn (a .sheet .now) (a .p) in
-    let W = length (a .work .now) in
-    let R = length (a .output .now) in
-    let sizes : areSizes (a .low) (a .high) ≡ true = sym (c .before .before .before .before .before .are-sizes .ensures) ∙ not-false (c .before .before .before .before .before .are-sizes .result) (c .before .before .before .before .if1 .left) in
-    (s .pre .0 .readable .limited, sizes-bounds (a .low) (a .high) sizes .1)
+numbering-of-requires c κs = search needs
 
--- src/lib.rt:74:33
+-- src/lib.rt:69:33
 cast-work-needed : tie.Need-cast-work-needed
 cast-work-needed c = search needs
 
--- src/lib.rt:74:9
+-- src/lib.rt:69:9
 work-needed-requires : tie.Need-work-needed-requires
 work-needed-requires c κs =
-    let s = c .before .before .before .before .before .before .before .before .before .before .before in
+    let s = c .before .before .before .before .before .before .before .before .before in
     let k = c .before .before .before .before .before .counts-at in
     (k .ensures .1 .1 .0, k .ensures .1 .1 .1, c .before .numbering-of .ensures (s .args .sheet .now) .small)
 
--- src/lib.rt:76:36
+-- src/lib.rt:70:9
+case-length-requires : tie.Need-case-length-requires
+case-length-requires c κs =
+    let s = c .before .before .before .before .before .before .before .before .before .before in
+    let a = s .args in
+    (s .pre .within, (a .sheet .now, (s .pre .accepted .readable, readProblem-bytes (a .sheet .now) (problemIn (a .sheet .now) (a .p)) (s .pre .read))))
+
+-- src/lib.rt:72:36
 needing-requires : tie.Need-needing-requires
 needing-requires c κs = search needs
 
--- src/lib.rt:76:9
+-- src/lib.rt:72:9
+returns-2 : tie.Need-returns-2
+returns-2 c =
+    let s = c .before .before .before .before .before .before .before .before .before .before .before .before .before in
+    let a = s .args in
+    let q = problemIn (a .sheet .now) (a .p) in
+    let W = length (a .work .now) in
+    let R = length (a .output .now) in
+    let k = c .before .before .before .before .before .before .before .before .before .counts-at in
+    let few : instanceCount (a .high .0) (q .symbols) (q .clauses) ≤ maxInstances = omega (arith, k .ensures .0, c .before .before .before .before .before .before .before .if1 .left) in
+    let n = c .before .before .before .before .before .numbering-of in
+    let w = c .before .before .before .work-needed in
+    let whole : w .result ≡ workNeeded (a .high .0) (q .symbols) (q .clauses) =
+    work-is (a .sheet .now) (a .p) (a .high .0) (n .result .count) (k .result .instances) (k .result .literals) (w .result) (n .ensures (a .sheet .now) .count) (k .ensures .0) (k .ensures .1 .0) (w .ensures) in
+    ends-refused (foundIn q (a .low .0) (a .high .0)) (c .needing .result) (needing 10 (workNeeded (a .high .0) (q .symbols) (q .clauses))) (a .work .now) (a .output .now)
+    (refused-10 q (a .low .0) (a .high .0) W R few (omega (arith, whole, c .before .if2 .taken))) (c .needing .ensures ∙ ap (needing 10) whole)
+
+-- src/lib.rt:75:36
+needing-requires-2 : tie.Need-needing-requires-2
+needing-requires-2 c κs = search needs
+
+-- src/lib.rt:75:9
 returns-3 : tie.Need-returns-3
 returns-3 c =
     let s = c .before .before .before .before .before .before .before .before .before .before .before .before .before .before in
@@ -108,117 +100,82 @@ returns-3 c =
     let q = problemIn (a .sheet .now) (a .p) in
     let W = length (a .work .now) in
     let R = length (a .output .now) in
-    let sizes : areSizes (a .low) (a .high) ≡ true = sym (c .before .before .before .before .before .before .before .before .before .before .are-sizes .ensures) ∙ not-false (c .before .before .before .before .before .before .before .before .before .before .are-sizes .result) (c .before .before .before .before .before .before .before .before .before .if1 .left) in
-    let k = c .before .before .before .before .before .before .before .before .counts-at in
-    let few : instanceCount (a .high) (q .symbols) (q .clauses) ≤ 1000000 = omega (arith, k .ensures .0, c .before .before .before .before .before .before .if2 .left) in
-    let w = c .before .before .work-needed in
-    let whole : w .result ≡ workNeeded (a .high) (q .symbols) (q .clauses) =
-    work-is (a .sheet .now) (a .p) (a .high) (c .before .before .before .before .numbering-of .result .count) (k .result .instances) (k .result .literals) (w .result) (c .before .before .before .before .numbering-of .ensures (a .sheet .now) .count) (k .ensures .0) (k .ensures .1 .0) (w .ensures) in
-    ends-refused (foundIn q (a .low) (a .high) W R) (c .needing .result) (needing 10 (workNeeded (a .high) (q .symbols) (q .clauses))) (a .work .now) (a .output .now)
-    (refused-10 q (a .low) (a .high) W R sizes few (omega (arith, whole, c .before .if3 .taken))) (c .needing .ensures ∙ ap (needing 10) whole)
-
--- src/lib.rt:78:9
-case-length-requires : tie.Need-case-length-requires
-case-length-requires c κs =
-    let s = c .before .before .before .before .before .before .before .before .before .before .before .before .before in
-    let a = s .args in
-    let q = problemIn (a .sheet .now) (a .p) in
-    let W = length (a .work .now) in
-    let R = length (a .output .now) in
-    let sizes : areSizes (a .low) (a .high) ≡ true = sym (c .before .before .before .before .before .before .before .before .before .are-sizes .ensures) ∙ not-false (c .before .before .before .before .before .before .before .before .before .are-sizes .result) (c .before .before .before .before .before .before .before .before .if1 .left) in
-    (sizes-bounds (a .low) (a .high) sizes .1, (a .sheet .now, (s .pre .0 .readable, readProblem-bytes (a .sheet .now) q (s .pre .1))))
-
--- src/lib.rt:80:36
-needing-requires-2 : tie.Need-needing-requires-2
-needing-requires-2 c κs = search needs
-
--- src/lib.rt:80:9
-returns-4 : tie.Need-returns-4
-returns-4 c =
-    let s = c .before .before .before .before .before .before .before .before .before .before .before .before .before .before .before .before in
-    let a = s .args in
-    let q = problemIn (a .sheet .now) (a .p) in
-    let W = length (a .work .now) in
-    let R = length (a .output .now) in
-    let sizes : areSizes (a .low) (a .high) ≡ true = sym (c .before .before .before .before .before .before .before .before .before .before .before .before .are-sizes .ensures) ∙ not-false (c .before .before .before .before .before .before .before .before .before .before .before .before .are-sizes .result) (c .before .before .before .before .before .before .before .before .before .before .before .if1 .left) in
     let k = c .before .before .before .before .before .before .before .before .before .before .counts-at in
-    let few : instanceCount (a .high) (q .symbols) (q .clauses) ≤ 1000000 = omega (arith, k .ensures .0, c .before .before .before .before .before .before .before .before .if2 .left) in
+    let few : instanceCount (a .high .0) (q .symbols) (q .clauses) ≤ maxInstances = omega (arith, k .ensures .0, c .before .before .before .before .before .before .before .before .if1 .left) in
+    let n = c .before .before .before .before .before .before .numbering-of in
     let w = c .before .before .before .before .work-needed in
-    let whole : w .result ≡ workNeeded (a .high) (q .symbols) (q .clauses) =
-    work-is (a .sheet .now) (a .p) (a .high) (c .before .before .before .before .before .before .numbering-of .result .count) (k .result .instances) (k .result .literals) (w .result) (c .before .before .before .before .before .before .numbering-of .ensures (a .sheet .now) .count) (k .ensures .0) (k .ensures .1 .0) (w .ensures) in
-    let enough : workNeeded (a .high) (q .symbols) (q .clauses) ≤ W = omega (arith, whole, c .before .before .before .if3 .left) in
-    let m = c .before .before .case-length in
-    let case : m .result ≡ caseLength (a .high) (q .symbols) = length-is (a .sheet .now) (a .p) (a .high) (m .result) (m .ensures (a .sheet .now) (s .pre .0 .readable)) in
-    ends-refused (foundIn q (a .low) (a .high) W R) (c .needing2 .result) (needing 11 (caseLength (a .high) (q .symbols))) (a .work .now) (a .output .now)
-    (refused-11 q (a .low) (a .high) W R sizes few enough (omega (arith, case, c .before .if4 .taken))) (c .needing2 .ensures ∙ ap (needing 11) case)
+    let whole : w .result ≡ workNeeded (a .high .0) (q .symbols) (q .clauses) =
+    work-is (a .sheet .now) (a .p) (a .high .0) (n .result .count) (k .result .instances) (k .result .literals) (w .result) (n .ensures (a .sheet .now) .count) (k .ensures .0) (k .ensures .1 .0) (w .ensures) in
+    let enough : workNeeded (a .high .0) (q .symbols) (q .clauses) ≤ W = omega (arith, whole, c .before .before .if2 .left) in
+    let m = c .before .before .before .case-length in
+    let case : m .result ≡ caseLength (a .high .0) (q .symbols) = length-is (a .sheet .now) (a .p) (a .high .0) (m .result) (m .ensures (a .sheet .now) (s .pre .accepted .readable)) in
+    ends-refused (foundIn q (a .low .0) (a .high .0)) (c .needing2 .result) (needing 11 (caseLength (a .high .0) (q .symbols))) (a .work .now) (a .output .now)
+    (refused-11 q (a .low .0) (a .high .0) W R few enough (omega (arith, case, c .before .if3 .taken))) (c .needing2 .ensures ∙ ap (needing 11) case)
 
--- src/lib.rt:82:5
+-- src/lib.rt:77:5
 search-sizes-requires : tie.Need-search-sizes-requires
 search-sizes-requires c κs =
-    let s = c .before .before .before .before .before .before .before .before .before .before .before .before .before .before .before .before .before in
+    let s = c .before .before .before .before .before .before .before .before .before .before .before .before .before .before .before in
     let a = s .args in
     let q = problemIn (a .sheet .now) (a .p) in
     let W = length (a .work .now) in
     let R = length (a .output .now) in
-    let sizes : areSizes (a .low) (a .high) ≡ true = sym (c .before .before .before .before .before .before .before .before .before .before .before .before .before .are-sizes .ensures) ∙ not-false (c .before .before .before .before .before .before .before .before .before .before .before .before .before .are-sizes .result) (c .before .before .before .before .before .before .before .before .before .before .before .before .if1 .left) in
     let k = c .before .before .before .before .before .before .before .before .before .before .before .counts-at in
-    let few : instanceCount (a .high) (q .symbols) (q .clauses) ≤ 1000000 = omega (arith, k .ensures .0, c .before .before .before .before .before .before .before .before .before .if2 .left) in
+    let few : instanceCount (a .high .0) (q .symbols) (q .clauses) ≤ maxInstances = omega (arith, k .ensures .0, c .before .before .before .before .before .before .before .before .before .if1 .left) in
+    let n = c .before .before .before .before .before .before .before .numbering-of in
     let w = c .before .before .before .before .before .work-needed in
-    let whole : w .result ≡ workNeeded (a .high) (q .symbols) (q .clauses) =
-    work-is (a .sheet .now) (a .p) (a .high) (c .before .before .before .before .before .before .before .numbering-of .result .count) (k .result .instances) (k .result .literals) (w .result) (c .before .before .before .before .before .before .before .numbering-of .ensures (a .sheet .now) .count) (k .ensures .0) (k .ensures .1 .0) (w .ensures) in
-    let enough : workNeeded (a .high) (q .symbols) (q .clauses) ≤ W = omega (arith, whole, c .before .before .before .before .if3 .left) in
-    let m = c .before .before .before .case-length in
-    let case : m .result ≡ caseLength (a .high) (q .symbols) = length-is (a .sheet .now) (a .p) (a .high) (m .result) (m .ensures (a .sheet .now) (s .pre .0 .readable)) in
-    all-sizes (a .sheet .now) (a .p) (a .low) (a .high) W R (s .pre .0) (s .pre .1) sizes few enough (omega (arith, case, c .before .before .if4 .left))
+    let whole : w .result ≡ workNeeded (a .high .0) (q .symbols) (q .clauses) =
+    work-is (a .sheet .now) (a .p) (a .high .0) (n .result .count) (k .result .instances) (k .result .literals) (w .result) (n .ensures (a .sheet .now) .count) (k .ensures .0) (k .ensures .1 .0) (w .ensures) in
+    let enough : workNeeded (a .high .0) (q .symbols) (q .clauses) ≤ W = omega (arith, whole, c .before .before .before .if2 .left) in
+    let m = c .before .before .before .before .case-length in
+    let case : m .result ≡ caseLength (a .high .0) (q .symbols) = length-is (a .sheet .now) (a .p) (a .high .0) (m .result) (m .ensures (a .sheet .now) (s .pre .accepted .readable)) in
+    all-sizes (a .sheet .now) (a .p) (a .low .0) (a .high .0) W R (s .pre) few enough (omega (arith, case, c .before .before .if3 .left))
 
--- src/lib.rt:53:1
+-- src/lib.rt:52:1
 same-length : tie.Need-same-length
 same-length c = search needs
 
--- src/lib.rt:53:1
+-- src/lib.rt:52:1
 same-length-2 : tie.Need-same-length-2
 same-length-2 c = search needs
 
--- src/lib.rt:53:1
-returns-5 : tie.Need-returns-5
-returns-5 c =
-    let s = c .before .before .before .before .before .before .before .before .before .before .before .before .before .before .before .before .before .before .before .before .before .before in
+-- src/lib.rt:52:1
+returns-4 : tie.Need-returns-4
+returns-4 c =
+    let s = c .before .before .before .before .before .before .before .before .before .before .before .before .before .before .before .before .before .before .before .before in
     let a = s .args in
     let q = problemIn (a .sheet .now) (a .p) in
     let W = length (a .work .now) in
     let R = length (a .output .now) in
-    let sizes : areSizes (a .low) (a .high) ≡ true = sym (c .before .before .before .before .before .before .before .before .before .before .before .before .before .before .before .before .before .before .are-sizes .ensures) ∙ not-false (c .before .before .before .before .before .before .before .before .before .before .before .before .before .before .before .before .before .before .are-sizes .result) (c .before .before .before .before .before .before .before .before .before .before .before .before .before .before .before .before .before .if1 .left) in
     let k = c .before .before .before .before .before .before .before .before .before .before .before .before .before .before .before .before .counts-at in
-    let few : instanceCount (a .high) (q .symbols) (q .clauses) ≤ 1000000 = omega (arith, k .ensures .0, c .before .before .before .before .before .before .before .before .before .before .before .before .before .before .if2 .left) in
+    let few : instanceCount (a .high .0) (q .symbols) (q .clauses) ≤ maxInstances = omega (arith, k .ensures .0, c .before .before .before .before .before .before .before .before .before .before .before .before .before .before .if1 .left) in
+    let n = c .before .before .before .before .before .before .before .before .before .before .before .before .numbering-of in
     let w = c .before .before .before .before .before .before .before .before .before .before .work-needed in
-    let whole : w .result ≡ workNeeded (a .high) (q .symbols) (q .clauses) =
-    work-is (a .sheet .now) (a .p) (a .high) (c .before .before .before .before .before .before .before .before .before .before .before .before .numbering-of .result .count) (k .result .instances) (k .result .literals) (w .result) (c .before .before .before .before .before .before .before .before .before .before .before .before .numbering-of .ensures (a .sheet .now) .count) (k .ensures .0) (k .ensures .1 .0) (w .ensures) in
-    let enough : workNeeded (a .high) (q .symbols) (q .clauses) ≤ W = omega (arith, whole, c .before .before .before .before .before .before .before .before .before .if3 .left) in
-    let m = c .before .before .before .before .before .before .before .before .case-length in
-    let case : m .result ≡ caseLength (a .high) (q .symbols) = length-is (a .sheet .now) (a .p) (a .high) (m .result) (m .ensures (a .sheet .now) (s .pre .0 .readable)) in
+    let whole : w .result ≡ workNeeded (a .high .0) (q .symbols) (q .clauses) =
+    work-is (a .sheet .now) (a .p) (a .high .0) (n .result .count) (k .result .instances) (k .result .literals) (w .result) (n .ensures (a .sheet .now) .count) (k .ensures .0) (k .ensures .1 .0) (w .ensures) in
+    let enough : workNeeded (a .high .0) (q .symbols) (q .clauses) ≤ W = omega (arith, whole, c .before .before .before .before .before .before .before .before .if2 .left) in
+    let m = c .before .before .before .before .before .before .before .before .before .case-length in
+    let case : m .result ≡ caseLength (a .high .0) (q .symbols) = length-is (a .sheet .now) (a .p) (a .high .0) (m .result) (m .ensures (a .sheet .now) (s .pre .accepted .readable)) in
     let t = c .before .before .before .before .search-sizes in
-    subst (λ (o : Answer Search). Ends o (t .result) (a .work .now) (t .last .1 .1 .1 .1 .0) (a .output .now) (t .last .1 .1 .1 .1 .1 .0))
-    (sym (searches q (a .low) (a .high) W R sizes few enough (omega (arith, case, c .before .before .before .before .before .before .before .if4 .left)))) (t .ensures)
+    ends-as (foundIn q (a .low .0) (a .high .0)) (t .result) (a .work .now) (t .last .1 .1 .1 .1 .0) (a .output .now) (t .last .1 .1 .1 .1 .1 .0) (foundWithin q (a .low .0) (a .high .0))
+    (searches q (a .low .0) (a .high .0) W R few enough (omega (arith, case, c .before .before .before .before .before .before .before .if3 .left))) (t .ensures)
 
 pub find-in-spec : {M : Type 1} → statement M
 find-in-spec =
     tie.close
     (tie.spec
-    are-sizes-requires
+    counts-at-requires
     at-line-requires
     returns
-    counts-at-requires
-    at-line-requires-2
-    returns-2
     numbering-of-requires
     cast-work-needed
     work-needed-requires
-    needing-requires
-    returns-3
     case-length-requires
+    needing-requires
+    returns-2
     needing-requires-2
-    returns-4
+    returns-3
     search-sizes-requires
     same-length
     same-length-2
-    returns-5)
+    returns-4)

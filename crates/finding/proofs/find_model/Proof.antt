@@ -1,13 +1,16 @@
--- `find_model` meets its contract: a sheet that is refused, or what was found.
-use mathlib.Core.Path.{sym, subst}
+-- `find_model` meets its contract: a sheet that is refused, sizes that are none, or what was found.
+use Prim.Native.Nat.{ℕ}
+use mathlib.Core.Path.{_≡_, sym, ap, _∙_}
+use native.Mathlib.Omega.{arith}
 use lib.ListN.{length}
-use Rattle.theory.specs.Refusals.{Answer, atLine}
+use Rattle.theory.specs.Refusals.{Answer, atLine, unplaced}
 use Rattle.theory.specs.Operations.{Search, findResult}
 use Rattle.problem.specs.Problems.{problemIn}
 use Rattle.problem.proofs.SheetRead.{sheet-accepted, sheet-refused}
-use Rattle.finding.specs.Ending.{Ends}
-use Rattle.finding.proofs.Endings.{ends-refused}
-use Rattle.finding.proofs.Refusing.{result-refused, result-read}
+use Rattle.finding.specs.Ending.{foundIn}
+use Rattle.finding.proofs.Ranges.{bounds, taken, refused}
+use Rattle.finding.proofs.Endings.{ends-as, ends-refused}
+use Rattle.finding.proofs.Refusing.{result-refused, result-8, result-read}
 use borrow.Author.Needs.{needs}
 use Rattle.finding.proofs.find_model.Statement.{statement}
 use Rattle.finding.proofs.find_model.Tie as tie
@@ -15,17 +18,18 @@ use Rattle.finding.proofs.find_model.Reads as reads
 use Rattle.finding.proofs.find_model.Lts as lts
 use Rattle.answers.proofs.at_line.Reads as at-line-reads
 use Rattle.finding.proofs.find_in.Reads as find-in-reads
+use Rattle.finding.proofs.range.checked_range.Reads as checked-range-reads
 use Rattle.problem.proofs.sheet.read_problem.Reads as read-problem-reads
 
--- src/lib.rt:44:9
+-- src/lib.rt:40:9
 read-problem-requires : tie.Need-read-problem-requires
 read-problem-requires c κs = search needs
 
--- src/lib.rt:46:36
+-- src/lib.rt:42:36
 at-line-requires : tie.Need-at-line-requires
 at-line-requires c κs = search needs
 
--- src/lib.rt:46:9
+-- src/lib.rt:42:9
 returns : tie.Need-returns
 returns c =
     let a = c .before .before .before .before .before .before .before .args in
@@ -33,36 +37,77 @@ returns c =
     let W = length (a .work .now) in
     let R = length (a .output .now) in
     let q = atLine (r .result .fault) (r .result .line) in
-    let e = ends-refused (findResult (a .sheet .now) (a .low) (a .high) W R) (c .at-line .result) q (a .work .now) (a .output .now)
-    (result-refused (a .sheet .now) (a .low) (a .high) W R q (sheet-refused (a .sheet .now) (r .result) (r .ensures .0) (c .before .if1 .taken))) (c .at-line .ensures) in
-    (e .answer, (e .worked, e .left))
+    ends-refused (findResult (a .sheet .now) (a .low) (a .high)) (c .at-line .result) q (a .work .now) (a .output .now)
+    (result-refused (a .sheet .now) (a .low) (a .high) W R q (sheet-refused (a .sheet .now) (r .result) (r .ensures .0) (c .before .if1 .taken))) (c .at-line .ensures)
 
--- src/lib.rt:49:5
+-- src/lib.rt:45:11
+checked-range-requires : tie.Need-checked-range-requires
+checked-range-requires c κs = search needs
+
+-- src/lib.rt:46:52
+enum-told : tie.Need-enum-told
+enum-told c = search needs
+
+-- src/lib.rt:46:52
+at-line-requires-2 : tie.Need-at-line-requires-2
+at-line-requires-2 c κs = search needs
+
+-- src/lib.rt:47:24
+enum-known-least : tie.Need-enum-known-least
+enum-known-least c = search needs
+
+-- src/lib.rt:47:40
 find-in-requires : tie.Need-find-in-requires
 find-in-requires c κs =
-    let a = c .before .before .before .before .before .before .before .before .before .args in
-    let r = c .before .before .before .before .before .read-problem in
-    (r .ensures .1 (c .before .before .before .if1 .left), sheet-accepted (a .sheet .now) (r .result) (r .ensures .0) (c .before .before .before .if1 .left))
+    let a = c .before .before .before .before .before .before .before .before .before .before .before .before .before .args in
+    let r = c .before .before .before .before .before .before .before .before .before .read-problem in
+    let ok = c .before .before .before .before .before .before .before .if1 .left in
+    let g = c .before .before .before .least .given in
+    let t = taken (a .low) (a .high) (g .0 .0) (g .0 .1 .0) (sym (c .before .before .before .before .before .checked-range .ensures) ∙ g .1) in
+    let h = bounds (a .low) (a .high) (t .0) in
+    record {
+      accepted = r .ensures .1 ok;
+      read = sheet-accepted (a .sheet .now) (r .result) (r .ensures .0) ok;
+      positive = omega (arith, t .1, h .0);
+      ordered = omega (arith, t .1, t .2, h .2);
+      within = omega (arith, t .2, h .1);
+    }
 
--- src/lib.rt:33:1
+-- src/lib.rt:29:1
+returns-2 : tie.Need-returns-2
+returns-2 c =
+    let a = c .before .before .before .before .before .before .before .before .before .before .before .args in
+    let r = c .before .before .before .before .before .before .before .read-problem in
+    let W = length (a .work .now) in
+    let R = length (a .output .now) in
+    let q = problemIn (a .sheet .now) (r .result .problem) in
+    let no = refused (a .low) (a .high) (sym (c .before .before .before .checked-range .ensures) ∙ c .before .enum-told .given .1) in
+    ends-refused (findResult (a .sheet .now) (a .low) (a .high)) (c .at-line2 .result) (unplaced 8) (a .work .now) (a .output .now)
+    (result-8 (a .sheet .now) (a .low) (a .high) W R q (sheet-accepted (a .sheet .now) (r .result) (r .ensures .0) (c .before .before .before .before .before .if1 .left)) no) (c .at-line2 .ensures)
+
+-- src/lib.rt:29:1
 same-length : tie.Need-same-length
 same-length c = search needs
 
--- src/lib.rt:33:1
+-- src/lib.rt:29:1
 same-length-2 : tie.Need-same-length-2
 same-length-2 c = search needs
 
--- src/lib.rt:33:1
-returns-2 : tie.Need-returns-2
-returns-2 c =
-    let a = c .before .before .before .before .before .before .before .before .before .before .before .before .before .before .args in
-    let r = c .before .before .before .before .before .before .before .before .before .before .read-problem in
+-- src/lib.rt:29:1
+returns-3 : tie.Need-returns-3
+returns-3 c =
+    let a = c .before .before .before .before .before .before .before .before .before .before .before .before .before .before .before .before .before .before .args in
+    let r = c .before .before .before .before .before .before .before .before .before .before .before .before .before .before .read-problem in
     let f = c .before .before .before .before .find-in in
     let W = length (a .work .now) in
     let R = length (a .output .now) in
-    let e = subst (λ (o : Answer Search). Ends o (f .result) (a .work .now) (f .last .1 .1 .1 .1 .0) (a .output .now) (f .last .1 .1 .1 .1 .1 .0))
-    (sym (result-read (a .sheet .now) (problemIn (a .sheet .now) (r .result .problem)) (a .low) (a .high) W R (sheet-accepted (a .sheet .now) (r .result) (r .ensures .0) (c .before .before .before .before .before .before .before .before .if1 .left)))) (f .ensures) in
-    (e .answer, (e .worked, e .left))
+    let q = problemIn (a .sheet .now) (r .result .problem) in
+    let g = c .before .before .before .before .before .before .before .before .least .given in
+    let t = taken (a .low) (a .high) (g .0 .0) (g .0 .1 .0) (sym (c .before .before .before .before .before .before .before .before .before .before .checked-range .ensures) ∙ g .1) in
+    let same : foundIn q (a .low) (a .high) W R ≡ foundIn q (g .0 .0 .0) (g .0 .1 .0 .0) W R =
+    ap (λ (n : ℕ). foundIn q n (a .high) W R) (sym (t .1)) ∙ ap (λ (n : ℕ). foundIn q (g .0 .0 .0) n W R) (sym (t .2)) in
+    ends-as (findResult (a .sheet .now) (a .low) (a .high)) (f .result) (a .work .now) (f .last .1 .1 .1 .1 .0) (a .output .now) (f .last .1 .1 .1 .1 .1 .0) (foundIn q (g .0 .0 .0) (g .0 .1 .0 .0))
+    (result-read (a .sheet .now) (a .low) (a .high) W R q (sheet-accepted (a .sheet .now) (r .result) (r .ensures .0) (c .before .before .before .before .before .before .before .before .before .before .before .before .if1 .left)) (t .0) ∙ same) (f .ensures)
 
 pub find-model-spec : {M : Type 1} → statement M
 find-model-spec =
@@ -71,7 +116,12 @@ find-model-spec =
     read-problem-requires
     at-line-requires
     returns
+    checked-range-requires
+    enum-told
+    at-line-requires-2
+    enum-known-least
     find-in-requires
+    returns-2
     same-length
     same-length-2
-    returns-2)
+    returns-3)

@@ -11,20 +11,26 @@ use Rattle.loading.proofs.prefer.Statement.{statement}
 use Rattle.loading.proofs.prefer.Tie as tie
 
 abbrev Inv-loop : tie.InvT-loop
-Inv-loop work₀ v from to value number variable₀ work variable =
-    (from ≤ variable) × (variable ≤ to) × (7 * v ≤ length work) × (length work ≡ length work₀) × Telling v from value work₀ work variable
+Inv-loop work₀ v value number end variable₀ work variable =
+    (variable₀ ≤ variable) × (variable ≤ end) × (7 * v ≤ length work) × (length work ≡ length work₀) × Telling v variable₀ value work₀ work variable
 
 abbrev μ-loop : tie.MeasureT-loop
-μ-loop work₀ v from to value number variable₀ work variable = to - variable
+μ-loop work₀ v value number end variable₀ work variable = end - variable
 
 number-of-requires : tie.Need-number-of-requires Inv-loop μ-loop
 number-of-requires c κs = search needs
 
+cast-end : tie.Need-cast-end Inv-loop μ-loop
+cast-end c = search needs
+
+cast-variable : tie.Need-cast-variable Inv-loop μ-loop
+cast-variable c = search needs
+
 loop-holds : tie.Need-loop-holds Inv-loop μ-loop
 loop-holds c =
-    let s = c .before .before in
+    let s = c .before .before .before .before in
     let a = s .args in
-    (omega arith, s .pre .0, s .pre .1 .1, refl, telling-start (a .v) (a .from) (a .value) (a .work .now))
+    (omega arith, s .pre .1 .0, s .pre .0 .room, refl, telling-start (a .v) (a .from .0) (a .value) (a .work .now))
 
 mul-work : tie.Need-mul-work Inv-loop μ-loop
 mul-work c = search needs
@@ -47,14 +53,15 @@ loop-less c = search needs
 loop-again : tie.Need-loop-again Inv-loop μ-loop
 loop-again c =
     let l = c .before .loop in
-    let s = c .before .before .before .before in
+    let n = c .before .before .before .before in
+    let s = n .before .before in
     let a = s .args in (
       omega (arith, l .inv .0),
       omega (arith, c .loop-test .taken),
       simp length-set (l .inv .2),
       simp length-set (l .inv .3),
-      telling-turn (a .v) (a .from) (a .value) (a .work .now) (l .work) (l .variable) (c .before .before .number-of .result) (omega (arith, c .loop-test .taken, s .pre .1 .0)) (l .inv .2)
-          (c .before .before .number-of .ensures) (l .inv .0) (l .inv .4),
+      telling-turn (a .v) (a .from .0) (a .value) (a .work .now) (l .work) (l .variable) (n .number-of .result) (omega (arith, c .loop-test .taken, s .pre .1 .1)) (l .inv .2)
+          (n .number-of .ensures) (l .inv .0) (l .inv .4),
     )
 
 same-length : tie.Need-same-length Inv-loop μ-loop
@@ -63,9 +70,9 @@ same-length c = search needs
 returns : tie.Need-returns Inv-loop μ-loop
 returns c =
     let l = c .before .loop in
-    let a = c .before .before .before .before .args in
-    let e : l .variable ≡ a .to = omega (arith, l .inv .1, c .loop-test .left) in
-    let t : Telling (a .v) (a .from) (a .value) (a .work .now) (l .work) (a .to) = subst (Telling (a .v) (a .from) (a .value) (a .work .now) (l .work)) e (l .inv .4) in
+    let a = c .before .before .before .before .before .before .args in
+    let e : l .variable ≡ a .to .0 = omega (arith, l .inv .1, c .loop-test .left) in
+    let t : Telling (a .v) (a .from .0) (a .value) (a .work .now) (l .work) (a .to .0) = subst (Telling (a .v) (a .from .0) (a .value) (a .work .now) (l .work)) e (l .inv .4) in
     (λ cs es f. told-filling (a .v) cs (map once es) (a .work .now) (l .work) (t .told) f, t .prefers)
 
 pub prefer-spec : {M : Type 1} → statement M
@@ -75,6 +82,8 @@ prefer-spec =
     Inv-loop
     μ-loop
     number-of-requires
+    cast-end
+    cast-variable
     loop-holds
     mul-work
     add-work

@@ -9,53 +9,43 @@ use Rattle.program.proofs.digits.digit_line.Reads as digit-line-reads
 use Rattle.program.proofs.report.put_refusal.Reads as put-refusal-reads
 use Rattle.program.proofs.respond_from.Reads as respond-from-reads
 
--- src/lib.rt:30:32
+-- src/lib.rt:37:32
 slice-aggregate-digit-line : tie.Need-slice-aggregate-digit-line
 slice-aggregate-digit-line c = search needs
 
--- src/lib.rt:30:11
+-- src/lib.rt:37:11
 digit-line-requires : tie.Need-digit-line-requires
 digit-line-requires c κs = search needs
 
--- src/lib.rt:31:41
+-- src/lib.rt:38:41
 enum-told : tie.Need-enum-told
 enum-told c = search needs
 
--- src/lib.rt:31:29
+-- src/lib.rt:38:29
 put-refusal-requires : tie.Need-put-refusal-requires
 put-refusal-requires c κs = search needs
 
--- src/lib.rt:32:26
+-- src/lib.rt:39:26
 enum-known-low : tie.Need-enum-known-low
 enum-known-low c = search needs
 
--- src/lib.rt:32:40
+-- src/lib.rt:39:40
 respond-from-requires : tie.Need-respond-from-requires
-respond-from-requires c κs = let z = c .before .before .before .before .before .before .before .before .before .before in (next-within (z .args .input .now) 0 _ _ (c .before .before .before .before .before .digit-line .ensures) _ _ (c .before .before .before .low .given .1), z .pre)
+respond-from-requires c κs =
+    let z = c .before .before .before .before .before .before .before in
+    (next-within (z .args .input .now) 0 _ _ (c .before .before .before .before .digit-line .ensures) _ _ (c .before .before .low .given .1), search needs)
 
--- src/lib.rt:26:1
-same-length : tie.Need-same-length
-same-length c = search needs
-
--- src/lib.rt:26:1
+-- src/lib.rt:34:1
 returns : tie.Need-returns
 returns c =
-    let z = c .before .before .before .before .before .before .before .before .before .before .before in
-    rw (sym (low-fault (z .args .input .now) _ (c .before .before .before .before .before .before .digit-line .ensures) (c .before .before .before .before .enum-told .given .1))) (c .before .before .put-refusal .ensures)
+    let z = c .before .before .before .before .before .before .before in
+    rw (sym (low-fault (z .args .input .now) _ (c .before .before .before .before .digit-line .ensures) (c .before .before .enum-told .given .1))) (c .put-refusal .ensures)
 
--- src/lib.rt:26:1
-same-length-2 : tie.Need-same-length-2
-same-length-2 c = search needs
-
--- src/lib.rt:26:1
-same-length-3 : tie.Need-same-length-3
-same-length-3 c = search needs
-
--- src/lib.rt:26:1
+-- src/lib.rt:34:1
 returns-2 : tie.Need-returns-2
 returns-2 c =
-    let z = c .before .before .before .before .before .before .before .before .before .before .before .before .before .before .before in
-    rw (sym (low-digit (z .args .input .now) _ (c .before .before .before .before .before .before .before .before .before .before .digit-line .ensures) _ _ (c .before .before .before .before .before .before .before .before .low .given .1))) (c .before .before .before .before .respond-from .ensures)
+    let z = c .before .before .before .before .before .before .before .before in
+    rw (sym (low-digit (z .args .input .now) _ (c .before .before .before .before .before .digit-line .ensures) _ _ (c .before .before .before .low .given .1))) (c .respond-from .ensures)
 
 pub respond-spec : {M : Type 1} → statement M
 respond-spec =
@@ -67,8 +57,5 @@ respond-spec =
     put-refusal-requires
     enum-known-low
     respond-from-requires
-    same-length
     returns
-    same-length-2
-    same-length-3
     returns-2)

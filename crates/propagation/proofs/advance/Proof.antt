@@ -1,8 +1,7 @@
 -- `propagation::advance` meets its contract.
-use mathlib.Core.Path.{ap, _∙_}
+use mathlib.Core.Path.{_∙_}
 use Prim.Native.Nat.{_*_, _<_}
 use native.Mathlib.Omega.{arith}
-use Rattle.propagation.specs.Units.{Visit}
 use Rattle.propagation.specs.Advance.{sinking}
 use Rattle.propagation.proofs.Reading.{Read}
 use Rattle.propagation.proofs.Advances.{is, code-lower, code-scan, code-result}
@@ -104,9 +103,7 @@ returns c =
     let z = c .before .before in
     let t = z .before .before .before .before .before .before in
     let s = t .before .before .before .before .before .before .before .before in
-    let e = code-result _ _ _ _ _ (s .pre .0 .held) (s .pre .1) _ _ _ _ (read t) _ (z .before .before .before .before .lower .ensures) in
-    let o = z .scan .ensures in
-    (o .0 ∙ ap (λ (r : Visit). r .len) e, o .1 ∙ ap (λ (r : Visit). r .clash) e, o .2 ∙ ap (λ (r : Visit). r .mem) e)
+    z .scan .ensures ∙ code-result _ _ _ _ _ (s .pre .0 .held) (s .pre .1) _ _ _ _ (read t) _ (z .before .before .before .before .lower .ensures)
 
 pub advance-spec : {M : Type 1} → statement M
 advance-spec =

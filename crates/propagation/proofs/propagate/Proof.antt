@@ -49,7 +49,7 @@ returns c cs h k =
     let x = t .before .before .before .args in
     let e = a .advance .ensures in
     going-stop (x .v) cs (x .start) (x .len) (x .work .now) (l .head) (l .entries) (l .work) (l .inv .0 cs h) (t .loop-test .taken)
-    (a .advance .result .len) (a .advance .result .clash) (a .advance .last .0) (e .0) (e .1) (e .2) (c .if1 .taken) k
+    (a .advance .result .len) (a .advance .result .clash) (a .advance .last .0) e (c .if1 .taken) k
 
 loop-less : tie.Need-loop-less Inv-loop μ-loop
 loop-less c =
@@ -65,7 +65,7 @@ loop-again c =
     let e = a .advance .ensures in (
       (λ cs h.
           going-turn (x .v) cs (x .start) (x .len) (x .work .now) (l .head) (l .entries) (l .work) (l .inv .0 cs h) (t .loop-test .taken)
-          (a .advance .result .len) (a .advance .result .clash) (a .advance .last .0) (e .0) (e .1) (e .2) (c .if1 .left)),
+          (a .advance .result .len) (a .advance .result .clash) (a .advance .last .0) e (c .if1 .left)),
       a .advance .kept .0 ∙ l .inv .1,
     )
 

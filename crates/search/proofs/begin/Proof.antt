@@ -57,7 +57,7 @@ returns c cs first k n =
     let a = t .before .before .before .args in
     let e = y .visit .ensures in
     begun-stop _ cs first _ k (7 * a .v + a .m) _ _ _ (omega (arith, n)) (l .inv .2) (l .inv .0 cs first k n) (t .loop-test .taken)
-    _ _ _ (e .0) (e .1) (e .2) (c .if1 .taken)
+    _ _ _ e (c .if1 .taken)
 
 add-address : tie.Need-add-address Inv-loop μ-loop
 add-address c =
@@ -77,7 +77,7 @@ loop-again c =
     let e = y .visit .ensures in (
       λ cs first k n.
           begun-turn _ cs first _ k (7 * a .v + a .m) _ _ _ (omega (arith, n)) (l .inv .2) (l .inv .0 cs first k n) (t .loop-test .taken)
-          _ _ _ (e .0) (e .1) (e .2) (c .if1 .left),
+          _ _ _ e (c .if1 .left),
       y .visit .kept .0 ∙ l .inv .1,
       omega (arith, l .inv .2),
     )

@@ -69,38 +69,43 @@ part-size-of-end c = search needs
 size-of-requires : tie.Need-size-of-requires
 size-of-requires c κs = search needs
 
+enum-known-size : tie.Need-enum-known-size
+enum-known-size c = search needs
+
+enum-told : tie.Need-enum-told
+enum-told c = search needs
+
 returns-4 : tie.Need-returns-4
 returns-4 c =
-    let a = c .before .before .before .before .before .before .before .before .before .before .before .before .before .before .args in
-    let f = c .before .before .before .before .before .before .before .before .before .before .line-end in
+    let a = c .before .before .before .before .before .before .before .before .before .before .before .before .before .before .before .args in
+    let f = c .before .before .before .before .before .before .before .before .before .before .before .line-end in
     let n : suc (f .result) ≡ f .result + 1 = omega arith in
-    sym (no-size (signatureIn (a .sheet .now) (a .signature)) (a .case .now) _ _ (ended (a .case .now) 0 _ (f .ensures) (c .before .before .before .before .before .before .before .before .before .if1 .left)) (sym (c .before .before .before .before .before .before .same .ensures) ∙ not-false _ (c .before .before .before .before .before .if2 .left)) _ _
-    (ap (λ (j : ℕ). cutLine (drop j (a .case .now))) n ∙ ended (a .case .now) _ _ (c .before .before .before .before .line-end2 .ensures) (c .before .before .before .if3 .left)) (sym (c .before .size-of .ensures) ∙ c .if4 .taken))
+    sym (no-size (signatureIn (a .sheet .now) (a .signature)) (a .case .now) _ _ (ended (a .case .now) 0 _ (f .ensures) (c .before .before .before .before .before .before .before .before .before .before .if1 .left)) (sym (c .before .before .before .before .before .before .before .same .ensures) ∙ not-false _ (c .before .before .before .before .before .before .if2 .left)) _ _
+    (ap (λ (j : ℕ). cutLine (drop j (a .case .now))) n ∙ ended (a .case .now) _ _ (c .before .before .before .before .before .line-end2 .ensures) (c .before .before .before .before .if3 .left)) (sym (c .before .before .size-of .ensures) ∙ c .enum-told .given .1))
 
 add-read-tables : tie.Need-add-read-tables
 add-read-tables c = search needs
 
 read-tables-requires : tie.Need-read-tables-requires
 read-tables-requires c κs =
-    let s = c .before .before .before .before .before .before .before .before .before .before .before .before .before .before .before in
-    let line = part (s .args .case .now) (c .before .before .before .before .before .before .before .before .before .before .before .line-end .result + 1) (c .before .before .before .before .before .line-end2 .result) in (
-      omega (arith, c .before .before .before .before .before .line-end2 .ensures .within, c .before .before .before .before .if3 .left),
-      (s .pre .0, (omega (arith, c .before .if4 .left), (rw (c .before .before .size-of .ensures) (size-within (afterKey (bytes "size=") line)), s .pre .1))),
-    )
+    let s = c .before .before .before .before .before .before .before .before .before .before .before .before .before .before .before .before .before in
+    let line = part (s .args .case .now) (c .before .before .before .before .before .before .before .before .before .before .before .before .before .line-end .result + 1) (c .before .before .before .before .before .before .before .line-end2 .result) in
+    let w = size-within (afterKey (bytes "size=") line) _ (sym (c .before .before .before .before .size-of .ensures) ∙ c .before .before .size .given .1) in
+    (omega (arith, c .before .before .before .before .before .before .before .line-end2 .ensures .within, c .before .before .before .before .before .before .if3 .left), (s .pre .0, (w .0, (w .1, s .pre .1))))
 
 same-length : tie.Need-same-length
 same-length c = search needs
 
 returns-5 : tie.Need-returns-5
 returns-5 c =
-    let a = c .before .before .before .before .before .before .before .before .before .before .before .before .before .before .before .before .before .before .args in
-    let f = c .before .before .before .before .before .before .before .before .before .before .before .before .before .before .line-end in
+    let a = c .before .before .before .before .before .before .before .before .before .before .before .before .before .before .before .before .before .before .before .before .args in
+    let f = c .before .before .before .before .before .before .before .before .before .before .before .before .before .before .before .before .line-end in
     let n : suc (f .result) ≡ f .result + 1 = omega arith in
-    let m : suc (c .before .before .before .before .before .before .before .before .line-end2 .result) ≡ c .before .before .before .before .before .before .before .before .line-end2 .result + 1 = omega arith in
+    let m : suc (c .before .before .before .before .before .before .before .before .before .before .line-end2 .result) ≡ c .before .before .before .before .before .before .before .before .before .before .line-end2 .result + 1 = omega arith in
     let g = signatureIn (a .sheet .now) (a .signature) in
-    c .before .before .read-tables .ensures ∙ ap (λ (j : ℕ). caseOfTables (c .before .before .before .before .before .size-of .result) g (drop j (a .case .now))) (sym m)
-    ∙ sym (tables-left g (a .case .now) _ _ (ended (a .case .now) 0 _ (f .ensures) (c .before .before .before .before .before .before .before .before .before .before .before .before .before .if1 .left)) (sym (c .before .before .before .before .before .before .before .before .before .before .same .ensures) ∙ not-false _ (c .before .before .before .before .before .before .before .before .before .if2 .left)) _ _
-    (ap (λ (j : ℕ). cutLine (drop j (a .case .now))) n ∙ ended (a .case .now) _ _ (c .before .before .before .before .before .before .before .before .line-end2 .ensures) (c .before .before .before .before .before .before .before .if3 .left)) _ (c .before .before .before .before .before .size-of .ensures) (c .before .before .before .before .if4 .left))
+    c .before .before .read-tables .ensures ∙ ap (λ (j : ℕ). caseOfTables (c .before .before .before .before .before .size .given .0 .0 .0) g (drop j (a .case .now))) (sym m)
+    ∙ sym (tables-left g (a .case .now) _ _ (ended (a .case .now) 0 _ (f .ensures) (c .before .before .before .before .before .before .before .before .before .before .before .before .before .before .before .if1 .left)) (sym (c .before .before .before .before .before .before .before .before .before .before .before .before .same .ensures) ∙ not-false _ (c .before .before .before .before .before .before .before .before .before .before .before .if2 .left)) _ _
+    (ap (λ (j : ℕ). cutLine (drop j (a .case .now))) n ∙ ended (a .case .now) _ _ (c .before .before .before .before .before .before .before .before .before .before .line-end2 .ensures) (c .before .before .before .before .before .before .before .before .before .if3 .left)) _ (sym (c .before .before .before .before .before .before .before .size-of .ensures) ∙ c .before .before .before .before .before .size .given .1))
 
 pub read-case-spec : {M : Type 1} → statement M
 read-case-spec =
@@ -121,6 +126,8 @@ read-case-spec =
     part-size-of-start
     part-size-of-end
     size-of-requires
+    enum-known-size
+    enum-told
     returns-4
     add-read-tables
     read-tables-requires

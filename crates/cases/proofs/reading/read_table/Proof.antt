@@ -15,7 +15,7 @@ line-end-requires c κs = search needs
 returns : tie.Need-returns
 returns c =
     let a = c .before .before .before .before .before .args in
-    line-fault (a .case .now) (a .at) _ (c .before .line-end .ensures) (a .sheet .now) (a .symbol) (a .size) (a .base) (a .cells .now) (c .if1 .taken)
+    line-fault (a .case .now) (a .at) _ (c .before .line-end .ensures) (a .sheet .now) (a .symbol) (a .size .0) (a .base .0) (a .cells .now) (c .if1 .taken)
 
 add-name-end : tie.Need-add-name-end
 add-name-end c = search needs
@@ -46,7 +46,7 @@ returns-2 c =
     let a = c .before .before .before .before .before .before .before .before .before .before .args in
     let w = c .before .starts-with in
     let z : w .result ≡ false = not-true _ (c .if2 .taken) in
-    name-fault (a .case .now) (a .at) _ (c .before .before .before .before .before .before .line-end .ensures) (a .sheet .now) (a .symbol) (a .size) (a .base) (a .cells .now) (c .before .before .before .before .before .if1 .left) (rw z at (w .ensures))
+    name-fault (a .case .now) (a .at) _ (c .before .before .before .before .before .before .line-end .ensures) (a .sheet .now) (a .symbol) (a .size .0) (a .base .0) (a .cells .now) (c .before .before .before .before .before .if1 .left) (rw z at (w .ensures))
 
 add-from : tie.Need-add-from
 add-from c = search needs
@@ -63,7 +63,7 @@ sub-if3 c =
     let a = s .args in
     let w = c .before .before .before .before .starts-with in
     let z : w .result ≡ true = not-false _ (c .before .before .before .if2 .left) in
-    from-within (a .case .now) (a .at) _ (c .before .before .before .before .before .before .before .before .before .line-end .ensures) (a .sheet .now) (a .symbol) (a .size) (a .base) (a .cells .now) (c .before .before .before .before .before .before .before .before .if1 .left) (rw z at (w .ensures)) (s .pre .1 .0)
+    from-within (a .case .now) (a .at) _ (c .before .before .before .before .before .before .before .before .before .line-end .ensures) (a .sheet .now) (a .symbol) (a .size .0) (a .base .0) (a .cells .now) (c .before .before .before .before .before .before .before .before .if1 .left) (rw z at (w .ensures)) (s .pre .named)
 
 mul-if3 : tie.Need-mul-if3
 mul-if3 c = search needs
@@ -74,7 +74,7 @@ returns-3 c =
     let a = s .args in
     let w = c .before .before .before .before .before .starts-with in
     let z : w .result ≡ true = not-false _ (c .before .before .before .before .if2 .left) in
-    length-fault (a .case .now) (a .at) _ (c .before .before .before .before .before .before .before .before .before .before .line-end .ensures) (a .sheet .now) (a .symbol) (a .size) (a .base) (a .cells .now) (c .before .before .before .before .before .before .before .before .before .if1 .left) (rw z at (w .ensures)) (s .pre .1 .0)
+    length-fault (a .case .now) (a .at) _ (c .before .before .before .before .before .before .before .before .before .before .line-end .ensures) (a .sheet .now) (a .symbol) (a .size .0) (a .base .0) (a .cells .now) (c .before .before .before .before .before .before .before .before .before .if1 .left) (rw z at (w .ensures)) (s .pre .named)
     (λ q. c .if3 .taken (q ∙ ap (λ (n : ℕ). 2 * n) (sym (c .before .power .ensures))))
 
 sub-read-values : tie.Need-sub-read-values
@@ -83,7 +83,7 @@ sub-read-values c =
     let a = s .args in
     let w = c .before .before .before .before .before .starts-with in
     let z : w .result ≡ true = not-false _ (c .before .before .before .before .if2 .left) in
-    from-within (a .case .now) (a .at) _ (c .before .before .before .before .before .before .before .before .before .before .line-end .ensures) (a .sheet .now) (a .symbol) (a .size) (a .base) (a .cells .now) (c .before .before .before .before .before .before .before .before .before .if1 .left) (rw z at (w .ensures)) (s .pre .1 .0)
+    from-within (a .case .now) (a .at) _ (c .before .before .before .before .before .before .before .before .before .before .line-end .ensures) (a .sheet .now) (a .symbol) (a .size .0) (a .base .0) (a .cells .now) (c .before .before .before .before .before .before .before .before .before .if1 .left) (rw z at (w .ensures)) (s .pre .named)
 
 part-read-values-start : tie.Need-part-read-values-start
 part-read-values-start c =
@@ -91,7 +91,7 @@ part-read-values-start c =
     let a = s .args in
     let w = c .before .before .before .before .before .starts-with in
     let z : w .result ≡ true = not-false _ (c .before .before .before .before .if2 .left) in
-    from-within (a .case .now) (a .at) _ (c .before .before .before .before .before .before .before .before .before .before .line-end .ensures) (a .sheet .now) (a .symbol) (a .size) (a .base) (a .cells .now) (c .before .before .before .before .before .before .before .before .before .if1 .left) (rw z at (w .ensures)) (s .pre .1 .0)
+    from-within (a .case .now) (a .at) _ (c .before .before .before .before .before .before .before .before .before .before .line-end .ensures) (a .sheet .now) (a .symbol) (a .size .0) (a .base .0) (a .cells .now) (c .before .before .before .before .before .before .before .before .before .if1 .left) (rw z at (w .ensures)) (s .pre .named)
 
 part-read-values-end : tie.Need-part-read-values-end
 part-read-values-end c = search needs
@@ -110,8 +110,8 @@ returns-4 c =
     let v = c .before .before .before .read-values in
     let z : w .result ≡ true = not-false _ (c .before .before .before .before .before .before .before .before .before .before .if2 .left) in
     let q : v .result ≡ false = not-true _ (c .if4 .taken) in
-    values-fault (a .case .now) (a .at) _ (c .before .before .before .before .before .before .before .before .before .before .before .before .before .before .before .before .line-end .ensures) (a .sheet .now) (a .symbol) (a .size) (a .base) (a .cells .now) (c .before .before .before .before .before .before .before .before .before .before .before .before .before .before .before .if1 .left) (rw z at (w .ensures)) (s .pre .1 .0)
-    (c .before .before .before .before .before .before .if3 .left ∙ ap (λ (n : ℕ). 2 * n) (c .before .before .before .before .before .before .before .power .ensures)) (s .pre .1 .1 .1 .0) _ (rw (c .before .before .before .before .before .before .before .power .ensures, q) at (v .ensures))
+    values-fault (a .case .now) (a .at) _ (c .before .before .before .before .before .before .before .before .before .before .before .before .before .before .before .before .line-end .ensures) (a .sheet .now) (a .symbol) (a .size .0) (a .base .0) (a .cells .now) (c .before .before .before .before .before .before .before .before .before .before .before .before .before .before .before .if1 .left) (rw z at (w .ensures)) (s .pre .named)
+    (c .before .before .before .before .before .before .if3 .left ∙ ap (λ (n : ℕ). 2 * n) (c .before .before .before .before .before .before .before .power .ensures)) (s .pre .positive) _ (rw (c .before .before .before .before .before .before .before .power .ensures, q) at (v .ensures))
 
 add-t13 : tie.Need-add-t13
 add-t13 c = search needs
@@ -127,8 +127,8 @@ returns-5 c =
     let v = c .before .before .before .read-values in
     let z : w .result ≡ true = not-false _ (c .before .before .before .before .before .before .before .before .before .before .if2 .left) in
     let q : v .result ≡ true = not-false _ (c .if4 .left) in
-    table-next (a .case .now) (a .at) _ (c .before .before .before .before .before .before .before .before .before .before .before .before .before .before .before .before .line-end .ensures) (a .sheet .now) (a .symbol) (a .size) (a .base) (a .cells .now) (c .before .before .before .before .before .before .before .before .before .before .before .before .before .before .before .if1 .left) (rw z at (w .ensures)) (s .pre .1 .0)
-    (c .before .before .before .before .before .before .if3 .left ∙ ap (λ (n : ℕ). 2 * n) (c .before .before .before .before .before .before .before .power .ensures)) (s .pre .1 .1 .1 .0) _ (rw (c .before .before .before .before .before .before .before .power .ensures, q) at (v .ensures))
+    table-next (a .case .now) (a .at) _ (c .before .before .before .before .before .before .before .before .before .before .before .before .before .before .before .before .line-end .ensures) (a .sheet .now) (a .symbol) (a .size .0) (a .base .0) (a .cells .now) (c .before .before .before .before .before .before .before .before .before .before .before .before .before .before .before .if1 .left) (rw z at (w .ensures)) (s .pre .named)
+    (c .before .before .before .before .before .before .if3 .left ∙ ap (λ (n : ℕ). 2 * n) (c .before .before .before .before .before .before .before .power .ensures)) (s .pre .positive) _ (rw (c .before .before .before .before .before .before .before .power .ensures, q) at (v .ensures))
 
 pub read-table-spec : {M : Type 1} → statement M
 read-table-spec =

@@ -14,7 +14,7 @@ use Rattle.cases.proofs.reading.read_tables.Statement.{statement}
 use Rattle.cases.proofs.reading.read_tables.Tie as tie
 
 abbrev Inv-loop : tie.InvT-loop
-Inv-loop case at sheet size cells₀ signature next₀ base₀ i₀ cells next base i = TablesRead size (signatureIn sheet signature) case at next base cells i × (length cells ≡ length cells₀)
+Inv-loop case at sheet size cells₀ signature next₀ base₀ i₀ cells next base i = TablesRead (size .0) (signatureIn sheet signature) case at next base cells i × (length cells ≡ length cells₀)
 
 abbrev μ-loop : tie.MeasureT-loop
 μ-loop case at sheet size cells₀ signature next₀ base₀ i₀ cells next base i = signature .count - i
@@ -23,7 +23,7 @@ loop-holds : tie.Need-loop-holds Inv-loop μ-loop
 loop-holds c =
     let s = c .before .before .before in
     let a = s .args in
-    (none-read (a .size) (signatureIn (a .sheet .now) (a .t4)) (a .case .now) (a .at) (a .cells .now) (s .pre .0), refl)
+    (none-read (a .size .0) (signatureIn (a .sheet .now) (a .t4)) (a .case .now) (a .at) (a .cells .now) (s .pre .0), refl)
 
 mul-symbol : tie.Need-mul-symbol Inv-loop μ-loop
 mul-symbol c = search needs
@@ -38,28 +38,22 @@ read-table-requires c κs =
     let l = c .before .before .before .loop in
     let r = s .pre .1 .0 in
     let here : l .i < a .t4 .count = c .before .before .loop-test .taken in
-    let n = count-signatureIn (a .t4) (r .limited) (a .sheet .now) in (
-      l .inv .0 .within,
-      (
-        name-within (a .sheet .now) (a .t4) r (l .i) here,
-        (
-          arity-at (a .t4) (r .limited) (l .i) here,
-          (
-            s .pre .1 .1 .0,
-            (
-              s .pre .1 .1 .1 .0,
-              omega (
-                arith,
-                room-left (l .inv .0) (s .pre .1 .1 .1 .0) (limited-small (a .sheet .now) (a .t4) (r .limited)) (getD (a .t4 .symbols) (l .i) blank .arity) (omega (arith, n))
-                    (ap (λ (f : Symbol). f .arity) (symbolAt-signatureIn (a .t4) (r .limited) (a .sheet .now) (l .i) here)),
-                l .inv .1,
-                s .pre .1 .1 .1 .1,
-              ),
-            ),
-          ),
-        ),
-      ),
-    )
+    let n = count-signatureIn (a .t4) (r .limited) (a .sheet .now) in
+    record {
+      within = l .inv .0 .within;
+      named = name-within (a .sheet .now) (a .t4) r (l .i) here;
+      arity = arity-at (a .t4) (r .limited) (l .i) here;
+      positive = s .pre .1 .1 .0;
+      size = s .pre .1 .1 .1 .0;
+      room =
+          omega (
+            arith,
+            room-left (l .inv .0) (s .pre .1 .1 .1 .0) (limited-small (a .sheet .now) (a .t4) (r .limited)) (getD (a .t4 .symbols) (l .i) blank .arity) (omega (arith, n))
+                (ap (λ (f : Symbol). f .arity) (symbolAt-signatureIn (a .t4) (r .limited) (a .sheet .now) (l .i) here)),
+            l .inv .1,
+            s .pre .1 .1 .1 .1,
+          );
+    }
 
 enum-known-after : tie.Need-enum-known-after Inv-loop μ-loop
 enum-known-after c = search needs
@@ -67,8 +61,8 @@ enum-known-after c = search needs
 enum-told : tie.Need-enum-told Inv-loop μ-loop
 enum-told c = search needs
 
-add-t21 : tie.Need-add-t21 Inv-loop μ-loop
-add-t21 c = omega (arith, c .before .before .before .before .before .before .before .before .before .before .before .before .pre .1 .0 .limited .count, c .before .before .before .before .before .before .before .loop-test .taken)
+add-t22 : tie.Need-add-t22 Inv-loop μ-loop
+add-t22 c = omega (arith, c .before .before .before .before .before .before .before .before .before .before .before .before .pre .1 .0 .limited .count, c .before .before .before .before .before .before .before .loop-test .taken)
 
 same-length : tie.Need-same-length Inv-loop μ-loop
 same-length c = c .before .before .before .before .read-table .kept .1 .1 .1 .1 .1 .0 ∙ c .before .before .before .before .before .before .before .before .loop .inv .1
@@ -98,10 +92,10 @@ add-base c =
     omega (
       arith,
       l .inv .0 .based,
-      base-within (signatureIn (s .args .sheet .now) (s .args .t4)) (s .args .size) (l .i) (s .pre .1 .1 .1 .0) g (l .inv .0 .counted),
+      base-within (signatureIn (s .args .sheet .now) (s .args .t4)) (s .args .size .0) (l .i) (s .pre .1 .1 .1 .0) g (l .inv .0 .counted),
       r .limited .count,
       c .power .ensures,
-      power-within (s .args .size) (getD (s .args .t4 .symbols) (l .i) blank .arity) (s .pre .1 .1 .1 .0) (omega (arith, arity-at (s .args .t4) (r .limited) (l .i) here)),
+      power-within (s .args .size .0) (getD (s .args .t4 .symbols) (l .i) blank .arity) (s .pre .1 .1 .1 .0) (omega (arith, arity-at (s .args .t4) (r .limited) (l .i) here)),
     )
 
 add-i : tie.Need-add-i Inv-loop μ-loop
@@ -123,8 +117,8 @@ loop-again c =
       c .before .before .before .before .before .before .before .read-table .kept .1 .1 .1 .1 .1 .0 ∙ l .inv .1,
     )
 
-add-t25 : tie.Need-add-t25 Inv-loop μ-loop
-add-t25 c = omega (arith, c .before .before .loop .inv .0 .counted, count-signatureIn (c .before .before .before .before .before .before .args .t4) (c .before .before .before .before .before .before .pre .1 .0 .limited) (c .before .before .before .before .before .before .args .sheet .now), c .before .before .before .before .before .before .pre .1 .0 .limited .count)
+add-t26 : tie.Need-add-t26 Inv-loop μ-loop
+add-t26 c = omega (arith, c .before .before .loop .inv .0 .counted, count-signatureIn (c .before .before .before .before .before .before .args .t4) (c .before .before .before .before .before .before .pre .1 .0 .limited) (c .before .before .before .before .before .before .args .sheet .now), c .before .before .before .before .before .before .pre .1 .0 .limited .count)
 
 same-length-2 : tie.Need-same-length-2 Inv-loop μ-loop
 same-length-2 c = c .before .before .loop .inv .1
@@ -156,7 +150,7 @@ read-tables-spec =
     read-table-requires
     enum-known-after
     enum-told
-    add-t21
+    add-t22
     same-length
     returns
     cast-power
@@ -165,7 +159,7 @@ read-tables-spec =
     add-i
     loop-less
     loop-again
-    add-t25
+    add-t26
     same-length-2
     returns-2
     same-length-3

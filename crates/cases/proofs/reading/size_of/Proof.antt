@@ -1,8 +1,9 @@
 -- `size_of` meets its contract.
-use mathlib.Core.Path.{_≡_}
+use mathlib.Core.Path.{_≡_, _∙_}
 use mathlib.Core.Bool.{true, false}
 use borrow.Author.Tests.{not-true, not-false}
-use Rattle.cases.proofs.Headings.{no-key, other-length, too-small, too-big, size-is}
+use native.Mathlib.Omega.{arith}
+use Rattle.cases.proofs.Headings.{no-key, other-length, no-digit, digit-checked}
 use borrow.Author.Needs.{needs}
 use Rattle.cases.proofs.reading.size_of.Statement.{statement}
 use Rattle.cases.proofs.reading.size_of.Tie as tie
@@ -32,25 +33,19 @@ returns-3 : tie.Need-returns-3
 returns-3 c =
     let w = c .before .before .before .before .starts-with in
     let z : w .result ≡ true = not-false _ (c .before .before .before .if1 .left) in
-    too-small (c .before .before .before .before .before .before .before .args .line .now) (rw z at (w .ensures)) (c .before .before .if2 .left) (c .if3 .taken)
+    no-digit (c .before .before .before .before .before .before .before .args .line .now) (rw z at (w .ensures)) (c .before .before .if2 .left) (c .if3 .taken)
+
+cast-checked : tie.Need-cast-checked
+cast-checked c = omega (arith, c .before .shared-slice-known2 .given 5)
+
+checked-requires : tie.Need-checked-requires
+checked-requires c κs = search needs
 
 returns-4 : tie.Need-returns-4
 returns-4 c =
     let w = c .before .before .before .before .before .starts-with in
     let z : w .result ≡ true = not-false _ (c .before .before .before .before .if1 .left) in
-    too-big (c .before .before .before .before .before .before .before .before .args .line .now) (rw z at (w .ensures)) (c .before .before .before .if2 .left) (c .before .if3 .left) (c .if4 .taken)
-
-sub-result : tie.Need-sub-result
-sub-result c = search needs
-
-cast-result : tie.Need-cast-result
-cast-result c = search needs
-
-returns-5 : tie.Need-returns-5
-returns-5 c =
-    let w = c .before .before .before .before .before .starts-with in
-    let z : w .result ≡ true = not-false _ (c .before .before .before .before .if1 .left) in
-    size-is (c .before .before .before .before .before .before .before .before .args .line .now) (rw z at (w .ensures)) (c .before .before .before .if2 .left) (c .before .if3 .left) (c .if4 .left)
+    c .checked .ensures ∙ digit-checked (c .before .before .before .before .before .before .before .before .args .line .now) (rw z at (w .ensures)) (c .before .before .before .if2 .left) (c .before .if3 .left)
 
 pub size-of-spec : {M : Type 1} → statement M
 size-of-spec =
@@ -62,7 +57,6 @@ size-of-spec =
     returns-2
     shared-slice-read-b
     returns-3
-    returns-4
-    sub-result
-    cast-result
-    returns-5)
+    cast-checked
+    checked-requires
+    returns-4)

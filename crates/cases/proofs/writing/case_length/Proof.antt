@@ -9,13 +9,13 @@ use Rattle.cases.proofs.writing.case_length.Statement.{statement}
 use Rattle.cases.proofs.writing.case_length.Tie as tie
 
 abbrev Inv-loop : tie.InvT-loop
-Inv-loop size signature n₀ i₀ n i = (i ≤ signature .count) × Measured size signature i n
+Inv-loop size signature n₀ i₀ n i = (i ≤ signature .count) × Measured (size .0) signature i n
 
 abbrev μ-loop : tie.MeasureT-loop
 μ-loop size signature n₀ i₀ n i = signature .count - i
 
 loop-holds : tie.Need-loop-holds Inv-loop μ-loop
-loop-holds c = (omega arith, none-measured (c .args .size) (c .args .t1))
+loop-holds c = (omega arith, none-measured (c .args .size .0) (c .args .t1))
 
 mul-symbol : tie.Need-mul-symbol Inv-loop μ-loop
 mul-symbol c = omega (arith, c .before .loop .inv .0, c .before .before .pre .1 .1 .0 .limited .count)
@@ -52,7 +52,7 @@ mul-n c =
     omega (
       arith,
       c .power .ensures,
-      table-within (s .args .size) (getD (s .args .t1 .symbols) (l .i) blank .arity) (s .pre .0) (arity-at (s .args .t1) (s .pre .1 .1 .0 .limited) (l .i) (c .before .before .before .before .loop-test .taken)),
+      table-within (s .args .size .0) (getD (s .args .t1 .symbols) (l .i) blank .arity) (s .pre .0) (arity-at (s .args .t1) (s .pre .1 .1 .0 .limited) (l .i) (c .before .before .before .before .loop-test .taken)),
     )
 
 add-n-3 : tie.Need-add-n-3 Inv-loop μ-loop
@@ -63,7 +63,7 @@ add-n-3 c =
     omega (
       arith,
       c .power .ensures,
-      table-within (s .args .size) (getD (s .args .t1 .symbols) (l .i) blank .arity) (s .pre .0) (arity-at (s .args .t1) (s .pre .1 .1 .0 .limited) (l .i) t),
+      table-within (s .args .size .0) (getD (s .args .t1 .symbols) (l .i) blank .arity) (s .pre .0) (arity-at (s .args .t1) (s .pre .1 .1 .0 .limited) (l .i) t),
       l .inv .1 .within,
       s .pre .1 .1 .0 .limited .count,
       name-within (s .pre .1 .0) (s .args .t1) (s .pre .1 .1 .0) (l .i) t,
@@ -83,8 +83,8 @@ loop-again c =
     let t = c .before .before .before .before .loop-test .taken in (
       omega arith,
       rw (c .power .ensures)
-          (one-measured (s .args .size) (s .args .t1) (l .i) (l .n) t
-          (table-within (s .args .size) (getD (s .args .t1 .symbols) (l .i) blank .arity) (s .pre .0) (arity-at (s .args .t1) (s .pre .1 .1 .0 .limited) (l .i) t))
+          (one-measured (s .args .size .0) (s .args .t1) (l .i) (l .n) t
+          (table-within (s .args .size .0) (getD (s .args .t1 .symbols) (l .i) blank .arity) (s .pre .0) (arity-at (s .args .t1) (s .pre .1 .1 .0 .limited) (l .i) t))
           (omega (arith, name-within (s .pre .1 .0) (s .args .t1) (s .pre .1 .1 .0) (l .i) t, s .pre .1 .1 .1)) (l .inv .1)),
     )
 
@@ -92,7 +92,7 @@ returns : tie.Need-returns Inv-loop μ-loop
 returns c =
     let s = c .before .before in
     let l = c .before .loop in
-    all-measured (s .args .size) (s .args .t1) (l .i) (l .n) (omega (arith, l .inv .0, c .loop-test .left)) (l .inv .1)
+    all-measured (s .args .size .0) (s .args .t1) (l .i) (l .n) (omega (arith, l .inv .0, c .loop-test .left)) (l .inv .1)
 
 pub case-length-spec : {M : Type 1} → statement M
 case-length-spec =

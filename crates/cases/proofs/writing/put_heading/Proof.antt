@@ -28,8 +28,8 @@ add-out-2 c = search needs
 
 slice-write-out-2 : tie.Need-slice-write-out-2
 slice-write-out-2 c =
-    let p = c .before .before .put-bytes in
-    simp length-set (omega (arith, p .ensures .1, p .kept .0, c .before .before .before .before .before .before .pre .1))
+    let p = c .before .before .before .put-bytes in
+    simp length-set (omega (arith, p .ensures .1, p .kept .0, c .before .before .before .before .before .before .before .pre .1))
 
 add-result : tie.Need-add-result
 add-result c = search needs
@@ -39,9 +39,9 @@ same-length c = search needs
 
 returns : tie.Need-returns
 returns c =
-    let p = c .before .before .put-bytes in
-    let a = c .before .before .before .before .before .before .args in
-    (two-more (a .out .now) (p .last .0) 0 (p .result) (bytes "case=1\nsize=") (48 + a .size) 10 (p .ensures .0) (p .ensures .1) (omega (arith, p .ensures .1, c .before .before .before .before .before .before .pre .1)), omega (arith, p .ensures .1))
+    let p = c .before .before .before .put-bytes in
+    let a = c .before .before .before .before .before .before .before .args in
+    (two-more (a .out .now) (p .last .0) 0 (p .result) (bytes "case=1\nsize=") (48 + a .size .0) 10 (p .ensures .0) (p .ensures .1) (omega (arith, p .ensures .1, c .before .before .before .before .before .before .before .pre .1)), omega (arith, p .ensures .1))
 
 pub put-heading-spec : {M : Type 1} → statement M
 put-heading-spec =

@@ -22,7 +22,7 @@ put-bytes-requires : tie.Need-put-bytes-requires
 put-bytes-requires c κs =
     let s = c .before .before .before .before .before .before in
     let a = s .args in
-    omega (arith, lent-length (a .sheet .now) (a .symbol) (s .pre .0), line-length (a .sheet .now) (a .symbol) (s .pre .0) (a .table .now) (s .pre .1 .0), s .pre .1 .1 .1)
+    omega (arith, lent-length (a .sheet .now) (a .symbol) (s .pre .named), line-length (a .sheet .now) (a .symbol) (s .pre .named) (a .table .now) (s .pre .some-value), s .pre .room)
 
 least-byte-requires : tie.Need-least-byte-requires
 least-byte-requires c κs = search needs
@@ -34,14 +34,14 @@ put-values-requires c κs =
     let p = c .before .before .before .before .put-bytes in (
       rw (c .least-byte .ensures) (least-small (a .symbol .function)),
       (
-        s .pre .1 .1 .0,
+        s .pre .below,
         omega (
           arith,
           p .ensures .1,
           p .kept .0,
-          lent-length (a .sheet .now) (a .symbol) (s .pre .0),
-          line-length (a .sheet .now) (a .symbol) (s .pre .0) (a .table .now) (s .pre .1 .0),
-          s .pre .1 .1 .1,
+          lent-length (a .sheet .now) (a .symbol) (s .pre .named),
+          line-length (a .sheet .now) (a .symbol) (s .pre .named) (a .table .now) (s .pre .some-value),
+          s .pre .room,
         ),
       ),
     )
@@ -55,13 +55,13 @@ returns c =
     let a = s .args in
     let p = c .before .before .before .before .before .before .before .put-bytes in
     let q = c .before .before .put-values in (
-      table-written (a .sheet .now) (a .symbol) (s .pre .0) (a .table .now) (s .pre .1 .0) (a .out .now) (p .last .0) (q .last .0) (a .at) _ _ (s .pre .1 .1 .1) (c .before .before .before .least-byte .ensures) (p .ensures .0) (p .ensures .1) (q .ensures .0),
+      table-written (a .sheet .now) (a .symbol) (s .pre .named) (a .table .now) (s .pre .some-value) (a .out .now) (p .last .0) (q .last .0) (a .at) _ _ (s .pre .room) (c .before .before .before .least-byte .ensures) (p .ensures .0) (p .ensures .1) (q .ensures .0),
       omega (
         arith,
         p .ensures .1,
         q .ensures .1,
-        lent-length (a .sheet .now) (a .symbol) (s .pre .0),
-        line-length (a .sheet .now) (a .symbol) (s .pre .0) (a .table .now) (s .pre .1 .0),
+        lent-length (a .sheet .now) (a .symbol) (s .pre .named),
+        line-length (a .sheet .now) (a .symbol) (s .pre .named) (a .table .now) (s .pre .some-value),
       ),
     )
 

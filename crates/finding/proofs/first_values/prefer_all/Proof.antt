@@ -9,7 +9,7 @@ use lib.ListN.{length}
 use Rattle.theory.specs.Propositional.{propBase}
 use Rattle.theory.specs.Walk.{yesFirst}
 use Rattle.propagation.specs.WorkArea.{Prefers}
-use Rattle.loading.specs.Loading.{Entered}
+use Rattle.loading.specs.Loading.{KeepsClauses}
 use Rattle.syntax.specs.Signatures.{signatureIn}
 use Rattle.clauses.proofs.Held.{arity-at}
 use Rattle.finding.proofs.FirstValues.{base-zero, base-more, base-room, base-end, block-first}
@@ -24,9 +24,9 @@ abbrev Inv-loop : tie.InvT-loop
 Inv-loop size v work₀ signature from₀ i₀ work from i =
     (i ≤ signature .count)
     × (length work ≡ length work₀)
-    × ((sheet : List ℕ) → from ≡ propBase size (signatureIn sheet signature) i)
-    × ((cs es : List (List ℕ)) → Entered v cs es work₀ → Entered v cs es work)
-    × ((sheet : List ℕ) → Prefers v from (yesFirst size (signatureIn sheet signature)) work)
+    × ((sheet : List ℕ) → from .0 ≡ propBase (size .0) (signatureIn sheet signature) i)
+    × KeepsClauses v work₀ work
+    × ((sheet : List ℕ) → Prefers v (from .0) (yesFirst (size .0) (signatureIn sheet signature)) work)
 
 abbrev μ-loop : tie.MeasureT-loop
 μ-loop size v work₀ signature from₀ i₀ work from i = signature .count - i
@@ -35,7 +35,7 @@ abbrev μ-loop : tie.MeasureT-loop
 loop-holds : tie.Need-loop-holds Inv-loop μ-loop
 loop-holds c =
     let s = c .before in
-    (omega arith, refl, base-zero (s .args .t1) (s .pre .0 .0) (s .args .size) (s .args .v) (s .pre .1 .0), λ cs es h. h, λ sheet x l. absurd (omega arith))
+    (omega arith, refl, base-zero (s .args .t1) (s .pre .0 .0) (s .args .size .0) (s .args .v) (s .pre .1 .0), λ cs es h. h, λ sheet x l. absurd (omega arith))
 
 -- src/first_values.rt:27:22
 mul-symbol : tie.Need-mul-symbol Inv-loop μ-loop
@@ -51,25 +51,21 @@ block-size-requires c κs =
     let s = c .before .before .before .before in
     (arity-at (s .args .t1) (s .pre .0 .0) (c .before .before .loop .i) (omega arith), s .pre .0 .1)
 
--- src/first_values.rt:28:25
-cast-to : tie.Need-cast-to Inv-loop μ-loop
-cast-to c = search needs
-
 -- src/first_values.rt:28:18
-add-to : tie.Need-add-to Inv-loop μ-loop
-add-to c =
-    let s = c .before .before .before .before .before in
-    let l = c .before .before .before .loop in
-    omega (arith, base-room (s .args .t1) (s .pre .0 .0) (s .args .size) (s .args .v) (s .pre .1 .0) (l .i) (l .from) (c .block-size .result) (omega arith) (l .inv .2) (c .block-size .ensures), s .fits .v)
+add-end : tie.Need-add-end Inv-loop μ-loop
+add-end c =
+    let s = c .before .before .before .before .before .before in
+    let l = c .before .before .before .before .loop in
+    omega (arith, base-room (s .args .t1) (s .pre .0 .0) (s .args .size .0) (s .args .v) (s .pre .1 .0) (l .i) (l .from .0) (c .before .block-size .result) (omega arith) (l .inv .2) (c .before .block-size .ensures), s .pre .1 .1 .small)
 
 -- src/first_values.rt:29:9
 prefer-requires : tie.Need-prefer-requires Inv-loop μ-loop
 prefer-requires c κs =
-    let s = c .before .before .before .before .before .before in
-    let l = c .before .before .before .before .loop in
-    let b = c .before .block-size in (
-      omega arith,
-      (base-room (s .args .t1) (s .pre .0 .0) (s .args .size) (s .args .v) (s .pre .1 .0) (l .i) (l .from) (b .result) (omega arith) (l .inv .2) (b .ensures), omega (arith, l .inv .1, s .pre .1 .1)),
+    let s = c .before .before .before .before .before .before .before in
+    let l = c .before .before .before .before .before .loop in
+    let b = c .before .before .block-size in (
+      record { small = s .pre .1 .1 .small; room = omega (arith, l .inv .1, s .pre .1 .1 .room) },
+      (omega arith, base-room (s .args .t1) (s .pre .0 .0) (s .args .size .0) (s .args .v) (s .pre .1 .0) (l .i) (l .from .0) (b .result) (omega arith) (l .inv .2) (b .ensures)),
     )
 
 -- src/first_values.rt:31:9
@@ -83,18 +79,18 @@ loop-less c = search needs
 -- src/first_values.rt:26:5
 loop-again : tie.Need-loop-again Inv-loop μ-loop
 loop-again c =
-    let s = c .before .before .before .before .before .before .before .before .before in
-    let l = c .before .before .before .before .before .before .before .loop in
-    let b = c .before .before .before .before .block-size in
+    let s = c .before .before .before .before .before .before .before .before .before .before in
+    let l = c .before .before .before .before .before .before .before .before .loop in
+    let b = c .before .before .before .before .before .block-size in
     let p = c .before .before .prefer in
     let lt : l .i < s .args .t1 .count = omega arith in (
       omega arith,
       p .kept .0 ∙ l .inv .1,
-      rw add-one (base-more (s .args .t1) (s .pre .0 .0) (s .args .size) (s .args .v) (s .pre .1 .0) (l .i) (l .from) (b .result) lt (l .inv .2) (b .ensures)),
+      rw add-one (base-more (s .args .t1) (s .pre .0 .0) (s .args .size .0) (s .args .v) (s .pre .1 .0) (l .i) (l .from .0) (b .result) lt (l .inv .2) (b .ensures)),
       λ cs es h. p .ensures .0 cs es (l .inv .3 cs es h),
       λ sheet.
-          p .ensures .1 (yesFirst (s .args .size) (signatureIn sheet (s .args .t1))) (l .inv .4 sheet)
-          (block-first (s .args .t1) (s .pre .0 .0) (s .args .size) (s .args .v) (s .pre .1 .0) (l .i) (l .from) (b .result) lt (l .inv .2) (b .ensures) sheet),
+          p .ensures .1 (yesFirst (s .args .size .0) (signatureIn sheet (s .args .t1))) (l .inv .4 sheet)
+          (block-first (s .args .t1) (s .pre .0 .0) (s .args .size .0) (s .args .v) (s .pre .1 .0) (l .i) (l .from .0) (b .result) lt (l .inv .2) (b .ensures) sheet),
     )
 
 -- src/first_values.rt:17:1
@@ -106,8 +102,8 @@ returns : tie.Need-returns Inv-loop μ-loop
 returns c =
     let s = c .before .before .before in
     let l = c .before .loop in
-    let e : l .from ≡ s .args .v = base-end (s .args .t1) (s .pre .0 .0) (s .args .size) (s .args .v) (s .pre .1 .0) (l .i) (l .from) (omega arith) (l .inv .2) in
-    (l .inv .3, λ sheet. subst (λ (n : ℕ). Prefers (s .args .v) n (yesFirst (s .args .size) (signatureIn sheet (s .args .t1))) (l .work)) e (l .inv .4 sheet))
+    let e : l .from .0 ≡ s .args .v = base-end (s .args .t1) (s .pre .0 .0) (s .args .size .0) (s .args .v) (s .pre .1 .0) (l .i) (l .from .0) (omega arith) (l .inv .2) in
+    (l .inv .3, λ sheet. subst (λ (n : ℕ). Prefers (s .args .v) n (yesFirst (s .args .size .0) (signatureIn sheet (s .args .t1))) (l .work)) e (l .inv .4 sheet))
 
 pub prefer-all-spec : {M : Type 1} → statement M
 prefer-all-spec =
@@ -119,8 +115,7 @@ prefer-all-spec =
     mul-symbol
     element-copy-out-symbol
     block-size-requires
-    cast-to
-    add-to
+    add-end
     prefer-requires
     add-i
     loop-less

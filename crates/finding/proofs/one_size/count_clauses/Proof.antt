@@ -14,10 +14,6 @@ use Rattle.loading.proofs.clear_all.Reads as clear-all-reads
 clear-all-requires : tie.Need-clear-all-requires
 clear-all-requires c κs = search needs
 
--- src/one_size.rt:39:9
-cast-all-clauses : tie.Need-cast-all-clauses
-cast-all-clauses c = search needs
-
 -- src/one_size.rt:40:9
 slice-aggregate-all-clauses : tie.Need-slice-aggregate-all-clauses
 slice-aggregate-all-clauses c = search needs
@@ -30,7 +26,7 @@ all-clauses-requires c κs =
     let k = c .before .before .before .before .clear-all in
     let n = length (a .work .now) in (
       (s .pre .0 .accepted, s .pre .0 .within),
-      (s .pre .1, tally-begins (a .sheet .now) (a .p) (a .size) n (a .n .count) (s .pre .0) (s .pre .1 .count) (0 ∷ []) (k .last .0) n (k .ensures) (k .kept .0)),
+      (s .pre .1, tally-begins (a .sheet .now) (a .p) (a .size .0) n (a .n .count) (s .pre .0) (s .pre .1 .count) (0 ∷ []) (k .last .0) n (k .ensures) (k .kept .0)),
     )
 
 -- src/one_size.rt:26:1
@@ -45,14 +41,13 @@ returns c =
     let k = c .before .before .before .before .before .before .before .before .clear-all in
     let t = c .before .before .before .all-clauses in
     let n = length (a .work .now) in
-    tally-ends (a .sheet .now) (a .p) (a .size) n (a .n .count) (s .pre .0) (s .pre .1 .count) (0 ∷ []) (k .last .0) n (k .ensures) (k .kept .0) (t .result) (t .last .1 .1 .1 .1 .1 .0) (t .last .1 .1 .1 .1 .1 .1 .0) (t .ensures)
+    tally-ends (a .sheet .now) (a .p) (a .size .0) n (a .n .count) (s .pre .0) (s .pre .1 .count) (0 ∷ []) (k .last .0) n (k .ensures) (k .kept .0) (t .result) (t .last .1 .1 .1 .1 .1 .0) (t .last .1 .1 .1 .1 .1 .1 .0) (t .ensures)
 
 pub count-clauses-spec : {M : Type 1} → statement M
 count-clauses-spec =
     tie.close
     (tie.spec
     clear-all-requires
-    cast-all-clauses
     slice-aggregate-all-clauses
     all-clauses-requires
     same-length

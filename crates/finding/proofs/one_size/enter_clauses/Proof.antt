@@ -23,11 +23,7 @@ bounds-requires : tie.Need-bounds-requires
 bounds-requires c κs =
     let s = c .before .before .before .before in
     let a = s .args in
-    boundable (a .sheet .now) (a .p) (a .size) (length (a .work .now)) (a .n .count) (s .pre .0) (s .pre .1 .0 .count) (a .m) (a .work .now) (s .pre .1 .1 .0) refl (s .pre .1 .1 .1)
-
--- src/one_size.rt:70:9
-cast-all-clauses : tie.Need-cast-all-clauses
-cast-all-clauses c = search needs
+    boundable (a .sheet .now) (a .p) (a .size .0) (length (a .work .now)) (a .n .count) (s .pre .0) (s .pre .1 .0 .count) (a .m) (a .work .now) (s .pre .1 .1 .0) refl (s .pre .1 .1 .1)
 
 -- src/one_size.rt:71:9
 slice-aggregate-all-clauses : tie.Need-slice-aggregate-all-clauses
@@ -39,9 +35,9 @@ all-clauses-requires c κs =
     let s = c .before .before .before .before .before .before .before .before .before in
     let a = s .args in
     let b = c .before .before .before .before .bounds in
-    let cs = sheetClauses (a .size) (a .sheet .now) (a .p) in (
+    let cs = sheetClauses (a .size .0) (a .sheet .now) (a .p) in (
       (s .pre .0 .accepted, s .pre .0 .within),
-      (s .pre .1 .0, enter-begins (a .sheet .now) (a .p) (a .size) (length (a .work .now)) (a .n .count) (s .pre .0) (s .pre .1 .0 .count) (0 ∷ []) (b .last .0) (b .ensures (allCodes cs) (s .pre .1 .1 .1) (length-map cs codes ∙ s .pre .1 .1 .0))),
+      (s .pre .1 .0, enter-begins (a .sheet .now) (a .p) (a .size .0) (length (a .work .now)) (a .n .count) (s .pre .0) (s .pre .1 .0 .count) (0 ∷ []) (b .last .0) (b .ensures (allCodes cs) (s .pre .1 .1 .1) (length-map cs codes ∙ s .pre .1 .1 .0))),
     )
 
 -- src/one_size.rt:48:1
@@ -55,8 +51,8 @@ returns c =
     let a = s .args in
     let b = c .before .before .before .before .before .before .before .before .bounds in
     let t = c .before .before .before .all-clauses in
-    let cs = sheetClauses (a .size) (a .sheet .now) (a .p) in
-    enter-ends (a .sheet .now) (a .p) (a .size) (length (a .work .now)) (a .n .count) (s .pre .0) (s .pre .1 .0 .count) (0 ∷ []) (b .last .0) (b .ensures (allCodes cs) (s .pre .1 .1 .1) (length-map cs codes ∙ s .pre .1 .1 .0)) (t .result) (t .last .1 .1 .1 .1 .1 .0) (t .last .1 .1 .1 .1 .1 .1 .0) (t .ensures)
+    let cs = sheetClauses (a .size .0) (a .sheet .now) (a .p) in
+    enter-ends (a .sheet .now) (a .p) (a .size .0) (length (a .work .now)) (a .n .count) (s .pre .0) (s .pre .1 .0 .count) (0 ∷ []) (b .last .0) (b .ensures (allCodes cs) (s .pre .1 .1 .1) (length-map cs codes ∙ s .pre .1 .1 .0)) (t .result) (t .last .1 .1 .1 .1 .1 .0) (t .last .1 .1 .1 .1 .1 .1 .0) (t .ensures)
 
 pub enter-clauses-spec : {M : Type 1} → statement M
 enter-clauses-spec =
@@ -64,7 +60,6 @@ enter-clauses-spec =
     (tie.spec
     cast-v
     bounds-requires
-    cast-all-clauses
     slice-aggregate-all-clauses
     all-clauses-requires
     same-length

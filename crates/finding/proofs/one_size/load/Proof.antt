@@ -7,7 +7,7 @@ use Rattle.syntax.specs.Signatures.{signatureIn}
 use Rattle.loading.proofs.Ready.{entered-loaded}
 use Rattle.stream.specs.Literals.{allCodes}
 use Rattle.finding.specs.Searching.{Searchable, sheetClauses}
-use Rattle.finding.proofs.Fitting.{numbered, area-room}
+use Rattle.finding.proofs.Fitting.{numbered}
 use borrow.Author.Needs.{needs}
 use Rattle.finding.proofs.one_size.load.Statement.{statement}
 use Rattle.finding.proofs.one_size.load.Tie as tie
@@ -27,7 +27,7 @@ enter-clauses-requires c κs =
     let s = c .before .before .before .before .before .before .before in
     let a = s .args in
     let k = c .before .before .before .count-clauses in
-    (subst (Searchable (a .sheet .now) (a .p) (a .size)) (sym (k .kept .1 .1 .1 .1 .0)) (s .pre .0), (s .pre .1 (a .sheet .now), (k .ensures .0, k .ensures .1)))
+    (subst (Searchable (a .sheet .now) (a .p) (a .size .0)) (sym (k .kept .1 .1 .1 .1 .0)) (s .pre .0), (s .pre .1 (a .sheet .now), (k .ensures .0, k .ensures .1)))
 
 -- src/one_size.rt:87:33
 cast-prefer-all : tie.Need-cast-prefer-all
@@ -41,7 +41,7 @@ prefer-all-requires c κs =
     let k = c .before .before .before .before .before .before .before .before .before .count-clauses in
     let e = c .before .before .before .before .before .enter-clauses in (
       (s .pre .0 .accepted .readable .limited, s .pre .0 .within),
-      (λ text. s .pre .1 text .count, omega (arith, area-room (a .sheet .now) (a .p) (a .size) (length (a .work .now)) (a .n .count) (s .pre .0) (s .pre .1 (a .sheet .now) .count), k .kept .1 .1 .1 .1 .0, e .kept .1 .1 .1 .1 .1 .0)),
+      (λ text. s .pre .1 text .count, record { small = e .ensures .small; room = omega (arith, e .ensures .size) }),
     )
 
 -- src/one_size.rt:78:1
@@ -56,10 +56,10 @@ returns c =
     let k = c .before .before .before .before .before .before .before .before .before .before .before .before .count-clauses in
     let e = c .before .before .before .before .before .before .before .before .enter-clauses in
     let f = c .before .before .prefer-all in
-    let cs = sheetClauses (a .size) (a .sheet .now) (a .p) in (
+    let cs = sheetClauses (a .size .0) (a .sheet .now) (a .p) in (
       k .ensures .0,
-      entered-loaded (a .n .count) cs (yesFirst (a .size) (signatureIn (a .sheet .now) (a .p .signature))) (f .last .1 .1 .1 .0)
-          (numbered (a .sheet .now) (a .p) (a .size) (length (a .work .now)) (a .n .count) (s .pre .0) (s .pre .1 (a .sheet .now) .count)) (f .ensures .0 (allCodes cs) (allCodes cs) (e .ensures)) (f .ensures .1 (a .sheet .now)),
+      entered-loaded (a .n .count) cs (yesFirst (a .size .0) (signatureIn (a .sheet .now) (a .p .signature))) (f .last .1 .1 .1 .0)
+          (numbered (a .sheet .now) (a .p) (a .size .0) (length (a .work .now)) (a .n .count) (s .pre .0) (s .pre .1 (a .sheet .now) .count)) (f .ensures .0 (allCodes cs) (allCodes cs) (e .ensures)) (f .ensures .1 (a .sheet .now)),
     )
 
 pub load-spec : {M : Type 1} → statement M

@@ -35,8 +35,8 @@ returns c =
     let a = s .args in
     let l = c .before .before .before .before .before .before .before .load in
     let t = c .before .before .solve in
-    searched-walked (a .sheet .now) (a .p) (a .size) (a .n .count) (s .pre .1 (a .sheet .now) .count)
-    ∙ t .ensures (sheetClauses (a .size) (a .sheet .now) (a .p)) (yesFirst (a .size) (signatureIn (a .sheet .now) (a .p .signature))) (l .ensures .1) (l .ensures .0) .answer
+    searched-walked (a .sheet .now) (a .p) (a .size .0) (a .n .count) (s .pre .1 (a .sheet .now) .count)
+    ∙ t .ensures (sheetClauses (a .size .0) (a .sheet .now) (a .p)) (yesFirst (a .size .0) (signatureIn (a .sheet .now) (a .p .signature))) (l .ensures .1) (l .ensures .0) .answer
 
 pub search-size-spec : {M : Type 1} → statement M
 search-size-spec = tie.close (tie.spec load-requires cast-solve solve-requires same-length returns)

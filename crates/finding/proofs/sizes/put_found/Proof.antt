@@ -27,14 +27,14 @@ slice-reshare-prefix-write-case : tie.Need-slice-reshare-prefix-write-case
 slice-reshare-prefix-write-case c =
     let s = c .before .before .before .before .before .before in
     let a = s .args in
-    omega (arith, area-room (a .sheet .now) (a .p) (a .size) (length (a .work .now)) (a .n .count) (s .pre .0) (s .pre .1 .0 .count))
+    omega (arith, area-room (a .sheet .now) (a .p) (a .size .0) (length (a .work .now)) (a .n .count) (s .pre .0) (s .pre .1 .0 .count))
 
 -- src/sizes.rt:69:61
 slice-aggregate-write-case-2 : tie.Need-slice-aggregate-write-case-2
 slice-aggregate-write-case-2 c =
     let s = c .before .before .before .before .before .before .before in
     let a = s .args in
-    let le : a .n .count ≤ length (a .work .now) = omega (arith, area-room (a .sheet .now) (a .p) (a .size) (length (a .work .now)) (a .n .count) (s .pre .0) (s .pre .1 .0 .count)) in
+    let le : a .n .count ≤ length (a .work .now) = omega (arith, area-room (a .sheet .now) (a .p) (a .size .0) (length (a .work .now)) (a .n .count) (s .pre .0) (s .pre .1 .0 .count)) in
     sym (length-take-le (a .n .count) (a .work .now) le)
 
 -- src/sizes.rt:69:9
@@ -42,8 +42,8 @@ write-case-requires : tie.Need-write-case-requires
 write-case-requires c κs =
     let s = c .before .before .before .before .before .before .before .before in
     let a = s .args in (
-      writable (a .sheet .now) (a .p) (a .n) (a .size) (length (a .work .now)) (s .pre .0) (s .pre .1 .0) (take (a .n .count) (a .work .now)) (s .pre .1 .1 .0),
-      case-room (a .sheet .now) (a .p) (a .size) (length (a .output .now)) (s .pre .1 .1 .1),
+      writable (a .sheet .now) (a .p) (a .n) (a .size .0) (length (a .work .now)) (s .pre .0) (s .pre .1 .0) (take (a .n .count) (a .work .now)) (s .pre .1 .1 .0),
+      case-room (a .sheet .now) (a .p) (a .size .0) (length (a .output .now)) (s .pre .1 .1 .1),
     )
 
 -- src/sizes.rt:70:5
@@ -65,8 +65,7 @@ returns c =
     let a = s .args in
     let w = c .before .before .before .before .before .before .write-case in
     let k = c .before .before .clear-all in
-    λ low high.
-    written-ends (a .sheet .now) (a .p) (a .n) (a .size) (length (a .work .now)) (s .pre .0) (s .pre .1 .0) (take (a .n .count) (a .work .now)) (s .pre .1 .1 .0) low high (w .result) (a .work .now) (k .last .0) (a .output .now)
+    written-ends (a .sheet .now) (a .p) (a .n) (a .size .0) (length (a .work .now)) (s .pre .0) (s .pre .1 .0) (take (a .n .count) (a .work .now)) (s .pre .1 .1 .0) (w .result) (a .work .now) (k .last .0) (a .output .now)
     (w .last .1 .1 .1 .1 .1 .1 .0) (w .ensures .1) (k .ensures) (w .ensures .0)
 
 pub put-found-spec : {M : Type 1} → statement M

@@ -12,11 +12,11 @@ enum-known-shape c = search needs
 cast-i : tie.Need-cast-i
 cast-i c = search needs
 
-mul-linear-form : tie.Need-mul-linear-form
-mul-linear-form c = search needs
+mul-t22 : tie.Need-mul-t22
+mul-t22 c = search needs
 
-element-copy-out-linear-form : tie.Need-element-copy-out-linear-form
-element-copy-out-linear-form c = predicate-over (c .before .before .before .before .pre) _ (c .before .shape .given .1) .held
+element-copy-out-t25 : tie.Need-element-copy-out-t25
+element-copy-out-t25 c = predicate-over (c .before .before .before .before .pre) _ (c .before .shape .given .1) .held
 
 shared-slice-read-linear-form : tie.Need-shared-slice-read-linear-form
 shared-slice-read-linear-form c = predicate-over (c .before .before .before .before .before .before .pre) _ (c .before .before .before .shape .given .1) .listed
@@ -33,22 +33,25 @@ enum-known-shape-2 c = search needs
 cast-i-2 : tie.Need-cast-i-2
 cast-i-2 c = search needs
 
-mul-linear-form-2 : tie.Need-mul-linear-form-2
-mul-linear-form-2 c = search needs
+mul-step : tie.Need-mul-step
+mul-step c = search needs
 
-element-copy-out-linear-form-2 : tie.Need-element-copy-out-linear-form-2
-element-copy-out-linear-form-2 c = function-over (c .before .before .before .before .pre) _ _ (c .before .shape2 .given .1) .held
+element-copy-out-step : tie.Need-element-copy-out-step
+element-copy-out-step c = function-over (c .before .before .before .before .pre) _ _ (c .before .shape2 .given .1) .held
 
-mul-linear-form-3 : tie.Need-mul-linear-form-3
-mul-linear-form-3 c = search needs
+cast-step : tie.Need-cast-step
+cast-step c = search needs
+
+mul-step-2 : tie.Need-mul-step-2
+mul-step-2 c = search needs
 
 shared-slice-read-linear-form-2 : tie.Need-shared-slice-read-linear-form-2
-shared-slice-read-linear-form-2 c = function-over (c .before .before .before .before .before .before .pre) _ _ (c .before .before .before .shape2 .given .1) .listed
+shared-slice-read-linear-form-2 c = function-over (c .before .before .before .before .before .before .before .pre) _ _ (c .before .before .before .before .shape2 .given .1) .listed
 
 linear-form-requires-2 : tie.Need-linear-form-requires-2
 linear-form-requires-2 c κs =
-    let o = c .before .before .before .before .before .before .pre in
-    let q = function-over o _ _ (c .before .before .before .shape2 .given .1) in
+    let o = c .before .before .before .before .before .before .before .pre in
+    let q = function-over o _ _ (c .before .before .before .before .shape2 .given .1) in
     (q .small, (omega (arith, o .size), (q .few, o .size)))
 
 enum-known-shape-3 : tie.Need-enum-known-shape-3
@@ -64,8 +67,8 @@ returns c =
 
 returns-2 : tie.Need-returns-2
 returns-2 c =
-    let e = c .before .before .before .before .shape2 .given .1 in
-    rw (c .linear-form2 .ensures) ((function-safe (c .before .before .before .before .before .before .before .pre) _ _ e, refl {a = 10}), λ o. function-means o _ _ e)
+    let e = c .before .before .before .before .before .shape2 .given .1 in
+    rw (c .linear-form2 .ensures) ((function-safe (c .before .before .before .before .before .before .before .before .pre) _ _ e, refl {a = 10}), λ o. function-means o _ _ e)
 
 returns-3 : tie.Need-returns-3
 returns-3 c =
@@ -78,15 +81,16 @@ form-of-spec =
     (tie.spec
     enum-known-shape
     cast-i
-    mul-linear-form
-    element-copy-out-linear-form
+    mul-t22
+    element-copy-out-t25
     shared-slice-read-linear-form
     linear-form-requires
     enum-known-shape-2
     cast-i-2
-    mul-linear-form-2
-    element-copy-out-linear-form-2
-    mul-linear-form-3
+    mul-step
+    element-copy-out-step
+    cast-step
+    mul-step-2
     shared-slice-read-linear-form-2
     linear-form-requires-2
     enum-known-shape-3

@@ -9,7 +9,7 @@ use Rattle.forms.proofs.linear.forms_of.Statement.{statement}
 use Rattle.forms.proofs.linear.forms_of.Tie as tie
 
 abbrev Inv-loop : tie.InvT-loop
-Inv-loop flat arities n size forms₀ literals arguments i₀ forms i = Gathered arities flat n size i forms
+Inv-loop flat arities n size forms₀ literals arguments i₀ forms i = Gathered arities flat n (size .0) i forms
 
 abbrev μ-loop : tie.MeasureT-loop
 μ-loop flat arities n size forms₀ literals arguments i₀ forms i = flat .count - i
@@ -17,7 +17,7 @@ abbrev μ-loop : tie.MeasureT-loop
 loop-holds : tie.Need-loop-holds Inv-loop μ-loop
 loop-holds c =
     let a = c .before .before .before .args in
-    none-gathered (a .arities .now) (a .flat) (a .n) (a .size) _ refl
+    none-gathered (a .arities .now) (a .flat) (a .n) (a .size .0) _ refl
 
 mul-form-of : tie.Need-mul-form-of Inv-loop μ-loop
 mul-form-of c = search needs
@@ -84,9 +84,9 @@ loop-again c =
     let lt : l .i < a .flat .count = omega arith in
     let wide : length (a .flat .arguments) ≡ 78 = search needs in
     let n : suc (l .i) ≡ l .i + 1 = omega arith in
-    subst (λ (k : ℕ). Gathered (a .arities .now) (a .flat) (a .n) (a .size) k (p .last .0)) n
-    (subst (Gathered (a .arities .now) (a .flat) (a .n) (a .size) (suc (l .i))) (sym (p .ensures))
-    (one-gathered (a .arities .now) (a .flat) (a .n) (a .size) (l .i) (l .forms) (f .result) (l .inv) lt (s .pre .count) (f .ensures .0 .1) wide (f .ensures .0 .0) (f .ensures .1)))
+    subst (λ (k : ℕ). Gathered (a .arities .now) (a .flat) (a .n) (a .size .0) k (p .last .0)) n
+    (subst (Gathered (a .arities .now) (a .flat) (a .n) (a .size .0) (suc (l .i))) (sym (p .ensures))
+    (one-gathered (a .arities .now) (a .flat) (a .n) (a .size .0) (l .i) (l .forms) (f .result) (l .inv) lt (s .pre .count) (f .ensures .0 .1) wide (f .ensures .0 .0) (f .ensures .1)))
 
 returns : tie.Need-returns Inv-loop μ-loop
 returns c =
@@ -94,8 +94,8 @@ returns c =
     let s = c .before .before .before .before .before .before in
     let a = s .args in
     let e : l .i ≡ a .flat .count = omega (arith, l .inv .within) in
-    let p : Gathered (a .arities .now) (a .flat) (a .n) (a .size) (a .flat .count) (l .forms) = subst (λ (k : ℕ). Gathered (a .arities .now) (a .flat) (a .n) (a .size) k (l .forms)) e (l .inv) in
-    ((refl, (s .pre .count, l .inv .held)), (gathered-safe (a .arities .now) (a .flat) (a .n) (a .size) (l .forms) p, gathered-linear (a .arities .now) (a .flat) (a .n) (a .size) (l .forms) p))
+    let p : Gathered (a .arities .now) (a .flat) (a .n) (a .size .0) (a .flat .count) (l .forms) = subst (λ (k : ℕ). Gathered (a .arities .now) (a .flat) (a .n) (a .size .0) k (l .forms)) e (l .inv) in
+    ((refl, (s .pre .count, l .inv .held)), (gathered-safe (a .arities .now) (a .flat) (a .n) (a .size .0) (l .forms) p, gathered-linear (a .arities .now) (a .flat) (a .n) (a .size .0) (l .forms) p))
 
 pub forms-of-spec : {M : Type 1} → statement M
 forms-of-spec =

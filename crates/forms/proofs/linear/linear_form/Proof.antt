@@ -15,8 +15,8 @@ place-of-requires c κs = search needs
 weight-of-requires : tie.Need-weight-of-requires
 weight-of-requires c κs = search needs
 
-mul-t15 : tie.Need-mul-t15
-mul-t15 c =
+mul-t14 : tie.Need-mul-t14
+mul-t14 c =
     let s = c .before .before .before in
     omega (arith, coefficient-small (s .args .step) (c .weight-of .result) (s .pre .1 .0) (c .weight-of .ensures .1))
 
@@ -26,8 +26,8 @@ place-of-requires-2 c κs = search needs
 weight-of-requires-2 : tie.Need-weight-of-requires-2
 weight-of-requires-2 c κs = search needs
 
-mul-t18 : tie.Need-mul-t18
-mul-t18 c =
+mul-t17 : tie.Need-mul-t17
+mul-t17 c =
     let s = c .before .before .before .before .before in
     omega (arith, coefficient-small (s .args .step) (c .weight-of2 .result) (s .pre .1 .0) (c .weight-of2 .ensures .1))
 
@@ -37,8 +37,8 @@ place-of-requires-3 c κs = search needs
 weight-of-requires-3 : tie.Need-weight-of-requires-3
 weight-of-requires-3 c κs = search needs
 
-mul-t21 : tie.Need-mul-t21
-mul-t21 c =
+mul-t20 : tie.Need-mul-t20
+mul-t20 c =
     let s = c .before .before .before .before .before .before .before in
     omega (arith, coefficient-small (s .args .step) (c .weight-of3 .result) (s .pre .1 .0) (c .weight-of3 .ensures .1))
 
@@ -53,11 +53,11 @@ linear-form-spec =
     literal-requires
     place-of-requires
     weight-of-requires
-    mul-t15
+    mul-t14
     place-of-requires-2
     weight-of-requires-2
-    mul-t18
+    mul-t17
     place-of-requires-3
     weight-of-requires-3
-    mul-t21
+    mul-t20
     returns)

@@ -11,7 +11,7 @@ use Rattle.instancing.proofs.instances.all_instances.Tie as tie
 
 abbrev Inv-loop : tie.InvT-loop
 Inv-loop mode sheet p n size out₀ work₀ reached₀ k₀ out work reached k =
-    (k ≤ p .count) × (length out ≡ length out₀) × (length work ≡ length work₀) × ClausesTaken mode (n .count) (state reached₀ out₀ work₀) size sheet p k (state reached out work)
+    (k ≤ p .count) × (length out ≡ length out₀) × (length work ≡ length work₀) × ClausesTaken mode (n .count) (state reached₀ out₀ work₀) (size .0) sheet p k (state reached out work)
 
 abbrev μ-loop : tie.MeasureT-loop
 μ-loop mode sheet p n size out₀ work₀ reached₀ k₀ out work reached k = p .count - k
@@ -19,7 +19,7 @@ abbrev μ-loop : tie.MeasureT-loop
 loop-holds : tie.Need-loop-holds Inv-loop μ-loop
 loop-holds c =
     let a = c .before .before .before .args in
-    (omega arith, refl, refl, no-clause (a .mode) (a .n .count) (state (a .start) (a .out .now) (a .work .now)) (a .size) (a .sheet .now) (a .p))
+    (omega arith, refl, refl, no-clause (a .mode) (a .n .count) (state (a .start) (a .out .now) (a .work .now)) (a .size .0) (a .sheet .now) (a .p))
 
 one-clause-requires : tie.Need-one-clause-requires Inv-loop μ-loop
 one-clause-requires c κs =
@@ -29,7 +29,7 @@ one-clause-requires c κs =
       (s .pre .0 .0, omega arith, s .pre .0 .1),
       (
         s .pre .1 .0,
-        clause-consumes (a .mode) (a .n .count) (state (a .start) (a .out .now) (a .work .now)) (a .size) (a .sheet .now) (a .p) (s .pre .0 .0) (l .k) (state (l .reached) (l .out) (l .work)) (omega arith) (s .pre .1 .1) (l .inv .3),
+        clause-consumes (a .mode) (a .n .count) (state (a .start) (a .out .now) (a .work .now)) (a .size .0) (a .sheet .now) (a .p) (s .pre .0 .0) (l .k) (state (l .reached) (l .out) (l .work)) (omega arith) (s .pre .1 .1) (l .inv .3),
       ),
     )
 
@@ -47,7 +47,7 @@ loop-again c =
       omega arith,
       t .kept .1 .1 .1 .1 .1 .1 .0 ∙ l .inv .1,
       t .kept .1 .1 .1 .1 .1 .1 .1 .0 ∙ l .inv .2,
-      clause-consumed (a .mode) (a .n .count) (state (a .start) (a .out .now) (a .work .now)) (a .size) (a .sheet .now) (a .p) (l .k) (state (l .reached) (l .out) (l .work))
+      clause-consumed (a .mode) (a .n .count) (state (a .start) (a .out .now) (a .work .now)) (a .size .0) (a .sheet .now) (a .p) (l .k) (state (l .reached) (l .out) (l .work))
           (state (t .result) (t .last .1 .1 .1 .1 .1 .1 .0) (t .last .1 .1 .1 .1 .1 .1 .1 .0)) (l .inv .3) (t .ensures),
     )
 
@@ -62,7 +62,7 @@ returns c =
     let s = c .before .before .before .before .before .before in
     let a = s .args in
     let l = c .before .before .loop in
-    all-clauses (a .mode) (a .n .count) (state (a .start) (a .out .now) (a .work .now)) (a .size) (a .sheet .now) (a .p) (s .pre .0 .0) (l .k) (state (l .reached) (l .out) (l .work)) (omega arith) (l .inv .3)
+    all-clauses (a .mode) (a .n .count) (state (a .start) (a .out .now) (a .work .now)) (a .size .0) (a .sheet .now) (a .p) (s .pre .0 .0) (l .k) (state (l .reached) (l .out) (l .work)) (omega arith) (l .inv .3)
 
 pub all-instances-spec : {M : Type 1} → statement M
 all-instances-spec =

@@ -13,11 +13,11 @@ use Rattle.instancing.proofs.instances.clause_instances.Statement.{stat
 use Rattle.instancing.proofs.instances.clause_instances.Tie as tie
 
 abbrev Inv-loop : tie.InvT-loop
-Inv-loop mode v forms count variables size out₀ work₀ choices values₀ p₀ i₀ out work values p i =
-    (i ≤ choices) × (choices ≡ size ^ variables) × (length out ≡ length out₀) × (length work ≡ length work₀) × ChoiceAt size variables values i × ((o : FormsOf size variables count forms) → ChoicesTaken mode v (state p₀ out₀ work₀) o i (state p out work))
+Inv-loop mode v forms count variables out₀ work₀ elements choices values₀ p₀ i₀ out work values p i =
+    (i ≤ choices) × (choices ≡ elements ^ variables) × (length out ≡ length out₀) × (length work ≡ length work₀) × ChoiceAt elements variables values i × ((o : FormsOf elements variables count forms) → ChoicesTaken mode v (state p₀ out₀ work₀) o i (state p out work))
 
 abbrev μ-loop : tie.MeasureT-loop
-μ-loop mode v forms count variables size out₀ work₀ choices values₀ p₀ i₀ out work values p i = choices - i
+μ-loop mode v forms count variables out₀ work₀ elements choices values₀ p₀ i₀ out work values p i = choices - i
 
 power-requires : tie.Need-power-requires Inv-loop μ-loop
 power-requires c κs = search needs
@@ -33,7 +33,7 @@ loop-holds c =
       c .before .power .ensures,
       refl,
       refl,
-      begun-choice (a .size) (a .variables) (c .first .result) (s .pre .0 .4) (s .pre .0 .3) (c .first .ensures),
+      begun-choice (a .size .0) (a .variables) (c .first .result) (s .pre .0 .4) (s .pre .0 .3) (c .first .ensures),
       λ o. no-choice (a .mode) (a .v) (state (a .start) (a .out .now) (a .work .now)) o,
     )
 
@@ -53,7 +53,7 @@ next-choice-requires : tie.Need-next-choice-requires Inv-loop μ-loop
 next-choice-requires c κs =
     let a = c .before .before .before .before .before .before .before .before .before .before .before .before .before .before .before .before .args in
     let l = c .before .before .before .before .before .before .before .before .before .before .loop in
-    (a .size, a .variables, l .i, omega (arith, l .inv .1, c .before .before .before .before .before .before .before .before .before .loop-test .taken), l .inv .4)
+    (a .size .0, a .variables, l .i, omega (arith, l .inv .1, c .before .before .before .before .before .before .before .before .before .loop-test .taken), l .inv .4)
 
 add-i : tie.Need-add-i Inv-loop μ-loop
 add-i c = search needs
@@ -71,7 +71,7 @@ loop-again c =
       l .inv .1,
       t .kept .1 .1 .1 .1 .1 .0 ∙ l .inv .2,
       t .kept .1 .1 .1 .1 .1 .1 .0 ∙ l .inv .3,
-      c .next-choice .ensures (a .size) (a .variables) (l .i) (omega (arith, l .inv .1, lt)) (l .inv .4),
+      c .next-choice .ensures (a .size .0) (a .variables) (l .i) (omega (arith, l .inv .1, lt)) (l .inv .4),
       λ o.
           choice-consumed (a .mode) (a .v) (state (a .start) (a .out .now) (a .work .now)) o (l .values) (l .i) (l .inv .4) (omega (arith, l .inv .1, lt)) (state (l .p) (l .out) (l .work))
           (state (t .result) (t .last .1 .1 .1 .1 .1 .0) (t .last .1 .1 .1 .1 .1 .1 .0)) (l .inv .5 o) (t .ensures),

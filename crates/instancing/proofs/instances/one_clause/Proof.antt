@@ -41,7 +41,7 @@ forms-of-requires c κs =
     let f = c .before .flatten in
     let h = words-within (a .sheet .now) (a .p) (s .pre .0 .0) (y .result) (y .ensures) (a .k) (w .result) (w .ensures) in
     let e = f .ensures h in
-    groundable h (f .result) (a .n) (a .size) e (s .pre .1 .0) (s .pre .0 .2)
+    groundable h (f .result) (a .n) (a .size .0) e (s .pre .1 .0) (s .pre .0 .2)
 
 cast-clause-instances : tie.Need-cast-clause-instances
 cast-clause-instances c = search needs
@@ -59,12 +59,12 @@ clause-instances-requires c κs =
     let h = words-within (a .sheet .now) (a .p) (s .pre .0 .0) (y .result) (y .ensures) (a .k) (w .result) (w .ensures) in
     let e = f .ensures h in
     let m = c .before .before .before .before .before .forms-of in
-    let g = groundable h (f .result) (a .n) (a .size) e (s .pre .1 .0) (s .pre .0 .2) in
-    let o = words-forms (a .sheet .now) (a .p) (s .pre .0 .0) (y .result) (y .ensures) (a .k) (w .result) (w .ensures) (f .result) e (a .size) (m .result .count) (m .result .forms) (m .ensures .1 .1 g) in
-    let q = words-instances (a .sheet .now) (a .p) (s .pre .0 .0) (y .result) (y .ensures) (a .k) (w .result) (w .ensures) (f .result) e (a .size) (m .result .count) (m .result .forms) (m .ensures .1 .1 g) in
+    let g = groundable h (f .result) (a .n) (a .size .0) e (s .pre .1 .0) (s .pre .0 .2) in
+    let o = words-forms (a .sheet .now) (a .p) (s .pre .0 .0) (y .result) (y .ensures) (a .k) (w .result) (w .ensures) (f .result) e (a .size .0) (m .result .count) (m .result .forms) (m .ensures .1 .1 g) in
+    let q = words-instances (a .sheet .now) (a .p) (s .pre .0 .0) (y .result) (y .ensures) (a .k) (w .result) (w .ensures) (f .result) e (a .size .0) (m .result .count) (m .result .forms) (m .ensures .1 .1 g) in
     let x = state (a .start) (a .out .now) (a .work .now) in (
-      (m .ensures .1 .0, m .ensures .0 .1 .0, omega (arith, m .ensures .0 .1 .0, m .ensures .0 .1 .1), few-variables h (f .result) (a .n) (a .size) e, s .pre .0 .2),
-      (o, consumes-same (a .mode) (a .n .count) (instancesOf (a .size) (problemIn (a .sheet .now) (a .p)) (a .k)) (allInstances o) x (sym q) (s .pre .1 .1)),
+      (m .ensures .1 .0, m .ensures .0 .1 .0, omega (arith, m .ensures .0 .1 .0, m .ensures .0 .1 .1), few-variables h (f .result) (a .n) (a .size .0) e, s .pre .0 .2),
+      (o, consumes-same (a .mode) (a .n .count) (instancesOf (a .size .0) (problemIn (a .sheet .now) (a .p)) (a .k)) (allInstances o) x (sym q) (s .pre .1 .1)),
     )
 
 same-length : tie.Need-same-length
@@ -83,12 +83,12 @@ returns c =
     let h = words-within (a .sheet .now) (a .p) (s .pre .0 .0) (y .result) (y .ensures) (a .k) (w .result) (w .ensures) in
     let e = f .ensures h in
     let m = c .before .before .before .before .before .before .before .before .before .before .forms-of in
-    let g = groundable h (f .result) (a .n) (a .size) e (s .pre .1 .0) (s .pre .0 .2) in
-    let o = words-forms (a .sheet .now) (a .p) (s .pre .0 .0) (y .result) (y .ensures) (a .k) (w .result) (w .ensures) (f .result) e (a .size) (m .result .count) (m .result .forms) (m .ensures .1 .1 g) in
-    let q = words-instances (a .sheet .now) (a .p) (s .pre .0 .0) (y .result) (y .ensures) (a .k) (w .result) (w .ensures) (f .result) e (a .size) (m .result .count) (m .result .forms) (m .ensures .1 .1 g) in
+    let g = groundable h (f .result) (a .n) (a .size .0) e (s .pre .1 .0) (s .pre .0 .2) in
+    let o = words-forms (a .sheet .now) (a .p) (s .pre .0 .0) (y .result) (y .ensures) (a .k) (w .result) (w .ensures) (f .result) e (a .size .0) (m .result .count) (m .result .forms) (m .ensures .1 .1 g) in
+    let q = words-instances (a .sheet .now) (a .p) (s .pre .0 .0) (y .result) (y .ensures) (a .k) (w .result) (w .ensures) (f .result) e (a .size .0) (m .result .count) (m .result .forms) (m .ensures .1 .1 g) in
     let x = state (a .start) (a .out .now) (a .work .now) in
     let t = c .before .before .before .before .clause-instances in
-    consumed-same (a .mode) (a .n .count) (allInstances o) (instancesOf (a .size) (problemIn (a .sheet .now) (a .p)) (a .k)) x (state (t .result) (t .last .1 .1 .1 .1 .1 .1 .0) (t .last .1 .1 .1 .1 .1 .1 .1 .0)) q (t .ensures o)
+    consumed-same (a .mode) (a .n .count) (allInstances o) (instancesOf (a .size .0) (problemIn (a .sheet .now) (a .p)) (a .k)) x (state (t .result) (t .last .1 .1 .1 .1 .1 .1 .0) (t .last .1 .1 .1 .1 .1 .1 .1 .0)) q (t .ensures o)
 
 pub one-clause-spec : {M : Type 1} → statement M
 one-clause-spec =

@@ -1,10 +1,11 @@
 -- `judge_case` meets its contract: the sheet's refusals, the case's, the verdict.
 use borrow.Author.Needs.{needs}
-use mathlib.Core.Path.{sym, ap, _∙_}
+use mathlib.Core.Path.{_≡_, sym, ap, _∙_}
 use native.Mathlib.Omega.{arith}
-use Rattle.theory.specs.Refusals.{refused}
+use Rattle.theory.specs.Refusals.{refused, atLine}
 use Rattle.theory.specs.Operations.{judgeAnswer}
 use Rattle.theory.proofs.Answers.{bind-refused}
+use Rattle.answers.specs.Answers.{refusalIn}
 use Rattle.problem.proofs.SheetRead.{sheet-refused}
 use Rattle.judging.proofs.Verdicts.{case-refused, case-judged, cells-lent}
 use Rattle.judging.proofs.verdict.judge_case.Statement.{statement}
@@ -52,7 +53,9 @@ returns-2 : tie.Need-returns-2
 returns-2 c =
     let r = c .before .before .before .before .before .before .before .before .before .before .before .read-problem in
     let k = c .before .before .before .before .before .read-case in
-    ap refused (c .at-line2 .ensures) ∙ sym (case-refused _ _ (r .result) (r .ensures .0) (c .before .before .before .before .before .before .before .before .before .if1 .left) _ (k .result) (k .ensures) _ (c .before .before .line .given .1))
+    let line = c .before .before .line .given in
+    let e : refusalIn (c .at-line2 .result) ≡ atLine 12 (line .0 .0) = c .at-line2 .ensures in
+    ap refused e ∙ sym (case-refused _ _ (r .result) (r .ensures .0) (c .before .before .before .before .before .before .before .before .before .if1 .left) _ (k .result) (k .ensures) _ (line .1))
 
 returns-3 : tie.Need-returns-3
 returns-3 c =

@@ -13,7 +13,7 @@ slice-aggregate-count-line : tie.Need-slice-aggregate-count-line
 slice-aggregate-count-line c = search needs
 
 count-line-requires : tie.Need-count-line-requires
-count-line-requires c κs = search needs
+count-line-requires c κs = c .before .before .pre .within
 
 enum-known-fault : tie.Need-enum-known-fault
 enum-known-fault c = search needs
@@ -25,14 +25,14 @@ enum-known-n : tie.Need-enum-known-n
 enum-known-n c = search needs
 
 add-lines-from : tie.Need-add-lines-from
-add-lines-from c = search needs
+add-lines-from c = omega (arith, c .before .before .before .before .before .before .pre .line)
 
 lines-from-requires : tie.Need-lines-from-requires
 lines-from-requires c κs =
     let z = c .before .before .before .before .before .before in
     let a = z .args in
     let g = signatureIn (a .sheet .now) (a .signature) in
-    let h : CountWithin (length (a .sheet .now)) 64 (Read _ _) = rw (c .before .n .given .1) at (c .before .before .before .count-line .ensures .within) in (h .1, (z .pre .1 .0, (omega (arith, z .pre .1 .1 .0), (z .pre .1 .1 .1, h .0))))
+    let h : CountWithin (length (a .sheet .now)) 64 (Read _ _) = rw (c .before .n .given .1) at (c .before .before .before .count-line .ensures .within) in (record { within = h .1; readable = z .pre .readable; line = omega (arith, z .pre .line); counted = z .pre .counted }, h .0)
 
 returns : tie.Need-returns
 returns c =

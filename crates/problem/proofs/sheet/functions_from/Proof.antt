@@ -49,8 +49,10 @@ predicates-from-requires c κs =
     let none : signatureIn (a .sheet .now) (c .before .before .before .before .empty .result) ≡ [] = signatureIn-none (a .sheet .now) (c .before .before .before .before .empty .result) (c .before .before .before .before .empty .ensures) in
     let s : SectionRead (a .sheet .now) _ _ (sectionFrom (bytes "funs=") (bytes "fun=") function [] 2 (drop (a .at) (a .sheet .now))) (m .result) = rw none at (m .ensures) in
     let g = signatureIn (a .sheet .now) (m .result .signature) in
-    let n : length (functions g) ≡ length g = functions-added (bytes "funs=") (bytes "fun=") 2 (drop (a .at) (a .sheet .now)) _ (section-answer (a .sheet .now) _ _ _ (m .result) s (c .before .if1 .left)) in
-    (s .next, (s .readable, (omega (arith, s .count, c .before .before .before .before .empty .ensures), (s .line, sym (n ∙ count-signatureIn (m .result .signature) (s .readable .limited) (a .sheet .now))))))
+    let n : length (functions g) ≡ length g = functions-added (bytes "funs=") (bytes "fun=") 2 (drop (a .at) (a .sheet .now)) _ (section-answer (a .sheet .now) _ _ _ (m .result) s (c .before .if1 .left)) in (
+      record { within = s .next; readable = s .readable; line = s .line; counted = sym (n ∙ count-signatureIn (m .result .signature) (s .readable .limited) (a .sheet .now)) },
+      omega (arith, s .count, c .before .before .before .before .empty .ensures),
+    )
 
 returns-2 : tie.Need-returns-2
 unfolding functionsFrom

@@ -17,16 +17,16 @@ loop-holds : tie.Need-loop-holds Inv-loop μ-loop
 loop-holds c =
     let z = c .before in
     let a = z .args in
-    begins (a .sheet .now) (a .at) (a .line) (a .n) (signatureIn (a .sheet .now) (a .signature)) (z .pre .0)
+    begins (a .sheet .now) (a .at) (a .line) (a .n) (signatureIn (a .sheet .now) (a .signature)) (z .pre .0 .within)
 
 clause-line-requires : tie.Need-clause-line-requires Inv-loop μ-loop
-clause-line-requires c κs = (c .before .loop .inv .inside, c .before .before .before .pre .1 .0)
+clause-line-requires c κs = (c .before .loop .inv .inside, c .before .before .before .pre .0 .readable)
 
 enum-known-fault : tie.Need-enum-known-fault Inv-loop μ-loop
 enum-known-fault c = search needs
 
 add-refused : tie.Need-add-refused Inv-loop μ-loop
-add-refused c = omega (arith, c .before .before .before .before .before .before .before .pre .1 .1 .0, c .before .before .before .before .before .before .before .pre .1 .1 .1 .1, c .before .before .before .before .before .loop .inv .within)
+add-refused c = omega (arith, c .before .before .before .before .before .before .before .pre .0 .line, c .before .before .before .before .before .before .before .pre .1, c .before .before .before .before .before .loop .inv .within)
 
 refused-requires : tie.Need-refused-requires Inv-loop μ-loop
 refused-requires c κs = search needs
@@ -42,13 +42,13 @@ enum-known-from : tie.Need-enum-known-from Inv-loop μ-loop
 enum-known-from c = search needs
 
 mul-starts : tie.Need-mul-starts Inv-loop μ-loop
-mul-starts c = omega (arith, c .before .before .before .before .before .before .before .pre .1 .1 .1 .1, c .before .before .before .before .loop-test .taken)
+mul-starts c = omega (arith, c .before .before .before .before .before .before .before .pre .1, c .before .before .before .before .loop-test .taken)
 
 array-write-starts : tie.Need-array-write-starts Inv-loop μ-loop
-array-write-starts c = omega (arith, c .before .before .before .before .before .before .before .pre .1 .1 .1 .1, c .before .before .before .before .before .loop .inv .held, c .before .before .before .before .loop-test .taken)
+array-write-starts c = omega (arith, c .before .before .before .before .before .before .before .pre .1, c .before .before .before .before .before .loop .inv .held, c .before .before .before .before .loop-test .taken)
 
 add-i : tie.Need-add-i Inv-loop μ-loop
-add-i c = omega (arith, c .before .before .before .before .before .before .before .pre .1 .1 .1 .1, c .before .before .before .before .loop-test .taken)
+add-i c = omega (arith, c .before .before .before .before .before .before .before .pre .1, c .before .before .before .before .loop-test .taken)
 
 loop-less : tie.Need-loop-less Inv-loop μ-loop
 loop-less c = search needs
@@ -58,10 +58,10 @@ loop-again c =
     let z = c .before .before .before .before .before .before .before in
     let a = z .args in
     let l = c .before .before .before .before .before .loop in
-    turn (a .sheet .now) (a .at) (a .line) (a .n) (signatureIn (a .sheet .now) (a .signature)) (l .starts) (l .next) (l .i) (l .inv) (c .before .before .before .before .loop-test .taken) (z .pre .1 .1 .1 .1) _ _ (rw (c .before .from .given .1) at (c .before .before .before .clause-line .ensures))
+    turn (a .sheet .now) (a .at) (a .line) (a .n) (signatureIn (a .sheet .now) (a .signature)) (l .starts) (l .next) (l .i) (l .inv) (c .before .before .before .before .loop-test .taken) (z .pre .1) _ _ (rw (c .before .from .given .1) at (c .before .before .before .clause-line .ensures))
 
 add-refused-2 : tie.Need-add-refused-2 Inv-loop μ-loop
-add-refused-2 c = omega (arith, c .before .before .before .before .pre .1 .1 .0, c .before .before .before .before .pre .1 .1 .1 .1)
+add-refused-2 c = omega (arith, c .before .before .before .before .pre .0 .line, c .before .before .before .before .pre .1)
 
 refused-requires-2 : tie.Need-refused-requires-2 Inv-loop μ-loop
 refused-requires-2 c κs = search needs
@@ -78,7 +78,7 @@ returns-3 c =
     let z = c .before .before .before .before in
     let a = z .args in
     let l = c .before .before .loop in
-    all-taken (a .sheet .now) (a .at) (a .line) (a .n) (a .signature) (a .functions) (l .starts) (l .next) (l .i) (l .inv) (c .before .loop-test .left) (z .pre .1 .1 .1 .1) (c .if1 .left) (z .pre .1 .0) (z .pre .1 .1 .1 .0)
+    all-taken (a .sheet .now) (a .at) (a .line) (a .n) (a .signature) (a .functions) (l .starts) (l .next) (l .i) (l .inv) (c .before .loop-test .left) (z .pre .1) (c .if1 .left) (z .pre .0 .readable) (z .pre .0 .counted)
 
 pub lines-from-spec : {M : Type 1} → statement M
 lines-from-spec =

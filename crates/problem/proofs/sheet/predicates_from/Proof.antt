@@ -19,7 +19,7 @@ slice-aggregate-read-section-2 : tie.Need-slice-aggregate-read-section-2
 slice-aggregate-read-section-2 c = search needs
 
 read-section-requires : tie.Need-read-section-requires
-read-section-requires c κs = let z = c .before .before .before in (z .pre .0, (z .pre .1 .0, (z .pre .1 .1 .0, omega (arith, z .pre .1 .1 .1 .0))))
+read-section-requires c κs = let p = c .before .before .before .pre in (p .0 .within, (p .0 .readable, (p .1, omega (arith, p .0 .line))))
 
 refused-requires : tie.Need-refused-requires
 refused-requires c κs = search needs
@@ -39,7 +39,7 @@ clauses-from-requires c κs =
     let g = signatureIn (a .sheet .now) (a .before) in
     let s = c .before .before .before .read-section .ensures in
     let e = section-answer (a .sheet .now) _ _ (sectionFrom (bytes "preds=") (bytes "pred=") predicate g (a .line) (drop (a .at) (a .sheet .now))) (c .before .before .before .read-section .result) s (c .before .if1 .left) in
-    (s .next, (s .readable, (omega (arith, s .line, z .pre .1 .1 .1 .0), z .pre .1 .1 .1 .1 ∙ ap length (sym (predicates-added _ _ g _ _ _ e)))))
+    record { within = s .next; readable = s .readable; line = omega (arith, s .line, z .pre .0 .line); counted = z .pre .0 .counted ∙ ap length (sym (predicates-added _ _ g _ _ _ e)) }
 
 returns-2 : tie.Need-returns-2
 unfolding predicatesFrom

@@ -1,11 +1,13 @@
 -- `symbol_at` looks at the last two bytes, the arity, the name.
 use mathlib.Core.Path.{sym, _∙_}
+use native.Mathlib.Omega.{arith}
 use borrow.Author.Tests.{not-true, not-false}
 use Rattle.syntax.specs.Signatures.{signatureIn}
-use Prim.Native.Nat.{_-_}
+use Prim.Native.Nat.{_+_, _-_}
+use lib.ListN.{getD}
 use Rattle.text.specs.Lines.{part}
 use Rattle.text.proofs.Counts.{digit-from}
-use Rattle.problem.proofs.Declaring.{value-short, value-unslashed, value-undigited, arity-over, name-bad, name-repeated, symbol-declared, name-found, name-not-found}
+use Rattle.problem.proofs.Declaring.{digit-below, value-short, value-unslashed, value-undigited, arity-over, name-bad, name-repeated, symbol-declared, name-found, name-not-found}
 use borrow.Author.Needs.{needs}
 use Rattle.problem.proofs.symbols.symbol_at.Statement.{statement}
 use Rattle.problem.proofs.symbols.symbol_at.Tie as tie
@@ -48,6 +50,11 @@ returns-3 c =
 
 sub-arity : tie.Need-sub-arity
 sub-arity c = digit-from _ (sym (c .before .is-digit .ensures) ∙ not-false _ (c .if3 .left))
+
+cast-if4 : tie.Need-cast-if4
+cast-if4 c =
+    let a = c .before .before .before .before .before .before .before .args in
+    omega (arith, digit-below (getD (a .sheet .now) (a .end - 2 + 1) 0) (sym (c .before .is-digit .ensures) ∙ not-false _ (c .if3 .left)))
 
 returns-4 : tie.Need-returns-4
 returns-4 c =
@@ -117,6 +124,7 @@ symbol-at-spec =
     is-digit-requires
     returns-3
     sub-arity
+    cast-if4
     returns-4
     sub-is-name
     part-is-name-start

@@ -1,7 +1,5 @@
 use native.Mathlib.Omega.{arith}
-use mathlib.Core.Path.{ap, _∙_}
-use Rattle.theory.specs.Program.{printed}
-use Rattle.program.proofs.Results.{was-found, was-none, was-refused, line-small, printed-found, printed-refused}
+use Rattle.program.proofs.Results.{was-found, line-small, found-responds, none-responds, refused-responds}
 use borrow.Author.Needs.{needs}
 use Rattle.program.proofs.report.put_result.Statement.{statement}
 use Rattle.program.proofs.report.put_result.Tie as tie
@@ -47,8 +45,7 @@ same-length c = search needs
 returns : tie.Need-returns
 returns c s =
     let z = c .before .before .before .before .before .before .before .before in
-    let w = was-found (z .args .out .now) (z .args .answer) s _ _ (c .before .before .before .before .before .answer .given .1) in
-    rw (ap printed (w .is) ∙ printed-found (w .size) 0 _) (c .before .before .put-found .ensures)
+    found-responds (z .args .out .now) (z .args .answer) s _ _ _ _ (c .before .before .before .before .before .answer .given .1) (c .before .before .put-found .ensures)
 
 -- src/report.rt:17:1
 same-length-2 : tie.Need-same-length-2
@@ -58,7 +55,7 @@ same-length-2 c = search needs
 returns-2 : tie.Need-returns-2
 returns-2 c s =
     let z = c .before .before .before .before .before .before .before .before in
-    rw (was-none (z .args .out .now) (z .args .answer) s _ (c .before .before .before .before .before .answer2 .given .1)) (c .before .before .put-none .ensures)
+    none-responds (z .args .out .now) (z .args .answer) s _ _ _ (c .before .before .before .before .before .answer2 .given .1) (c .before .before .put-none .ensures)
 
 -- src/report.rt:17:1
 same-length-3 : tie.Need-same-length-3
@@ -68,7 +65,7 @@ same-length-3 c = search needs
 returns-3 : tie.Need-returns-3
 returns-3 c s =
     let z = c .before .before .before .before .before .before .before .before in
-    rw (ap printed (was-refused (z .args .out .now) (z .args .answer) s _ (c .before .before .before .before .before .answer3 .given .1)) ∙ printed-refused _) (c .before .before .put-refusal .ensures)
+    refused-responds (z .args .out .now) (z .args .answer) s _ _ _ (c .before .before .before .before .before .answer3 .given .1) (c .before .before .put-refusal .ensures)
 
 pub put-result-spec : {M : Type 1} → statement M
 put-result-spec =

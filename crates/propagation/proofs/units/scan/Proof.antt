@@ -40,7 +40,7 @@ long c =
     let a = t .before .before .before .args in
     let e = c .visit .ensures in
     scanning-length (a .work .now) (a .v) (a .from) (a .to) (a .len) (l .work) (l .entries) (l .place) (l .inv) (t .loop-test .taken)
-    (c .before .before .wide .result) (c .before .before .wide .ensures) (c .visit .result .len) (c .visit .result .clash) (c .visit .last .0) (e .0) (e .1) (e .2)
+    (c .before .before .wide .result) (c .before .before .wide .ensures) (c .visit .result .len) (c .visit .result .clash) (c .visit .last .0) e
 
 same-length : tie.Need-same-length Inv-loop μ-loop
 same-length c = long (c .before .before .before)
@@ -53,7 +53,7 @@ returns c =
     let a = t .before .before .before .args in
     let e = v .visit .ensures in
     scanning-stop (a .work .now) (a .v) (a .from) (a .to) (a .len) (l .work) (l .entries) (l .place) (l .inv) (t .loop-test .taken)
-    (v .before .before .wide .result) (v .before .before .wide .ensures) (v .visit .result .len) (v .visit .result .clash) (v .visit .last .0) (e .0) (e .1) (e .2) (c .if1 .taken)
+    (v .before .before .wide .result) (v .before .before .wide .ensures) (v .visit .result .len) (v .visit .result .clash) (v .visit .last .0) e (c .if1 .taken)
 
 add-place : tie.Need-add-place Inv-loop μ-loop
 add-place c = omega (arith, c .before .before .before .before .before .before .before .loop-test .taken, c .before .before .before .before .before .before .before .before .before .before .fits .to)
@@ -69,7 +69,7 @@ loop-again c =
     let a = t .before .before .before .args in
     let e = v .visit .ensures in
     scanning-turn (a .work .now) (a .v) (a .from) (a .to) (a .len) (l .work) (l .entries) (l .place) (l .inv) (t .loop-test .taken)
-    (v .before .before .wide .result) (v .before .before .wide .ensures) (v .visit .result .len) (v .visit .result .clash) (v .visit .last .0) (e .0) (e .1) (e .2) (c .if1 .left)
+    (v .before .before .wide .result) (v .before .before .wide .ensures) (v .visit .result .len) (v .visit .result .clash) (v .visit .last .0) e (c .if1 .left)
 
 same-length-2 : tie.Need-same-length-2 Inv-loop μ-loop
 same-length-2 c = c .before .loop .inv .1

@@ -6,7 +6,7 @@ use mathlib.Core.List.{List}
 use lib.ListN.{length}
 use Rattle.theory.specs.Refusals.{Answer, atLine, unplaced}
 use Rattle.theory.specs.Operations.{lengthAnswer, outputAfter}
-use Rattle.reading_back.proofs.Answered.{refused-so, sheet-refusal, sheet-within, size-refusal, size-within, setting-left}
+use Rattle.reading_back.proofs.Answered.{refused-so, sheet-refusal, sheet-within, size-refusal, size-taken, setting-left}
 use Rattle.reading_back.proofs.setting.read_setting_back.Statement.{statement}
 use Rattle.reading_back.proofs.setting.read_setting_back.Tie as tie
 
@@ -44,7 +44,7 @@ write-setting-requires c κs =
       r .ensures .1 ok .readable,
       (
         sheet-within (a .sheet .now) (r .result) (r .ensures .0) ok,
-        size-within (a .sheet .now) (r .result) (r .ensures .0) ok (a .size) (k .result) (k .ensures) (c .before .before .s .given .0 .0) (c .before .before .s .given .1),
+        size-taken (a .sheet .now) (r .result) (r .ensures .0) ok (a .size) (k .result) (k .ensures) (c .before .before .s .given .0 .0) (c .before .before .s .given .1),
       ),
     )
 
@@ -67,7 +67,7 @@ returns-3 c =
     let d = c .before .before .before .before .before .s .given in
     let p = c .before .before .write-setting in
     let e = setting-left (a .sheet .now) (r .result) (r .ensures .0) (c .before .before .before .before .before .before .before .before .before .if1 .left) (a .size) (k .result) (k .ensures) (d .0 .0) (d .1) (a .setting .now) (length (a .output .now)) in
-    (p .ensures .0 ∙ ap lengthAnswer (sym e), p .ensures .1 ∙ ap (λ (t : Answer (List ℕ)). outputAfter t (a .output .now)) (sym e))
+    record { answer = p .ensures .answer ∙ ap lengthAnswer (sym e); left = p .ensures .left ∙ ap (λ (t : Answer (List ℕ)). outputAfter t (a .output .now)) (sym e) }
 
 pub read-setting-back-spec : {M : Type 1} → statement M
 read-setting-back-spec =

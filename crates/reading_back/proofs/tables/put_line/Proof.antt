@@ -34,16 +34,13 @@ put-table-requires c κs =
     let t = c .before .before .before .before .before .before .table-held in
     let bits = bitsHeld (a .setting .now) (a .values .now) in
     let e : t .last .1 .1 .1 .1 .1 .1 .0 ≡ tableIn (a .size .0) (a .symbol) (a .from .0) bits =
-    t .ensures ∙ ap (λ (n : ℕ). cellValues (a .size .0) (kindOf (a .symbol .function)) n (a .from .0) bits) (s .pre .1 .0 .1) in (
-      h .name,
-      (
-        omega (arith, t .kept .1 .1 .1 .1 .1 .1 .0, s .pre .1 .0 .1, one-le-pow (a .symbol .arity) (a .size .0) (h .positive)),
-        (
-          subst (AllBelow 8) (sym e) (h .below),
-          subst (λ (l : List ℕ). a .at + length (tableText (symbolIn (a .sheet .now) (a .symbol)) l) ≤ length (a .out .now)) (sym e) (s .pre .1 .1),
-        ),
-      ),
-    )
+    t .ensures ∙ ap (λ (n : ℕ). cellValues (a .size .0) (kindOf (a .symbol .function)) n (a .from .0) bits) (s .pre .1 .0 .1) in
+    record {
+      named = h .name;
+      some-value = omega (arith, t .kept .1 .1 .1 .1 .1 .1 .0, s .pre .1 .0 .1, one-le-pow (a .symbol .arity) (a .size .0) (h .positive));
+      below = subst (AllBelow 8) (sym e) (h .below);
+      room = subst (λ (l : List ℕ). a .at + length (tableText (symbolIn (a .sheet .now) (a .symbol)) l) ≤ length (a .out .now)) (sym e) (s .pre .1 .1);
+    }
 
 same-length : tie.Need-same-length
 same-length c = search needs

@@ -24,7 +24,7 @@ all-clauses-requires c κs =
       (h .sized .accepted, h .sized .within),
       (
         z .pre .1,
-        measure-begins (a .sheet .now) (a .p) (h .sized .accepted) (a .size) (h .sized .within) (h .instances) (h .sized .positive) (a .n .count) (z .pre .1 .count) (0 ∷ []) (0 ∷ []) 0 (omega arith),
+        measure-begins (a .sheet .now) (a .p) (h .sized .accepted) (a .size .0) (h .sized .within) (h .instances) (h .sized .positive) (a .n .count) (z .pre .1 .count) (0 ∷ []) (0 ∷ []) 0 (omega arith),
       ),
     )
 
@@ -35,7 +35,7 @@ returns c =
     let a = z .args in
     let h = z .pre .0 in
     let e =
-    measure-ends (a .sheet .now) (a .p) (h .sized .accepted) (a .size) (h .sized .within) (h .instances) (h .sized .positive) (a .n .count) (z .pre .1 .count) (0 ∷ []) (0 ∷ []) 0 (omega arith) _ (c .before .before .all-clauses .ensures) in
+    measure-ends (a .sheet .now) (a .p) (h .sized .accepted) (a .size .0) (h .sized .within) (h .instances) (h .sized .positive) (a .n .count) (z .pre .1 .count) (0 ∷ []) (0 ∷ []) 0 (omega arith) _ (c .before .before .all-clauses .ensures) in
     (e .count, e .at ∙ zero-add _)
 
 pub measured-spec : {M : Type 1} → statement M

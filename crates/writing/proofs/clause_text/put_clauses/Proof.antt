@@ -19,7 +19,7 @@ all-clauses-requires c κs =
       (h .sized .accepted, h .sized .within),
       (
         n,
-        write-begins (a .sheet .now) (a .p) (h .sized .accepted) (a .size) (h .sized .within) (h .instances) (h .sized .positive) (a .n .count) (n .count) (a .output .now) (0 ∷ []) (a .at) (z .pre .1),
+        write-begins (a .sheet .now) (a .p) (h .sized .accepted) (a .size .0) (h .sized .within) (h .instances) (h .sized .positive) (a .n .count) (n .count) (a .output .now) (0 ∷ []) (a .at) (z .pre .1),
       ),
     )
 
@@ -34,7 +34,7 @@ returns c =
     let h = z .pre .0 .0 in
     let n = z .pre .0 .1 in
     let e =
-    write-ends (a .sheet .now) (a .p) (h .sized .accepted) (a .size) (h .sized .within) (h .instances) (h .sized .positive) (a .n .count) (n .count) (a .output .now) (0 ∷ []) (a .at) (z .pre .1) _ (c .before .before .before .all-clauses .ensures) in
+    write-ends (a .sheet .now) (a .p) (h .sized .accepted) (a .size .0) (h .sized .within) (h .instances) (h .sized .positive) (a .n .count) (n .count) (a .output .now) (0 ∷ []) (a .at) (z .pre .1) _ (c .before .before .before .all-clauses .ensures) in
     (e .output, e .at)
 
 pub put-clauses-spec : {M : Type 1} → statement M

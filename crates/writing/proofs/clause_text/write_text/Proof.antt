@@ -13,18 +13,15 @@ use Rattle.writing.proofs.Written.{needed, needed-small, lines-fit, bot
 use Rattle.writing.proofs.clause_text.write_text.Statement.{statement}
 use Rattle.writing.proofs.clause_text.write_text.Tie as tie
 
-cast-size : tie.Need-cast-size
-cast-size c = search needs
-
 numbering-of-requires : tie.Need-numbering-of-requires
 numbering-of-requires c κs = search needs
 
 measured-requires : tie.Need-measured-requires
-measured-requires c κs = let z = c .before .before .before .before in (z .pre, c .numbering-of .ensures (z .args .sheet .now))
+measured-requires c κs = let z = c .before .before .before in (z .pre, c .numbering-of .ensures (z .args .sheet .now))
 
 cast-clauses : tie.Need-cast-clauses
 cast-clauses c =
-    let z = c .before .before .before .before .before .before in
+    let z = c .before .before .before .before .before in
     let h = z .pre in
     omega (arith, c .before .measured .ensures .0, clauses-few (z .args .sheet .now) (z .args .p) (h .sized .accepted) (z .args .s .0) (h .sized .within) (h .instances))
 
@@ -33,7 +30,7 @@ header-length-requires c κs = search needs
 
 add-needed : tie.Need-add-needed
 add-needed c =
-    let z = c .before .before .before .before .before .before .before .before in
+    let z = c .before .before .before .before .before .before .before in
     let sheet = z .args .sheet .now in
     let h = z .pre in
     let n = c .before .before .before .before .numbering-of in
@@ -51,7 +48,7 @@ needing-requires c κs = search needs
 returns : tie.Need-returns
 unfolding problemIn
 returns c =
-    let z = c .before .before .before .before .before .before .before .before .before .before in
+    let z = c .before .before .before .before .before .before .before .before .before in
     let p = problemIn (z .args .sheet .now) (z .args .p) in
     let s = z .args .s .0 in
     let room = length (z .args .output .now) in
@@ -68,7 +65,7 @@ put-header-requires c κs = search needs
 put-clauses-requires : tie.Need-put-clauses-requires
 unfolding problemIn
 put-clauses-requires c κs =
-    let z = c .before .before .before .before .before .before .before .before .before .before .before .before .before .before in
+    let z = c .before .before .before .before .before .before .before .before .before .before .before .before .before in
     let p = problemIn (z .args .sheet .now) (z .args .p) in
     let s = z .args .s .0 in
     let n = c .before .before .before .before .before .before .before .before .before .before .numbering-of in
@@ -85,7 +82,7 @@ same-length c = search needs
 returns-2 : tie.Need-returns-2
 unfolding problemIn
 returns-2 c =
-    let z = c .before .before .before .before .before .before .before .before .before .before .before .before .before .before .before .before .before in
+    let z = c .before .before .before .before .before .before .before .before .before .before .before .before .before .before .before .before in
     let p = problemIn (z .args .sheet .now) (z .args .p) in
     let s = z .args .s .0 in
     let room = length (z .args .output .now) in
@@ -103,7 +100,6 @@ pub write-text-spec : {M : Type 1} → statement M
 write-text-spec =
     tie.close
     (tie.spec
-    cast-size
     numbering-of-requires
     measured-requires
     cast-clauses

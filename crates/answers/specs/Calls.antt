@@ -1,0 +1,44 @@
+-- One call of each operation: what it was handed, the answer r, and each lent buffer before and after. These records are the promises of the calls, and the theorems
+-- on the calls speak of them.
+use Prim.Native.Nat.{ℕ}
+use mathlib.Core.Path.{_≡_}
+use mathlib.Core.List.{List}
+use lib.ListN.{length}
+use Rattle.theory.specs.Refusals.{Answer}
+use Rattle.theory.specs.Operations.{readAnswer, judgeAnswer, lengthAnswer, outputAfter, writtenText, readBackText, Search, findResult, findAnswer, findWork, findOutput}
+use Rattle.answers.specs.declared.ReadAnswer.{ReadAnswer}
+use Rattle.answers.specs.declared.JudgeAnswer.{JudgeAnswer}
+use Rattle.answers.specs.declared.WriteAnswer.{WriteAnswer}
+use Rattle.answers.specs.declared.FindAnswer.{FindAnswer}
+use Rattle.answers.specs.Answers.{readIn, judgeIn, lengthIn, findIn}
+
+-- Read
+pub record ReadCall (sheet : List ℕ) (r : ReadAnswer) : Type 0 where
+  pub answer : readIn r ≡ readAnswer sheet
+
+-- Judge
+pub record JudgeCall (sheet case : List ℕ) (r : JudgeAnswer) : Type 0 where
+  pub answer : judgeIn r ≡ judgeAnswer sheet case
+
+-- a call that writes this text, or is refused
+pub record WritingCall (text : Answer (List ℕ)) (r : WriteAnswer) (output output′ : List ℕ) : Type 0 where
+  pub answer : lengthIn r ≡ lengthAnswer text
+  pub left : output′ ≡ outputAfter text output
+
+-- Write
+abbrev pub WriteCall : List ℕ → ℕ → WriteAnswer → List ℕ → List ℕ → Type 0
+WriteCall sheet size r output output′ = WritingCall (writtenText sheet size (length output)) r output output′
+
+-- Read back
+abbrev pub ReadBackCall : List ℕ → ℕ → List ℕ → WriteAnswer → List ℕ → List ℕ → Type 0
+ReadBackCall sheet size setting r output output′ = WritingCall (readBackText sheet size setting (length output)) r output output′
+
+-- a call that searches with this result, or is refused
+pub record SearchingCall (result : Answer Search) (r : FindAnswer) (work work′ output output′ : List ℕ) : Type 0 where
+  pub answer : findIn r ≡ findAnswer result
+  pub worked : work′ ≡ findWork result work
+  pub left : output′ ≡ findOutput result output
+
+-- Find
+abbrev pub FindCall : List ℕ → ℕ → ℕ → FindAnswer → List ℕ → List ℕ → List ℕ → List ℕ → Type 0
+FindCall sheet low high r work work′ output output′ = SearchingCall (findResult sheet low high (length work) (length output)) r work work′ output output′

@@ -1,0 +1,33 @@
+-- One call of each exported operation that is lent a buffer: the struct r that is answered, and each buffer before and after.
+use Prim.Native.Nat.{ℕ}
+use mathlib.Core.Path.{_≡_}
+use mathlib.Core.List.{List}
+use lib.ListN.{length}
+use Rattle.theory.specs.Refusals.{Answer}
+use Rattle.theory.specs.Operations.{lengthAnswer, outputAfter, writtenText, readBackText, Search, findResult, findAnswer, findWork, findOutput}
+use Rattle.exports.specs.declared.WriteOut.{WriteOut}
+use Rattle.exports.specs.declared.FindOut.{FindOut}
+use Rattle.exports.specs.Layouts.{writeOut, findOut}
+
+-- a call that writes this text, or is refused
+pub record WritingExport (text : Answer (List ℕ)) (r : WriteOut) (output output′ : List ℕ) : Type 0 where
+  pub answer : r ≡ writeOut (lengthAnswer text)
+  pub left : output′ ≡ outputAfter text output
+
+-- Write
+abbrev pub WriteExport : List ℕ → ℕ → WriteOut → List ℕ → List ℕ → Type 0
+WriteExport sheet size r output output′ = WritingExport (writtenText sheet size (length output)) r output output′
+
+-- Read back
+abbrev pub ReadBackExport : List ℕ → ℕ → List ℕ → WriteOut → List ℕ → List ℕ → Type 0
+ReadBackExport sheet size setting r output output′ = WritingExport (readBackText sheet size setting (length output)) r output output′
+
+-- a call that searches with this result, or is refused
+pub record SearchingExport (result : Answer Search) (r : FindOut) (work work′ output output′ : List ℕ) : Type 0 where
+  pub answer : r ≡ findOut (findAnswer result)
+  pub worked : work′ ≡ findWork result work
+  pub left : output′ ≡ findOutput result output
+
+-- Find
+abbrev pub FindExport : List ℕ → ℕ → ℕ → FindOut → List ℕ → List ℕ → List ℕ → List ℕ → Type 0
+FindExport sheet low high r work work′ output output′ = SearchingExport (findResult sheet low high (length work) (length output)) r work work′ output output′

@@ -1,0 +1,174 @@
+-- Demand 1 of the calls: the numbers of each operation's refusals, check by check, and what a refused call leaves.
+use Prim.Native.Nat.{ℕ, suc, _+_, _≤_}
+use mathlib.Core.Path.{_≡_, refl, sym, subst, _∙_}
+use mathlib.Core.Bool.{Bool, true, false, _&&_}
+use mathlib.Core.Option.{Option, none, some}
+use mathlib.Core.List.{List, [], _∷_, _++_}
+use native.Mathlib.Omega.{arith}
+use lib.Dec.{eqb, leb}
+use lib.ListN.{length}
+use Rattle.theory.specs.Lists.{all, upFrom, elem, same}
+use Rattle.theory.specs.Bytes.{bytes}
+use Rattle.theory.specs.Lines.{cutLine, afterKey}
+use Rattle.theory.specs.Syntax.{Symbol, Signature}
+use Rattle.theory.specs.Cells.{tableSize}
+use Rattle.theory.specs.PropClauses.{instanceCount, workNeeded}
+use Rattle.theory.specs.Valuation.{isValuation, isFunctional}
+use Rattle.theory.specs.Refusals.{Refusal, Answer, answer, refused, atLine, unplaced, needing, _>>=_, check, orRefuse}
+use Rattle.theory.specs.Problem.{Problem, readProblem}
+use Rattle.theory.specs.CaseText.{equalsSign, caseLength, unjoined, isValueByte, readTable, readTables, sizeOf, readCase}
+use Rattle.theory.specs.Operations.{maxSize, maxInstances, isSize, readAnswer, judgeAnswer, lengthAnswer, outputAfter, contentOf, writtenText, readBackText, Search, found, nothing, findResult, findAnswer, findWork, findOutput}
+use Rattle.theory.proofs.Tests.{leb-true, and-left, and-right, or-left}
+use Rattle.theory.proofs.Lists.{elem-append, upFrom-elem}
+use Rattle.theory.proofs.Answers.{answer≢refused, refused-inj, unrefused}
+use Rattle.theory.proofs.SheetRefusals.{sheet-refusal}
+use Rattle.answers.specs.declared.WriteAnswer.{WriteAnswer}
+use Rattle.answers.specs.declared.FindAnswer.{FindAnswer}
+use Rattle.answers.specs.Answers.{lengthIn, findIn}
+use Rattle.answers.specs.Calls.{WritingCall, SearchingCall}
+use Rattle.writing.specs.Texts.{clausesText}
+use Rattle.nesskettle.specs.Demand1.{readNumbers, judgeNumbers, writeNumbers, readBackNumbers, findNumbers, NumberOf, ResultOr, Demand1}
+
+-- the number of every refusal of the answer is one of these
+abbrev Within : {A : Type 0} → List ℕ → Answer A → Type 0
+Within numbers m = (q : Refusal) → m ≡ refused q → NumberOf numbers q
+
+within-result-or : {A : Type 0} (numbers : List ℕ) (m : Answer A) → Within numbers m → ResultOr (NumberOf numbers) m
+within-result-or numbers (answer a) h = tt
+within-result-or numbers (refused q) h = h q refl
+
+-- the steps of an operation: a result, something that may refuse, a check, a value that may be missing
+module _ (numbers : List ℕ) where
+  ends : {A : Type 0} (a : A) → Within numbers (answer a)
+  ends a q e = absurd (answer≢refused a q e)
+
+  then : {A B : Type 0} (m : Answer A) (k : A → Answer B) → Within numbers m → ((a : A) → Within numbers (k a)) → Within numbers (m >>= k)
+  then m k h f q e = unrefused m k q e (h q) (λ a _ e. f a q e)
+
+  refuses : {A : Type 0} (p q : Refusal) → NumberOf numbers p → _≡_ {A = Answer A} (refused p) (refused q) → NumberOf numbers q
+  refuses {A = A} p q h e = subst (NumberOf numbers) (refused-inj {A = A} p q e) h
+
+  checks : {B : Type 0} (b : Bool) (p : Refusal) (k : Unit {0} → Answer B) → NumberOf numbers p → Within numbers (k tt) → Within numbers (check b p >>= k)
+  unfolding _>>=_
+  checks true p k h f q e = f q e
+  checks {B = B} false p k h f q e = refuses {A = B} p q h e
+
+  needs : {A B : Type 0} (o : Option A) (p : Refusal) (k : A → Answer B) → NumberOf numbers p → ((a : A) → Within numbers (k a)) → Within numbers (orRefuse o p >>= k)
+  unfolding _>>=_
+  needs {B = B} none p k h f q e = refuses {A = B} p q h e
+  needs (some a) p k h f q e = f a q e
+
+-- the sheet's refusals are among those of an operation with numbers of its own
+sheet-within : (own : List ℕ) (sheet : List ℕ) → Within (upFrom 1 7 ++ own) (readProblem sheet)
+sheet-within own sheet q e =
+    let h = sheet-refusal sheet q e .number in
+    let low : 1 ≤ q .number = leb-true 1 (q .number) (and-left (leb 1 (q .number)) (leb (q .number) 7) h) in
+    let high : q .number ≤ 7 = leb-true (q .number) 7 (and-right (leb 1 (q .number)) (leb (q .number) 7) h) in
+    elem-append (q .number) (upFrom 1 7) own ∙ or-left (elem (q .number) (upFrom 1 7)) (elem (q .number) own) (upFrom-elem (q .number) 1 7 low (omega arith))
+
+-- Read
+read-within : (sheet : List ℕ) → Within readNumbers (readAnswer sheet)
+unfolding readAnswer
+read-within sheet = then readNumbers _ _ (sheet-within [] sheet) λ p. ends readNumbers _
+
+-- a case is refused with 12
+table-within : (s : ℕ) (f : Symbol) (l : ℕ) (text : List ℕ) → Within judgeNumbers (readTable s f l text)
+unfolding readTable
+table-within s f l text =
+    needs judgeNumbers (cutLine text) (atLine 12 l) _ refl λ p.
+    needs judgeNumbers (afterKey (f .name ++ (equalsSign ∷ [])) (p .0)) (atLine 12 l) _ refl λ v.
+    needs judgeNumbers (unjoined v) (atLine 12 l) _ refl λ bs.
+    checks judgeNumbers (eqb (length bs) (tableSize s f) && all (isValueByte s (f .kind)) bs) (atLine 12 l) _ refl (ends judgeNumbers _)
+
+tables-within : (s : ℕ) (g : Signature) (l : ℕ) (text : List ℕ) → Within judgeNumbers (readTables s g l text)
+unfolding readTables
+tables-within s [] l text = ends judgeNumbers _
+tables-within s (f ∷ g) l text =
+    then judgeNumbers _ _ (table-within s f l text) λ p.
+    then judgeNumbers _ _ (tables-within s g (suc l) (p .1)) λ r. ends judgeNumbers _
+
+case-within : (g : Signature) (text : List ℕ) → Within judgeNumbers (readCase g text)
+unfolding readCase
+case-within g text =
+    needs judgeNumbers (cutLine text) (atLine 12 1) _ refl λ a.
+    checks judgeNumbers (same (a .0) (bytes "case=1")) (atLine 12 1) _ refl
+    (needs judgeNumbers (cutLine (a .1)) (atLine 12 2) _ refl λ b.
+    needs judgeNumbers (afterKey (bytes "size=") (b .0)) (atLine 12 2) _ refl λ v.
+    needs judgeNumbers (sizeOf v) (atLine 12 2) _ refl λ s.
+    then judgeNumbers (readTables s g 3 (b .1)) _ (tables-within s g 3 (b .1)) λ t.
+    checks judgeNumbers (same (t .1) []) (atLine 12 (3 + length g)) _ refl (ends judgeNumbers _))
+
+-- Judge
+judge-within : (sheet case : List ℕ) → Within judgeNumbers (judgeAnswer sheet case)
+unfolding judgeAnswer
+judge-within sheet case =
+    then judgeNumbers _ _ (sheet-within (12 ∷ []) sheet) λ p.
+    then judgeNumbers _ _ (case-within (p .symbols) case) λ k. ends judgeNumbers _
+
+-- Write
+content-within : (sheet : List ℕ) (size : ℕ) → Within writeNumbers (contentOf sheet size)
+unfolding contentOf
+content-within sheet size =
+    then writeNumbers _ _ (sheet-within (8 ∷ 9 ∷ 11 ∷ []) sheet) λ p.
+    checks writeNumbers (isSize size) (unplaced 8) _ refl
+    (checks writeNumbers (leb (instanceCount size (p .symbols) (p .clauses)) maxInstances) (unplaced 9) _ refl (ends writeNumbers _))
+
+write-within : (sheet : List ℕ) (size room : ℕ) → Within writeNumbers (writtenText sheet size room)
+unfolding writtenText
+write-within sheet size room =
+    then writeNumbers _ _ (content-within sheet size) λ p.
+    checks writeNumbers (leb (length (clausesText p size)) room) (needing 11 (length (clausesText p size))) _ refl (ends writeNumbers _)
+
+-- Read back
+read-back-within : (sheet : List ℕ) (size : ℕ) (setting : List ℕ) (room : ℕ) → Within readBackNumbers (readBackText sheet size setting room)
+unfolding readBackText
+read-back-within sheet size setting room =
+    then readBackNumbers _ _ (sheet-within (8 ∷ 11 ∷ 13 ∷ 14 ∷ []) sheet) λ p.
+    checks readBackNumbers (isSize size) (unplaced 8) _ refl
+    (checks readBackNumbers (isValuation size (p .symbols) setting) (unplaced 13) _ refl
+    (checks readBackNumbers (isFunctional size (p .symbols) setting) (unplaced 14) _ refl
+    (checks readBackNumbers (leb (caseLength size (p .symbols)) room) (needing 11 (caseLength size (p .symbols))) _ refl (ends readBackNumbers _))))
+
+-- Find
+find-within : (sheet : List ℕ) (low high work room : ℕ) → Within findNumbers (findResult sheet low high work room)
+unfolding findResult
+find-within sheet low high work room =
+    then findNumbers _ _ (sheet-within (8 ∷ 9 ∷ 10 ∷ 11 ∷ []) sheet) λ p.
+    checks findNumbers (leb 1 low && leb high maxSize && leb low high) (unplaced 8) _ refl
+    (checks findNumbers (leb (instanceCount high (p .symbols) (p .clauses)) maxInstances) (unplaced 9) _ refl
+    (checks findNumbers (leb (workNeeded high (p .symbols) (p .clauses)) work) (needing 10 (workNeeded high (p .symbols) (p .clauses))) _ refl
+    (checks findNumbers (leb (caseLength high (p .symbols)) room) (needing 11 (caseLength high (p .symbols))) _ refl (ends findNumbers _))))
+
+-- a refused call that writes leaves the output as it was
+writing-kept : (numbers : List ℕ) (text : Answer (List ℕ)) (r : WriteAnswer) (output output′ : List ℕ) → WritingCall text r output output′ → Within numbers text
+    → ResultOr (λ q. NumberOf numbers q × (output′ ≡ output)) (lengthIn r)
+writing-kept numbers text r output output′ w h = subst (ResultOr (λ q. NumberOf numbers q × (output′ ≡ output))) (sym (w .answer)) (go text (w .left) h)
+  where
+    go : (text : Answer (List ℕ)) → output′ ≡ outputAfter text output → Within numbers text → ResultOr (λ q. NumberOf numbers q × (output′ ≡ output)) (lengthAnswer text)
+    go (answer t) l h = tt
+    go (refused q) l h = (h q refl, l)
+
+-- a refused search leaves work and output as they were
+searching-kept : (numbers : List ℕ) (result : Answer Search) (r : FindAnswer) (work work′ output output′ : List ℕ) → SearchingCall result r work work′ output output′ → Within numbers result
+    → ResultOr (λ q. NumberOf numbers q × (work′ ≡ work) × (output′ ≡ output)) (findIn r)
+searching-kept numbers result r work work′ output output′ f h =
+    subst (ResultOr (λ q. NumberOf numbers q × (work′ ≡ work) × (output′ ≡ output))) (sym (f .answer)) (go result (f .worked) (f .left) h)
+  where
+    go : (result : Answer Search) → work′ ≡ findWork result work → output′ ≡ findOutput result output → Within numbers result
+        → ResultOr (λ q. NumberOf numbers q × (work′ ≡ work) × (output′ ≡ output)) (findAnswer result)
+    go (answer (found s t)) w l h = tt
+    go (answer (nothing b)) w l h = tt
+    go (refused q) w l h = (h q refl, w, l)
+
+-- the theorem
+pub demand1-of-calls : Demand1
+demand1-of-calls =
+    record {
+      read = λ sheet r c. subst (ResultOr (NumberOf readNumbers)) (sym (c .answer)) (within-result-or readNumbers (readAnswer sheet) (read-within sheet));
+      judge = λ sheet case r c. subst (ResultOr (NumberOf judgeNumbers)) (sym (c .answer)) (within-result-or judgeNumbers (judgeAnswer sheet case) (judge-within sheet case));
+      write = λ sheet size r output output′ c. writing-kept writeNumbers (writtenText sheet size (length output)) r output output′ c (write-within sheet size (length output));
+      readBack = λ sheet size setting r output output′ c.
+          writing-kept readBackNumbers (readBackText sheet size setting (length output)) r output output′ c (read-back-within sheet size setting (length output));
+      find = λ sheet low high r work work′ output output′ c.
+          searching-kept findNumbers (findResult sheet low high (length work) (length output)) r work work′ output output′ c (find-within sheet low high (length work) (length output));
+    }

@@ -1,0 +1,54 @@
+-- Demand 1 of the calls: every answer is a result or a refusal with one of the operation's numbers, and a refused call leaves every lent byte and number as it was.
+-- That the calls ask nothing is their contracts in `src/lib.rt`, which have no `requires`; that they end is part of their being proved.
+use Prim.Native.Nat.{ℕ}
+use mathlib.Core.Path.{_≡_}
+use mathlib.Core.Bool.{true}
+use mathlib.Core.List.{List, [], _∷_, _++_}
+use Rattle.theory.specs.Lists.{upFrom, elem}
+use Rattle.theory.specs.Refusals.{Refusal, Answer, answer, refused}
+use Rattle.answers.specs.declared.ReadAnswer.{ReadAnswer}
+use Rattle.answers.specs.declared.JudgeAnswer.{JudgeAnswer}
+use Rattle.answers.specs.declared.WriteAnswer.{WriteAnswer}
+use Rattle.answers.specs.declared.FindAnswer.{FindAnswer}
+use Rattle.answers.specs.Answers.{readIn, judgeIn, lengthIn, findIn}
+use Rattle.answers.specs.Calls.{ReadCall, JudgeCall, WriteCall, ReadBackCall, FindCall}
+
+-- The numbers that document 01 gives each operation. Read: 1 to 7
+abbrev pub readNumbers : List ℕ
+readNumbers = upFrom 1 7
+
+-- Judge: 1 to 7, and 12
+abbrev pub judgeNumbers : List ℕ
+judgeNumbers = upFrom 1 7 ++ (12 ∷ [])
+
+-- Write: 1 to 9, and 11
+abbrev pub writeNumbers : List ℕ
+writeNumbers = upFrom 1 9 ++ (11 ∷ [])
+
+-- Read back: 1 to 8, 11, 13 and 14
+abbrev pub readBackNumbers : List ℕ
+readBackNumbers = upFrom 1 8 ++ (11 ∷ 13 ∷ 14 ∷ [])
+
+-- Find: 1 to 11
+abbrev pub findNumbers : List ℕ
+findNumbers = upFrom 1 11
+
+-- the refusal's number is one of these
+abbrev pub NumberOf : List ℕ → Refusal → Type 0
+NumberOf numbers q = elem (q .number) numbers ≡ true
+
+-- a result, or a refusal of which this holds
+abbrev pub ResultOr : {A : Type 0} → (Refusal → Type 0) → Answer A → Type 0
+ResultOr P (answer a) = Unit {0}
+ResultOr P (refused q) = P q
+
+-- it holds of every call
+pub record Demand1 : Type 0 where
+  pub read : (sheet : List ℕ) (r : ReadAnswer) → ReadCall sheet r → ResultOr (NumberOf readNumbers) (readIn r)
+  pub judge : (sheet case : List ℕ) (r : JudgeAnswer) → JudgeCall sheet case r → ResultOr (NumberOf judgeNumbers) (judgeIn r)
+  pub write : (sheet : List ℕ) (size : ℕ) (r : WriteAnswer) (output output′ : List ℕ) → WriteCall sheet size r output output′
+      → ResultOr (λ q. NumberOf writeNumbers q × (output′ ≡ output)) (lengthIn r)
+  pub readBack : (sheet : List ℕ) (size : ℕ) (setting : List ℕ) (r : WriteAnswer) (output output′ : List ℕ) → ReadBackCall sheet size setting r output output′
+      → ResultOr (λ q. NumberOf readBackNumbers q × (output′ ≡ output)) (lengthIn r)
+  pub find : (sheet : List ℕ) (low high : ℕ) (r : FindAnswer) (work work′ output output′ : List ℕ) → FindCall sheet low high r work work′ output output′
+      → ResultOr (λ q. NumberOf findNumbers q × (work′ ≡ work) × (output′ ≡ output)) (findIn r)
