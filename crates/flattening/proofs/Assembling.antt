@@ -57,8 +57,8 @@ put-start c at literal arguments h =
       roomy = h;
       count = refl;
       variables = refl;
-      put = λ i b. absurd (omega arith);
-      put-arguments = λ i b. absurd (omega arith);
+      written = λ i b. absurd (omega arith);
+      written-arguments = λ i b. absurd (omega arith);
       kept = λ k b. refl;
       kept-arguments = λ k b. refl;
     }
@@ -74,12 +74,12 @@ put-more c at i literal xs r h b =
       roomy = record { long = more-long r long wide (at + i) k xs i; wide = more-wide r long wide (at + i) k xs i };
       count = h .count;
       variables = h .variables;
-      put =
+      written =
           below-suc (λ m. getD (withFlat r (at + i) k (threeAt xs i) .literals) (at + m) noLiteral ≡ literal m) i
-          (λ m l. other-literal r long wide (at + i) k xs i (at + m) (λ e. omega arith) ∙ h .put m l) (same-literal r long wide (at + i) k xs i b);
-      put-arguments =
+          (λ m l. other-literal r long wide (at + i) k xs i (at + m) (λ e. omega arith) ∙ h .written m l) (same-literal r long wide (at + i) k xs i b);
+      written-arguments =
           below-suc (λ m. threeAt (withFlat r (at + i) k (threeAt xs i) .arguments) (at + m) ≡ threeAt xs m) i
-          (λ m l. other-arguments r long wide (at + i) k xs i (at + m) (λ e. omega arith) ∙ h .put-arguments m l) (same-arguments r long wide (at + i) k xs i b);
+          (λ m l. other-arguments r long wide (at + i) k xs i (at + m) (λ e. omega arith) ∙ h .written-arguments m l) (same-arguments r long wide (at + i) k xs i b);
       kept = λ m l. other-literal r long wide (at + i) k xs i m (λ e. omega arith) ∙ h .kept m l;
       kept-arguments = λ m l. other-arguments r long wide (at + i) k xs i m (λ e. omega arith) ∙ h .kept-arguments m l;
     }
@@ -105,8 +105,8 @@ assembled-end l d r h k =
       wide = k .roomy .wide;
       count = k .count ∙ h .count ∙ empty-count (l .table .count + l .count) (l .owns + l .table .count);
       variables = k .variables ∙ h .variables ∙ empty-variables (l .table .count + l .count) (l .owns + l .table .count);
-      definition = λ i b. k .kept i b ∙ ap (λ (j : ℕ). getD (d .literals) j noLiteral) (sym (zero-add i)) ∙ h .put i b;
-      definition-arguments = λ i b. k .kept-arguments i b ∙ ap (threeAt (d .arguments)) (sym (zero-add i)) ∙ h .put-arguments i b;
-      literal = k .put;
-      literal-arguments = k .put-arguments;
+      definition = λ i b. k .kept i b ∙ ap (λ (j : ℕ). getD (d .literals) j noLiteral) (sym (zero-add i)) ∙ h .written i b;
+      definition-arguments = λ i b. k .kept-arguments i b ∙ ap (threeAt (d .arguments)) (sym (zero-add i)) ∙ h .written-arguments i b;
+      literal = k .written;
+      literal-arguments = k .written-arguments;
     }

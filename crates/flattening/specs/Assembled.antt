@@ -58,8 +58,8 @@ pub record LiteralsPut (c : FlatClause) (at n : ℕ) (literal : ℕ → Literal)
   pub roomy : Roomy r
   pub count : r .count ≡ c .count
   pub variables : r .variables ≡ c .variables
-  pub put : (i : ℕ) → i < n → getD (r .literals) (at + i) noLiteral ≡ literal i
-  pub put-arguments : (i : ℕ) → i < n → threeAt (r .arguments) (at + i) ≡ threeAt arguments i
+  pub written : (i : ℕ) → i < n → getD (r .literals) (at + i) noLiteral ≡ literal i
+  pub written-arguments : (i : ℕ) → i < n → threeAt (r .arguments) (at + i) ≡ threeAt arguments i
   pub kept : (k : ℕ) → k < at → getD (r .literals) k noLiteral ≡ getD (c .literals) k noLiteral
   pub kept-arguments : (k : ℕ) → k < at → threeAt (r .arguments) k ≡ threeAt (c .arguments) k
 
