@@ -1,15 +1,15 @@
 -- What an accepted problem's clauses need, within the limits: variables, clauses, literals, work, bytes of text.
-use Prim.Native.Nat.{ℕ, zero, suc, _+_, _*_, _^_, _≤_, _<_}
-use mathlib.Core.Path.{_≡_, refl, sym, ap, _∙_}
+use Prim.Native.Nat.{ℕ, suc, _^_, _≤_, _<_}
+use mathlib.Core.Path.{_≡_, refl, ap, _∙_}
 use mathlib.Core.Bool.{Bool, true}
 use mathlib.Core.Option.{Option}
-use mathlib.Core.List.{List, [], _∷_, map}
+use mathlib.Core.List.{List, [], _∷_}
 use native.Mathlib.Nat.{mul-le-mul}
 use native.Mathlib.Omega.{arith}
 use lib.Dec.{leb, ltb}
 use lib.ListN.{length, getD, take, length-map}
 use lib.Seq.{getD-take, length-take-le}
-use Rattle.theory.specs.Lists.{all, sum}
+use Rattle.theory.specs.Lists.{all}
 use Rattle.theory.specs.Syntax.{Kind, function, predicate, Symbol, Signature, Clause, clauseOk}
 use Rattle.theory.specs.Cells.{tableSize}
 use Rattle.theory.specs.Lines.{Cut}
@@ -18,7 +18,6 @@ use Rattle.theory.specs.Propositional.{PropClause, width, blockSize, propCount}
 use Rattle.theory.specs.Instances.{instances}
 use Rattle.theory.specs.PropClauses.{propClauses, instanceCount, workNeeded}
 use Rattle.theory.specs.Problem.{clauseOf}
-use Rattle.theory.specs.Problem as theory
 use Rattle.theory.specs.Claims.Counts.{isNumbered}
 use Rattle.theory.proofs.Tests.{and-join, leb-true, ltb-of-<}
 use Rattle.theory.proofs.Lists.{all-map, all-imply, sum-within}

@@ -1,10 +1,9 @@
 -- No written clause has more than 26 literals, and so clauses of few variables have short texts.
-use Prim.Native.Nat.{ℕ, zero, suc, _+_, _-_, _*_, _/_, _%_, _≤_, _<_}
-use mathlib.Core.Path.{_≡_, refl, sym, ap, _∙_}
+use Prim.Native.Nat.{ℕ, zero, suc, _+_, _-_, _*_, _/_, _%_, _≤_}
+use mathlib.Core.Path.{_≡_, refl, _∙_}
 use mathlib.Core.Bool.{Bool, true, false, cond, Bool·beq}
 use mathlib.Core.Option.{Option, none, some}
-use mathlib.Core.List.{List, [], _∷_, _++_, map}
-use native.Mathlib.Nat.{mul-le-mul}
+use mathlib.Core.List.{List, [], _∷_, _++_}
 use native.Mathlib.Omega.{arith}
 use lib.Dec.{leb, ltb}
 use lib.ListN.{length, length-append, length-map}
@@ -22,7 +21,7 @@ use Rattle.theory.proofs.Tests.{and-left, and-right, and-join, leb-true, leb-of
 use Rattle.theory.proofs.Lists.{all-map, all-concatMap, all-every, length-upFrom}
 use Rattle.theory.proofs.Parts.{tables, tables←, all-propClauses}
 use Rattle.theory.proofs.CellClauses.{pairs}
-use Rattle.propagation.specs.Clauses.{code, codes}
+use Rattle.propagation.specs.Clauses.{code}
 use Rattle.loading.specs.Filling.{literals}
 use Rattle.stream.specs.Literals.{allCodes}
 use Rattle.stream.specs.Consuming.{texts}

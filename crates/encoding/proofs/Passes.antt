@@ -1,8 +1,8 @@
 -- The start and the end of each pass over all clauses of an accepted problem.
 use Prim.Native.Nat.{ℕ, _+_, _*_, _^_, _≤_, _<_}
-use mathlib.Core.Path.{_≡_, refl, sym, ap, _∙_, subst}
+use mathlib.Core.Path.{_≡_, refl, sym, subst}
 use mathlib.Core.Bool.{true}
-use mathlib.Core.List.{List, [], _∷_, append-nil}
+use mathlib.Core.List.{List, [], append-nil}
 use native.Mathlib.Omega.{arith}
 use lib.ListN.{length}
 use Rattle.theory.specs.Lists.{all}
@@ -19,7 +19,7 @@ use Rattle.stream.specs.declared.consumer.Mode.{Mode}
 use Rattle.stream.specs.declared.consumer.Mode.the-variants.{Measure, Write, Tally, Enter}
 use Rattle.stream.specs.Consuming.{texts, Stream, State, state, After, Room, Fits, Consumes, Consumed}
 use Rattle.encoding.specs.Passes.{allOf}
-use Rattle.encoding.proofs.Bounds.{variables-few, clauses-short, clauses-few, literals-few, area-few, all-numbered, texts-few}
+use Rattle.encoding.proofs.Bounds.{clauses-short, clauses-few, literals-few, area-few, all-numbered, texts-few}
 
 module _ (sheet : List ℕ) (p : Problem) (h : Accepted sheet p) (s : ℕ) (high : s ≤ 8)
     (few : instanceCount s (problemIn sheet p .symbols) (problemIn sheet p .clauses) ≤ 1000000) (low : 1 ≤ s)

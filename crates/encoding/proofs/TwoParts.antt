@@ -3,13 +3,11 @@ use Prim.Native.Nat.{ℕ, _<_}
 use mathlib.Core.Path.{_≡_, sym, ap, ap₂, _∙_}
 use mathlib.Core.List.{List, _++_, map, map-map}
 use native.Mathlib.Omega.{arith}
-use lib.ListN.{length, getD, take, length-map}
-use Rattle.theory.specs.Lists.{concatMap, sum}
-use Rattle.theory.specs.Syntax.{Kind, Signature, symbolAt, Clause}
+use lib.ListN.{take}
+use Rattle.theory.specs.Lists.{sum}
+use Rattle.theory.specs.Syntax.{Signature, symbolAt}
 use Rattle.theory.specs.Syntax as theory
-use Rattle.theory.specs.Flattening.{flatten}
 use Rattle.theory.specs.Propositional.{PropClause, width, blockSize, propBase, propCount}
-use Rattle.theory.specs.Instances.{instances}
 use Rattle.theory.specs.PropClauses.{Part, functionPart, clausePart, functionPlaces, parts, propClauses}
 use Rattle.theory.specs.Problem.{Problem}
 use Rattle.theory.proofs.Lists.{concatMap-append, concatMap-map, map-take}

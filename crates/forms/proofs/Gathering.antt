@@ -2,17 +2,15 @@
 use Prim.Native.Nat.{ℕ, zero, suc, _+_, _*_, _≤_, _<_}
 use mathlib.Core.Path.{_≡_, refl, sym, ap, subst, _∙_}
 use mathlib.Core.Bool.{Bool, true, false}
-use mathlib.Core.Option.{Option}
-use mathlib.Core.List.{List, [], _∷_, _++_, map}
+use mathlib.Core.List.{List, [], _++_, map}
 use native.Mathlib.Omega.{arith}
 use lib.Dec.{ltb}
 use lib.ListN.{length, getD, take, drop, length-drop, take-append-drop}
 use lib.Seq.{paste, length-paste, length-paste-head, length-take-le, take-all, take-at, drop-at, take-append-le, drop-append-le, drop-drop}
-use Rattle.theory.specs.Lists.{all, upFrom, upTo}
+use Rattle.theory.specs.Lists.{upFrom, upTo}
 use Rattle.theory.specs.Syntax.{Signature}
 use Rattle.theory.specs.Flattening.{FlatLiteral}
 use Rattle.theory.specs.Lifted.{flatAtomOk, flatAtomScoped}
-use Rattle.theory.specs.Propositional.{PropClause}
 use Rattle.theory.specs.Instances.{flatValue, instance}
 use Rattle.theory.proofs.Tests.{ltb-true, ltb-false}
 use Rattle.theory.proofs.Lists.{all-map, all-upTo}

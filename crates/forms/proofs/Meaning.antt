@@ -12,10 +12,10 @@ use lib.Seq.{getD-take, length-take-le}
 use Rattle.theory.specs.Lists.{all, prefix}
 use Rattle.theory.specs.Vectors.{rank}
 use Rattle.theory.specs.Syntax.{function, predicate, Kind, Signature, symbolAt}
-use Rattle.theory.specs.Flattening.{FlatVariable, new, flatPredicate, flatResult, flatEquality}
+use Rattle.theory.specs.Flattening.{FlatVariable, new}
 use Rattle.theory.specs.Lifted.{scoped, flatAtomOk, flatAtomScoped}
 use Rattle.theory.specs.Propositional.{PropLiteral, PropClause, width, propBase, propVariable}
-use Rattle.theory.specs.Instances.{flatValue, Ground, known, variable, ground, addLiteral}
+use Rattle.theory.specs.Instances.{flatValue, variable, ground, addLiteral}
 use Rattle.theory.proofs.Tests.{and-left, and-right, ltb-true}
 use Rattle.theory.proofs.Lists.{all-map, all-getD, map-take}
 use Rattle.theory.proofs.Declared.{Declared, functionOf→, predicateOf→}
@@ -28,7 +28,7 @@ use Rattle.valuations.specs.declared.numbering.Numbering.{Numbering}
 use Rattle.valuations.proofs.Blocks.{propBase-within}
 use Rattle.stream.specs.Literals.{literalOf}
 use Rattle.stream.proofs.Codes.{literalOf-code}
-use Rattle.forms.specs.LinearForms.{place, equalityForm, linearForm, codeAt, addForm, Safe, Means, LiteralOver, literalOver}
+use Rattle.forms.specs.LinearForms.{equalityForm, linearForm, codeAt, addForm, Safe, Means, LiteralOver, literalOver}
 use Rattle.forms.proofs.Weights.{weight-small, place-below, products-rank, coefficient-small}
 
 module _ (k : ℕ) (v : List ℕ) where

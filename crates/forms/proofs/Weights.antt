@@ -8,7 +8,7 @@ use lib.ListN.{length, take}
 use lib.Seq.{length-take-le}
 use Rattle.theory.specs.Vectors.{rank}
 use Rattle.interpretation.proofs.Ranks.{table-within}
-use Rattle.forms.specs.LinearForms.{rankWeight, place}
+use Rattle.forms.specs.LinearForms.{rankWeight, argumentPlace}
 
 -- argument j counts as often as there are vectors of the arguments after it
 pub weight-within : (s a j : ℕ) → j < a → rankWeight s a j ≡ s ^ (a - j - 1)
@@ -26,24 +26,24 @@ weight-small s zero j h l = omega arith
 weight-small s (suc a) zero h l = table-within s a h (omega arith)
 weight-small s (suc a) (suc j) h l = weight-small s a j h (omega arith)
 
-pub place-within : (a j x : ℕ) → j < a → place a j x ≡ x
+pub place-within : (a j x : ℕ) → j < a → argumentPlace a j x ≡ x
 place-within zero j x h = absurd (omega arith)
 place-within (suc a) zero x h = refl
 place-within (suc a) (suc j) x h = place-within a j x (omega arith)
 
-pub place-past : (a j x : ℕ) → a ≤ j → place a j x ≡ 0
+pub place-past : (a j x : ℕ) → a ≤ j → argumentPlace a j x ≡ 0
 place-past zero j x h = refl
 place-past (suc a) zero x h = absurd (omega arith)
 place-past (suc a) (suc j) x h = place-past a j x (omega arith)
 
 -- the places of the arguments are below 10 if the arguments are
-pub place-below : (a j x : ℕ) → (j < a → x < 10) → place a j x < 10
+pub place-below : (a j x : ℕ) → (j < a → x < 10) → argumentPlace a j x < 10
 place-below zero j x h = omega arith
 place-below (suc a) zero x h = h (omega arith)
 place-below (suc a) (suc j) x h = place-below a j x (λ l. h (omega arith))
 
 -- the place of an argument that is not there does not count
-weight-place : (s a j x : ℕ) (f : ℕ → ℕ) → rankWeight s a j * f (place a j x) ≡ rankWeight s a j * f x
+weight-place : (s a j x : ℕ) (f : ℕ → ℕ) → rankWeight s a j * f (argumentPlace a j x) ≡ rankWeight s a j * f x
 weight-place s zero j x f = zero-mul (f 0) ∙ sym (zero-mul (f x))
 weight-place s (suc a) zero x f = refl
 weight-place s (suc a) (suc j) x f = weight-place s a j x f
@@ -73,7 +73,7 @@ mul-sum c a b = omega (arith, mul-comm c (a + b), add-mul a b c, mul-comm a c, m
 
 -- three products of a form are their rank, as often as it counts
 pub products-rank : (s a step x y z : ℕ) (f : ℕ → ℕ) → a ≤ 3
-    → step * rankWeight s a 0 * f (place a 0 x) + (step * rankWeight s a 1 * f (place a 1 y) + step * rankWeight s a 2 * f (place a 2 z)) ≡ step * rank s (take a (f x ∷ f y ∷ f z ∷ []))
+    → step * rankWeight s a 0 * f (argumentPlace a 0 x) + (step * rankWeight s a 1 * f (argumentPlace a 1 y) + step * rankWeight s a 2 * f (argumentPlace a 2 z)) ≡ step * rank s (take a (f x ∷ f y ∷ f z ∷ []))
 products-rank s a step x y z f h =
     let p : ℕ = rankWeight s a 0 * f x in
     let q : ℕ = rankWeight s a 1 * f y in
@@ -90,8 +90,8 @@ products-rank s a step x y z f h =
       ap (λ (n : ℕ). step * n) e′,
     )
   where
-    counted : (j x : ℕ) → step * rankWeight s a j * f (place a j x) ≡ step * (rankWeight s a j * f x)
-    counted j x = mul-assoc step (rankWeight s a j) (f (place a j x)) ∙ ap (λ (n : ℕ). step * n) (weight-place s a j x f)
+    counted : (j x : ℕ) → step * rankWeight s a j * f (argumentPlace a j x) ≡ step * (rankWeight s a j * f x)
+    counted j x = mul-assoc step (rankWeight s a j) (f (argumentPlace a j x)) ∙ ap (λ (n : ℕ). step * n) (weight-place s a j x f)
 
 -- a coefficient is small
 pub coefficient-small : (step w : ℕ) → step ≤ 16 → w ≤ 512 → step * w ≤ 8192

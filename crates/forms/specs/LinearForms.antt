@@ -1,7 +1,7 @@
 -- Linear forms for the literals of a flattened clause, and the instance that they give.
 use Prim.Native.Nat.{ℕ, zero, suc, _+_, _*_, _^_, _≤_, _<_}
 use mathlib.Core.Path.{_≡_}
-use mathlib.Core.Bool.{Bool, true, false, cond, Bool·beq}
+use mathlib.Core.Bool.{Bool, true, cond, Bool·beq}
 use mathlib.Core.Option.{Option, none, some}
 use mathlib.Core.List.{List, [], _∷_}
 use lib.Dec.{eqb}
@@ -29,10 +29,10 @@ rankWeight s (suc arity) zero = s ^ arity
 rankWeight s (suc arity) (suc j) = rankWeight s arity j
 
 -- the place x of argument j of so many, or 0 where there are fewer
-abbrev pub place : ℕ → ℕ → ℕ → ℕ
-place zero j x = 0
-place (suc arity) zero x = x
-place (suc arity) (suc j) x = place arity j x
+abbrev pub argumentPlace : ℕ → ℕ → ℕ → ℕ
+argumentPlace zero j x = 0
+argumentPlace (suc arity) zero x = x
+argumentPlace (suc arity) (suc j) x = argumentPlace arity j x
 
 -- the form of an equality
 abbrev pub equalityForm : Bool → ℕ → ℕ → List ℕ
@@ -42,9 +42,9 @@ equalityForm positive x y = cond positive 1 2 ∷ 0 ∷ x ∷ 0 ∷ y ∷ 0 ∷ 
 abbrev pub linearForm : Bool → ℕ → ℕ → ℕ → ℕ → ℕ → ℕ → ℕ → ℕ → ℕ → List ℕ
 linearForm positive base step arity x y z w d s =
     0 ∷ (2 * base + cond positive 0 1)
-    ∷ place arity 0 x ∷ (step * rankWeight s arity 0)
-    ∷ place arity 1 y ∷ (step * rankWeight s arity 1)
-    ∷ place arity 2 z ∷ (step * rankWeight s arity 2)
+    ∷ argumentPlace arity 0 x ∷ (step * rankWeight s arity 0)
+    ∷ argumentPlace arity 1 y ∷ (step * rankWeight s arity 1)
+    ∷ argumentPlace arity 2 z ∷ (step * rankWeight s arity 2)
     ∷ w ∷ d ∷ []
 
 -- the code of a form under the values v

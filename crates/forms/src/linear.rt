@@ -16,7 +16,7 @@ ghost use Prim.Native.Nat.{_+_, _≤_};
 ghost use lib.ListN.{length};
 ghost use lib.Seq.{paste};
 ghost use Rattle.flattening.specs.Flat.{flatIn};
-ghost use Rattle.forms.specs.LinearForms.{AllSafe, Groundable, Linear, LiteralOver, Means, Safe, equalityForm, linearForm, literalOver, place, rankWeight};
+ghost use Rattle.forms.specs.LinearForms.{AllSafe, Groundable, Linear, LiteralOver, Means, Safe, argumentPlace, equalityForm, linearForm, literalOver, rankWeight};
 
 // A form for each literal, one after the other.
 pub struct Forms {
@@ -141,7 +141,7 @@ fn linear_form(
 
 // The place of argument j, or 0 where there are fewer.
 fn place_of(arity: u8, j: u8, x: u8) -> u32
-    ensures { λ r. ⌜ r ≡ place arity j x ⌝ }
+    ensures { λ r. ⌜ r ≡ argumentPlace arity j x ⌝ }
 {
     if j < arity {
         return x as u32;

@@ -1,6 +1,6 @@
 -- `code_at` meets its contract.
 use borrow.Author.Needs.{needs}
-use mathlib.Core.Path.{_≡_, refl}
+use mathlib.Core.Path.{refl}
 use native.Mathlib.Omega.{arith}
 use Rattle.forms.proofs.Evaluating.{field, place-safe, coefficient-safe, code-made}
 use Rattle.forms.proofs.instance.code_at.Statement.{statement}

@@ -1,5 +1,4 @@
 -- `equality_form` meets its contract.
-use borrow.Author.Needs.{needs}
 use Rattle.forms.proofs.linear.equality_form.Statement.{statement}
 use Rattle.forms.proofs.linear.equality_form.Tie as tie
 

@@ -1,6 +1,5 @@
 -- `linear_form` meets its contract.
 use borrow.Author.Needs.{needs}
-use mathlib.Core.Path.{_≡_, sym, _∙_}
 use native.Mathlib.Omega.{arith}
 use Rattle.forms.proofs.Weights.{coefficient-small}
 use Rattle.forms.proofs.linear.linear_form.Statement.{statement}

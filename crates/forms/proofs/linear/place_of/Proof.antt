@@ -1,5 +1,4 @@
 -- `place_of` meets its contract.
-use borrow.Author.Needs.{needs}
 use mathlib.Core.Path.{sym}
 use native.Mathlib.Omega.{arith}
 use Rattle.forms.proofs.Weights.{place-within, place-past}
