@@ -1,13 +1,15 @@
 -- A flattened clause put together step by step.
 use Prim.Native.Nat.{ℕ, suc, _+_, _*_, _<_}
-use mathlib.Core.Path.{_≡_, refl, _∙_, subst}
+use mathlib.Core.Path.{_≡_, refl, sym, ap, _∙_, subst}
 use mathlib.Core.Logic.{_≢_}
 use mathlib.Core.Bool.{Bool, true, false}
 use mathlib.Core.List.{List}
+use native.Mathlib.Nat.{zero-add}
 use native.Mathlib.Omega.{arith}
 use lib.Dec.{ltb}
 use lib.ListN.{length, getD, length-set, length-replicate}
 use lib.Seq.{getD-set-same, getD-set-other}
+use Rattle.theory.specs.Problem.{maxArity, maxLiterals, maxVariables}
 use Rattle.theory.proofs.Tests.{ltb-true, ltb-false}
 use Rattle.lifting.proofs.Triples.{length-three}
 use Rattle.shallow.specs.declared.literals.Literal.{Literal}
@@ -15,32 +17,17 @@ use Rattle.shallow.specs.declared.literals.Lifting.{Lifting}
 use Rattle.shallow.specs.Literals.{noLiteral, threeAt}
 use Rattle.shallow.proofs.Written.{threeAt-same, threeAt-other}
 use Rattle.flattening.specs.declared.flat.FlatClause.{FlatClause}
-use Rattle.flattening.specs.Assembled.{emptyFlat, withFlat, definitionAt, Assembled}
-
--- the first i definitions stand there
-pub record Defined (l : Lifting) (i : ℕ) (c : FlatClause) : Type 0 where
-  pub long : length (c .literals) ≡ 26
-  pub wide : length (c .arguments) ≡ 78
-  pub count : c .count ≡ l .table .count + l .count
-  pub variables : c .variables ≡ l .owns + l .table .count
-  pub definition : (k : ℕ) → k < i → getD (c .literals) k noLiteral ≡ definitionAt l k
-  pub definition-arguments : (k : ℕ) → k < i → threeAt (c .arguments) k ≡ threeAt (l .table .arguments) k
-
--- all of them, and behind them the first j literals
-pub record Joined (l : Lifting) (j : ℕ) (c : FlatClause) : Type 0 where
-  pub defined : Defined l (l .table .count) c
-  pub literal : (k : ℕ) → k < j → getD (c .literals) (l .table .count + k) noLiteral ≡ getD (l .literals) k noLiteral
-  pub literal-arguments : (k : ℕ) → k < j → threeAt (c .arguments) (l .table .count + k) ≡ threeAt (l .arguments) k
+use Rattle.flattening.specs.Assembled.{emptyFlat, withFlat, definitionAt, shallowAt, Roomy, LiteralsPut, Assembled}
 
 -- one more at number n is read there, and the others stay
-module _ (c : FlatClause) (long : length (c .literals) ≡ 26) (wide : length (c .arguments) ≡ 78) (n : ℕ) (k : Literal) (xs : List ℕ) (i : ℕ) where
+module _ (c : FlatClause) (long : length (c .literals) ≡ maxVariables + maxLiterals) (wide : length (c .arguments) ≡ (maxVariables + maxLiterals) * maxArity) (n : ℕ) (k : Literal) (xs : List ℕ) (i : ℕ) where
   abbrev more : FlatClause
   more = withFlat c n k (threeAt xs i)
 
-  same-literal : n < 26 → getD (more .literals) n noLiteral ≡ k
+  same-literal : n < maxVariables + maxLiterals → getD (more .literals) n noLiteral ≡ k
   same-literal h = getD-set-same (c .literals) n k noLiteral (omega arith)
 
-  same-arguments : n < 26 → threeAt (more .arguments) n ≡ threeAt xs i
+  same-arguments : n < maxVariables + maxLiterals → threeAt (more .arguments) n ≡ threeAt xs i
   same-arguments h = threeAt-same (c .arguments) n (threeAt xs i) (omega arith)
 
   other-literal : (m : ℕ) → m ≢ n → getD (more .literals) m noLiteral ≡ getD (c .literals) m noLiteral
@@ -49,10 +36,10 @@ module _ (c : FlatClause) (long : length (c .literals) ≡ 26) (wide : length (c
   other-arguments : (m : ℕ) → m ≢ n → threeAt (more .arguments) m ≡ threeAt (c .arguments) m
   other-arguments m d = threeAt-other (c .arguments) n (threeAt xs i) m d
 
-  more-long : length (more .literals) ≡ 26
+  more-long : length (more .literals) ≡ maxVariables + maxLiterals
   more-long = length-set (c .literals) n k ∙ long
 
-  more-wide : length (more .arguments) ≡ 78
+  more-wide : length (more .arguments) ≡ (maxVariables + maxLiterals) * maxArity
   more-wide = length-three (c .arguments) (n * 3) (threeAt xs i) ∙ wide
 
 -- what holds of the numbers below i and of i holds of those below suc i
@@ -63,72 +50,63 @@ below-suc P i f p k h = go (ltb k i) refl
     go true e = f k (ltb-true k i e)
     go false e = let q : i ≡ k = omega (arith, ltb-false k i e) in subst P q p
 
-pub defined-start : (l : Lifting) → Defined l 0 (emptyFlat (l .table .count + l .count) (l .owns + l .table .count))
-unfolding emptyFlat
-defined-start l =
+-- none is put
+pub put-start : (c : FlatClause) (at : ℕ) (literal : ℕ → Literal) (arguments : List ℕ) → Roomy c → LiteralsPut c at 0 literal arguments c
+put-start c at literal arguments h =
     record {
-      long = length-replicate 26 noLiteral;
-      wide = length-replicate {A = ℕ} 78 0;
+      roomy = h;
       count = refl;
       variables = refl;
-      definition = λ k h. absurd (omega arith);
-      definition-arguments = λ k h. absurd (omega arith);
+      written = λ i b. absurd (omega arith);
+      written-arguments = λ i b. absurd (omega arith);
+      kept = λ k b. refl;
+      kept-arguments = λ k b. refl;
     }
 
-pub defined-more : (l : Lifting) (i : ℕ) (c : FlatClause) → Defined l i c → i < 26 → Defined l (suc i) (withFlat c i (definitionAt l i) (threeAt (l .table .arguments) i))
-defined-more l i c h k =
-    let d : Literal = definitionAt l i in
-    let xs : List ℕ = l .table .arguments in
+-- one more is
+pub put-more : (c : FlatClause) (at i : ℕ) (literal : ℕ → Literal) (arguments : List ℕ) (r : FlatClause) → LiteralsPut c at i literal arguments r → at + i < maxVariables + maxLiterals
+    → LiteralsPut c at (suc i) literal arguments (withFlat r (at + i) (literal i) (threeAt arguments i))
+put-more c at i literal xs r h b =
+    let long = h .roomy .long in
+    let wide = h .roomy .wide in
+    let k : Literal = literal i in
     record {
-      long = more-long c (h .long) (h .wide) i d xs i;
-      wide = more-wide c (h .long) (h .wide) i d xs i;
+      roomy = record { long = more-long r long wide (at + i) k xs i; wide = more-wide r long wide (at + i) k xs i };
       count = h .count;
       variables = h .variables;
-      definition =
-          below-suc (λ m. getD (withFlat c i d (threeAt xs i) .literals) m noLiteral ≡ definitionAt l m) i
-          (λ m b. other-literal c (h .long) (h .wide) i d xs i m (λ e. omega arith) ∙ h .definition m b) (same-literal c (h .long) (h .wide) i d xs i k);
-      definition-arguments =
-          below-suc (λ m. threeAt (withFlat c i d (threeAt xs i) .arguments) m ≡ threeAt xs m) i
-          (λ m b. other-arguments c (h .long) (h .wide) i d xs i m (λ e. omega arith) ∙ h .definition-arguments m b) (same-arguments c (h .long) (h .wide) i d xs i k);
+      written =
+          below-suc (λ m. getD (withFlat r (at + i) k (threeAt xs i) .literals) (at + m) noLiteral ≡ literal m) i
+          (λ m l. other-literal r long wide (at + i) k xs i (at + m) (λ e. omega arith) ∙ h .written m l) (same-literal r long wide (at + i) k xs i b);
+      written-arguments =
+          below-suc (λ m. threeAt (withFlat r (at + i) k (threeAt xs i) .arguments) (at + m) ≡ threeAt xs m) i
+          (λ m l. other-arguments r long wide (at + i) k xs i (at + m) (λ e. omega arith) ∙ h .written-arguments m l) (same-arguments r long wide (at + i) k xs i b);
+      kept = λ m l. other-literal r long wide (at + i) k xs i m (λ e. omega arith) ∙ h .kept m l;
+      kept-arguments = λ m l. other-arguments r long wide (at + i) k xs i m (λ e. omega arith) ∙ h .kept-arguments m l;
     }
 
-pub joined-more : (l : Lifting) (j : ℕ) (c : FlatClause) → Joined l j c → l .table .count + j < 26
-    → Joined l (suc j) (withFlat c (l .table .count + j) (getD (l .literals) j noLiteral) (threeAt (l .arguments) j))
-joined-more l j c h k =
-    let d = h .defined in
-    let t : ℕ = l .table .count in
-    let n : Literal = getD (l .literals) j noLiteral in
-    let xs : List ℕ = l .arguments in
-    record {
-      defined =
-          record {
-            long = more-long c (d .long) (d .wide) (t + j) n xs j;
-            wide = more-wide c (d .long) (d .wide) (t + j) n xs j;
-            count = d .count;
-            variables = d .variables;
-            definition = λ m b. other-literal c (d .long) (d .wide) (t + j) n xs j m (λ e. omega arith) ∙ d .definition m b;
-            definition-arguments = λ m b. other-arguments c (d .long) (d .wide) (t + j) n xs j m (λ e. omega arith) ∙ d .definition-arguments m b;
-          };
-      literal =
-          below-suc (λ m. getD (withFlat c (t + j) n (threeAt xs j) .literals) (t + m) noLiteral ≡ getD (l .literals) m noLiteral) j
-          (λ m b. other-literal c (d .long) (d .wide) (t + j) n xs j (t + m) (λ e. omega arith) ∙ h .literal m b) (same-literal c (d .long) (d .wide) (t + j) n xs j k);
-      literal-arguments =
-          below-suc (λ m. threeAt (withFlat c (t + j) n (threeAt xs j) .arguments) (t + m) ≡ threeAt xs m) j
-          (λ m b. other-arguments c (d .long) (d .wide) (t + j) n xs j (t + m) (λ e. omega arith) ∙ h .literal-arguments m b) (same-arguments c (d .long) (d .wide) (t + j) n xs j k);
-    }
+pub empty-roomy : (count variables : ℕ) → Roomy (emptyFlat count variables)
+unfolding emptyFlat
+empty-roomy count variables = record { long = length-replicate (maxVariables + maxLiterals) noLiteral; wide = length-replicate {A = ℕ} ((maxVariables + maxLiterals) * maxArity) 0 }
 
-pub joined-start : (l : Lifting) (c : FlatClause) → Defined l (l .table .count) c → Joined l 0 c
-joined-start l c h = record { defined = h; literal = λ k b. absurd (omega arith); literal-arguments = λ k b. absurd (omega arith) }
+empty-count : (count variables : ℕ) → emptyFlat count variables .count ≡ count
+unfolding emptyFlat
+empty-count count variables = refl
 
-pub assembled-end : (l : Lifting) (c : FlatClause) → Joined l (l .count) c → Assembled l c
-assembled-end l c h =
-    let d = h .defined in
+empty-variables : (count variables : ℕ) → emptyFlat count variables .variables ≡ variables
+unfolding emptyFlat
+empty-variables count variables = refl
+
+-- the definitions put into an empty clause, then the literals behind them
+pub assembled-end : (l : Lifting) (d r : FlatClause)
+    → LiteralsPut (emptyFlat (l .table .count + l .count) (l .owns + l .table .count)) 0 (l .table .count) (definitionAt (l .table) (l .owns)) (l .table .arguments) d
+    → LiteralsPut d (l .table .count) (l .count) (shallowAt l) (l .arguments) r → Assembled l r
+assembled-end l d r h k =
     record {
-      wide = d .wide;
-      count = d .count;
-      variables = d .variables;
-      definition = d .definition;
-      definition-arguments = d .definition-arguments;
-      literal = h .literal;
-      literal-arguments = h .literal-arguments;
+      wide = k .roomy .wide;
+      count = k .count ∙ h .count ∙ empty-count (l .table .count + l .count) (l .owns + l .table .count);
+      variables = k .variables ∙ h .variables ∙ empty-variables (l .table .count + l .count) (l .owns + l .table .count);
+      definition = λ i b. k .kept i b ∙ ap (λ (j : ℕ). getD (d .literals) j noLiteral) (sym (zero-add i)) ∙ h .written i b;
+      definition-arguments = λ i b. k .kept-arguments i b ∙ ap (threeAt (d .arguments)) (sym (zero-add i)) ∙ h .written-arguments i b;
+      literal = k .written;
+      literal-arguments = k .written-arguments;
     }

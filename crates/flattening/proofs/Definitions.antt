@@ -62,7 +62,7 @@ module _ (g : Signature) (small : Small g) (xs : List ℕ) (lifted : List Term) 
 
   -- the row of a lifted term
   row-right : (i : ℕ) → i < length lifted → (u : Term) → getD lifted i (variable 0) ≡ u → isApply u ≡ true → termOk g u ≡ true
-      → literalWith g (definitionAt l i) (threeAt rows i) ≡ placedLiteral xs (record { sign = false; atom = termEquals lifted u (new i) })
+      → literalWith g (definitionAt (l .table) (l .owns) i) (threeAt rows i) ≡ placedLiteral xs (record { sign = false; atom = termEquals lifted u (new i) })
   row-right i h (variable x) e k o = absurd (false≢true k)
   row-right i h (apply f us) e k o =
       let d = functionOf→ g f (count us) (and-left (functionOf g f (count us)) (termsOk g us) o) in
@@ -78,7 +78,7 @@ module _ (g : Signature) (small : Small g) (xs : List ℕ) (lifted : List Term) 
       let b : i < l .table .count = omega (arith, lifts .holds .count) in
       literalIn-three g small (r .literals) (r .arguments) i (omega (arith, a .wide, fit .terms))
       ∙ ap (λ (k : Literal). literalWith g k (threeAt (r .arguments) i)) (a .definition i b)
-      ∙ ap (literalWith g (definitionAt l i)) (a .definition-arguments i b)
+      ∙ ap (literalWith g (definitionAt (l .table) (l .owns) i)) (a .definition-arguments i b)
       ∙ row-right i h (getD lifted i (variable 0)) refl (all-at isApply (variable 0) lifted i (lifts .applied) h) (all-at (termOk g) (variable 0) lifted i (lifts .ok) h)
 
   literal-right : (j : ℕ) → j < l .count → read (l .table .count + j) ≡ literalIn g (l .literals) (l .arguments) j

@@ -6,7 +6,7 @@ use shallow::literals::lift;
 use syntax::limits::Problem;
 use syntax::words::ClauseWords;
 ghost use mathlib.Core.Path.{_≡_};
-ghost use Prim.Native.Nat.{_*_, _+_, _<_};
+ghost use Prim.Native.Nat.{_*_, _+_, _<_, _≤_};
 ghost use lib.ListN.{length};
 ghost use Rattle.theory.specs.Problem.{maxArity, maxLiterals, maxVariables};
 ghost use Rattle.theory.specs.Flattening as theory;
@@ -15,7 +15,7 @@ ghost use Rattle.shallow.specs.Literals.{threeAt};
 ghost use Rattle.shallow.specs.Placed.{placed};
 ghost use Rattle.shallow.specs.Flattenable.{Flattenable};
 ghost use Rattle.flattening.specs.Flat.{WithinLimits, flatIn};
-ghost use Rattle.flattening.specs.Assembled.{Assemblable, Assembled, emptyFlat, withFlat};
+ghost use Rattle.flattening.specs.Assembled.{Assemblable, Assembled, LiteralsPut, Roomy, definitionAt, emptyFlat, shallowAt, withFlat};
 
 // The lifted terms' definitions and the literals, each with as many arguments as the largest arity.
 pub struct FlatClause {
@@ -46,25 +46,43 @@ fn assembled(l: Lifting) -> FlatClause
     requires { ⌜ Assemblable l ⌝ }
     ensures { λ r. ⌜ Assembled l r ⌝ }
 {
+    let terms = l.table.count;
+    let flat = empty(terms + l.count, l.variables());
+    let defined = with_definitions(flat, l, 0);
+    with_literals(defined, l, terms)
+}
+
+// The definitions of the lifted terms, put from number `at` on.
+fn with_definitions(mut flat: FlatClause, l: Lifting, at: usize) -> FlatClause
+    requires { ⌜ Assemblable l × (Roomy flat × (at + l .table .count ≤ maxVariables + maxLiterals)) ⌝ }
+    ensures { λ r. ⌜ LiteralsPut flat at (l .table .count) (definitionAt (l .table) (l .owns)) (l .table .arguments) r ⌝ }
+{
     let table = l.table;
     let owns = l.owns;
     let rows = table.arguments;
-    let mut flat = empty(table.count + l.count, owns as usize + table.count);
     let mut i: usize = 0;
     while i < table.count {
         let definition = Literal {
             sign: false,
             shape: Shape::FunctionResult(table.functions[i], owns + i as u8),
         };
-        flat = put(flat, i, definition, three(&rows, i));
+        flat = put(flat, at + i, definition, three(&rows, i));
         i += 1;
     }
+    flat
+}
+
+// The literals, put from number `at` on.
+fn with_literals(mut flat: FlatClause, l: Lifting, at: usize) -> FlatClause
+    requires { ⌜ Assemblable l × (Roomy flat × (at + l .count ≤ maxVariables + maxLiterals)) ⌝ }
+    ensures { λ r. ⌜ LiteralsPut flat at (l .count) (shallowAt l) (l .arguments) r ⌝ }
+{
     let literals = l.literals;
     let arguments = l.arguments;
     let mut j: usize = 0;
     while j < l.count {
         let literal = literals[j];
-        flat = put(flat, i + j, literal, three(&arguments, j));
+        flat = put(flat, at + j, literal, three(&arguments, j));
         j += 1;
     }
     flat

@@ -1,15 +1,15 @@
 -- The counts of a sheet: functions, predicates and clauses.
 use Prim.Native.Nat.{ℕ, suc, _+_, _-_, _≤_}
 use mathlib.Core.Path.{_≡_, refl, sym, ap, _∙_}
-use mathlib.Core.List.{List, [], _∷_, map}
+use mathlib.Core.List.{List, [], _∷_}
 use native.Mathlib.Omega.{arith}
 use native.Mathlib.Nat.{add-suc, suc-add}
 use lib.ListN.{length, take, length-map}
 use lib.Seq.{length-take-le}
 use Rattle.theory.specs.Lists.{select}
-use Rattle.theory.specs.Syntax.{Kind, function, predicate, isFunction, isPredicate, Symbol, Signature}
+use Rattle.theory.specs.Syntax.{Kind, function, predicate, isPredicate, Symbol, Signature}
 use Rattle.theory.specs.Least.{functions}
-use Rattle.theory.specs.Operations.{Counts, counts}
+use Rattle.theory.specs.Operations.{counts}
 use Rattle.syntax.specs.declared.limits.Problem.{Problem}
 use Rattle.syntax.specs.Signatures.{signatureIn}
 use Rattle.clauses.proofs.Held.{count-signatureIn}

@@ -15,7 +15,7 @@ use Rattle.theory.specs.Cells.{tableSize}
 use Rattle.theory.specs.PropClauses.{instanceCount, workNeeded}
 use Rattle.theory.specs.Valuation.{isValuation, isFunctional}
 use Rattle.theory.specs.Refusals.{Refusal, Answer, answer, refused, atLine, unplaced, needing, _>>=_, check, orRefuse}
-use Rattle.theory.specs.Problem.{Problem, readProblem}
+use Rattle.theory.specs.Problem.{readProblem}
 use Rattle.theory.specs.CaseText.{equalsSign, caseLength, unjoined, isValueByte, readTable, readTables, sizeOf, readCase}
 use Rattle.theory.specs.Operations.{maxSize, maxInstances, isSize, readAnswer, judgeAnswer, lengthAnswer, outputAfter, contentOf, writtenText, readBackText, Search, found, nothing, findResult, findAnswer, findWork, findOutput}
 use Rattle.theory.proofs.Tests.{leb-true, and-left, and-right, or-left}

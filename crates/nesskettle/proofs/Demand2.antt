@@ -1,20 +1,17 @@
 -- Demand 2 of the calls, from demand 2 of the texts and truth.
-use Prim.Native.Nat.{ℕ, _≤_, _<_}
+use Prim.Native.Nat.{ℕ}
 use mathlib.Core.Path.{_≡_, refl, sym, ap, _∙_}
-use mathlib.Core.Logic.{_⊎_, inl, inr}
 use mathlib.Core.Bool.{Bool, true, false, true≢false}
 use mathlib.Core.List.{List}
 use native.Mathlib.Omega.{arith}
-use lib.Dec.{leb}
 use lib.ListN.{length, take, drop}
 use lib.Seq.{take-append-seam}
 use Rattle.theory.specs.Cells.{isModel}
-use Rattle.theory.specs.Refusals.{Refusal, Answer, answer, refused, needing}
+use Rattle.theory.specs.Refusals.{Refusal, Answer, answer, refused}
 use Rattle.theory.specs.Problem.{Problem, readProblem}
-use Rattle.theory.specs.CaseText.{Case, readCase}
-use Rattle.theory.specs.Operations.{judgeAnswer, over, contentOf, writtenText, Search, found, nothing, foundCase, noCase, findResult, findAnswer, findOutput}
+use Rattle.theory.specs.CaseText.{Case}
+use Rattle.theory.specs.Operations.{judgeAnswer, over, writtenText, Search, found, nothing, foundCase, noCase, findResult, findAnswer, findOutput}
 use Rattle.theory.specs.Claims.FindsLeast as theory
-use Rattle.theory.specs.Claims.Least.{NotAfter}
 use Rattle.theory.proofs.Answers.{unbind, bind-step, answer-inj, answer≢refused}
 use Rattle.theory.proofs.FindsLeast.{finds-least}
 use Rattle.answers.specs.declared.Refusal as answers
@@ -27,7 +24,7 @@ use Rattle.answers.specs.Answers.{refusalIn, judgeIn, findIn}
 use Rattle.answers.specs.Calls.{JudgeCall, WriteCall, FindCall}
 use Rattle.writing.specs.Texts.{clausesText}
 use Rattle.nesskettle.specs.Leaving.{Leaves}
-use Rattle.nesskettle.specs.Models.{IsTrue, Model}
+use Rattle.nesskettle.specs.Models.{IsTrue}
 use Rattle.nesskettle.specs.Demand2.{CaseOf, Judges, Writes, NoModel, LeastModel, Finds, Demand2}
 use Rattle.nesskettle.proofs.Leaving.{left-text}
 use Rattle.nesskettle.proofs.Models.{true-if-model, model-if-true, judged-is-model, model-is-judged}

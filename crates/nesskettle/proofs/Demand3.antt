@@ -1,22 +1,19 @@
 -- Demand 3 of the calls, from demand 3 of the texts.
 use Prim.Native.Nat.{ℕ, _≤_}
-use mathlib.Core.Path.{_≡_, refl, sym, ap, _∙_}
+use mathlib.Core.Path.{_≡_, refl, sym, _∙_}
 use mathlib.Core.List.{List}
 use native.Mathlib.Nat.{le-refl}
 use lib.Dec.{leb}
 use lib.ListN.{length}
-use Rattle.theory.specs.Refusals.{answer, unplaced, needing}
+use Rattle.theory.specs.Refusals.{answer, needing}
 use Rattle.theory.specs.Problem.{Problem, readProblem}
 use Rattle.theory.specs.CaseText.{caseLength}
 use Rattle.theory.specs.Operations.{contentOf, writtenText, readBackText}
 use Rattle.theory.specs.Claims.ReadingBack as theory
-use Rattle.theory.proofs.Tests.{leb-true, leb-of-≤}
-use Rattle.theory.proofs.Answers.{unbind, bind-step, answer-inj, check-true, check-of-true}
+use Rattle.theory.proofs.Tests.{leb-of-≤}
+use Rattle.theory.proofs.Answers.{unbind, bind-step, answer-inj, check-of-true}
 use Rattle.theory.proofs.ReadingBack.{reading-back}
-use Rattle.answers.specs.declared.WriteAnswer.{WriteAnswer}
-use Rattle.answers.specs.Calls.{ReadBackCall}
 use Rattle.writing.specs.Texts.{clausesText}
-use Rattle.nesskettle.specs.Leaving.{Leaves}
 use Rattle.nesskettle.specs.Demand3.{ReadBackAs, AlwaysReadBackAs, Demand3, Demand3Holds}
 use Rattle.nesskettle.proofs.Leaving.{leaves, left-text}
 use Rattle.nesskettle.proofs.Models.{judged-is-model, model-is-judged}

@@ -1,10 +1,10 @@
 -- The text that a call leaves is the text of its promise.
 use Prim.Native.Nat.{ℕ}
 use mathlib.Core.Path.{_≡_, refl, sym, ap, _∙_}
-use mathlib.Core.List.{List, _++_}
+use mathlib.Core.List.{List}
 use lib.ListN.{length, take, drop}
 use lib.Seq.{take-append-seam}
-use Rattle.theory.specs.Refusals.{Refusal, Answer, answer, refused}
+use Rattle.theory.specs.Refusals.{Answer, answer, refused}
 use Rattle.theory.specs.Operations.{lengthAnswer, over, outputAfter}
 use Rattle.theory.proofs.Answers.{answer-inj, answer≢refused}
 use Rattle.answers.specs.declared.WriteAnswer.{WriteAnswer}

@@ -1,6 +1,6 @@
 -- The texts that are judged models are the texts of models.
 use Prim.Native.Nat.{ℕ, zero, _<_}
-use mathlib.Core.Path.{_≡_, sym, ap, _∙_}
+use mathlib.Core.Path.{_≡_, ap, _∙_}
 use mathlib.Core.Bool.{true}
 use mathlib.Core.List.{List}
 use Rattle.theory.specs.Cells.{isModel}

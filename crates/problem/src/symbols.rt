@@ -45,14 +45,14 @@ fn symbol_at(sheet: &[u8], from: usize, end: usize, function: bool, before: Sign
         return SymbolLine::Fault(2);
     }
     let slash = end - 2;
-    if sheet[slash] != 47 {
+    if sheet[slash] != b'/' {
         return SymbolLine::Fault(2);
     }
     let digit = sheet[slash + 1];
     if !is_digit(digit) {
         return SymbolLine::Fault(2);
     }
-    let arity = digit - 48;
+    let arity = digit - b'0';
     if Problem::MAX_ARITY < arity as usize {
         return SymbolLine::Fault(3);
     }
@@ -96,6 +96,7 @@ fn is_name(name: &[u8]) -> bool
     true
 }
 
+// a to z
 fn is_lower(b: u8) -> bool
     ensures { λ r. ⌜ r ≡ isLower b ⌝ }
 {
@@ -111,5 +112,5 @@ fn is_name_byte(b: u8) -> bool
     if is_digit(b) {
         return true;
     }
-    b == 95
+    b == b'_'
 }

@@ -6,17 +6,17 @@ use mathlib.Core.Option.{Option, none, some}
 use mathlib.Core.List.{List, [], _∷_}
 use native.Mathlib.Omega.{arith}
 use native.Mathlib.Numerals.{add-one}
-use lib.Dec.{leb, ltb}
+use lib.Dec.{ltb}
 use lib.ListN.{length, getD, drop}
 use Rattle.theory.specs.Bytes.{isDigit}
-use Rattle.theory.specs.Lines.{Cut, cutLine, afterKey}
+use Rattle.theory.specs.Lines.{cutLine, afterKey}
 use Rattle.theory.specs.Program.{digitOf, digitLine, _>>?_}
 use Rattle.theory.proofs.Tests.{leb-of-≤, leb-of-<, ltb-of-<, ltb-of-≤}
 use Rattle.text.specs.Lines.{part, LineEnd, StartsWith}
 use Rattle.text.proofs.Part.{length-part, part-cons, part-none, drop-part}
 use Rattle.program.specs.declared.digits.DigitLine.{DigitLine}
 use Rattle.program.specs.declared.digits.DigitLine.the-variants.{Digit, Fault}
-use Rattle.program.specs.Digits.{digitIn, NextDigitWithin, DigitRead, ValueRead}
+use Rattle.program.specs.Digits.{DigitRead, ValueRead}
 
 pub none-bind : {A B : Type 0} (o : Option A) (k : A → Option B) → o ≡ none → (o >>? k) ≡ none
 unfolding _>>?_

@@ -1,18 +1,18 @@
 -- The input line by line: two digit lines, then the sheet.
-use Prim.Native.Nat.{ℕ, _+_, _-_, _≤_, _<_}
-use mathlib.Core.Path.{_≡_, refl, sym, ap, _∙_}
-use mathlib.Core.Option.{Option, none, some}
+use Prim.Native.Nat.{ℕ, _-_, _≤_}
+use mathlib.Core.Path.{_≡_, sym, ap, _∙_}
+use mathlib.Core.Option.{none, some}
 use mathlib.Core.List.{List}
 use native.Mathlib.Omega.{arith}
 use lib.ListN.{length, take, drop, length-drop}
 use lib.Seq.{take-all}
 use Rattle.theory.specs.Bytes.{bytes}
-use Rattle.theory.specs.Refusals.{Answer, refused, unplaced}
-use Rattle.theory.specs.Operations.{Search, findResult}
-use Rattle.theory.specs.Program.{_>>?_, digitLine, sized, answered, printed, program}
+use Rattle.theory.specs.Refusals.{refused, unplaced}
+use Rattle.theory.specs.Operations.{findResult}
+use Rattle.theory.specs.Program.{digitLine, answered, printed, program}
 use Rattle.program.specs.declared.digits.DigitLine.{DigitLine}
 use Rattle.program.specs.declared.digits.DigitLine.the-variants.{Digit, Fault}
-use Rattle.program.specs.Digits.{digitIn, NextDigitWithin, DigitRead}
+use Rattle.program.specs.Digits.{digitIn, DigitRead}
 use Rattle.program.specs.Reports.{fromHigh}
 use Rattle.program.proofs.DigitLines.{none-bind, some-bind}
 

@@ -1,5 +1,5 @@
 -- What the program's writers leave is what is printed.
-use Prim.Native.Nat.{ℕ, zero, suc, _+_, _-_, _≤_, _<_, _^_}
+use Prim.Native.Nat.{ℕ, _+_, _-_, _≤_, _<_, _^_}
 use mathlib.Core.Path.{_≡_, refl, sym, ap, _∙_}
 use mathlib.Core.Bool.{Bool, true, false}
 use mathlib.Core.List.{List, [], _∷_, _++_, append-assoc}
@@ -8,9 +8,9 @@ use native.Mathlib.Omega.{arith}
 use lib.ListN.{length, set, take, drop, take-append-drop, length-append, length-drop}
 use lib.Seq.{length-take-le, drop-drop}
 use Rattle.theory.specs.Bytes.{bytes, LF, decimal}
-use Rattle.theory.specs.Refusals.{Answer, Refusal, answer, refused, atLine}
+use Rattle.theory.specs.Refusals.{answer, refused, atLine}
 use Rattle.theory.specs.Operations.{over, found, nothing}
-use Rattle.theory.specs.Program.{yesNo, printed}
+use Rattle.theory.specs.Program.{printed}
 use Rattle.text.specs.Put.{put, put-cursor, put-run, cursor-run}
 use Rattle.stream.proofs.Texts.{decimal-within}
 use Rattle.program.specs.Reports.{Responds}

@@ -1,6 +1,6 @@
 -- Laws of counts of values, of what a push leaves, and of what a visit does.
 use mathlib.Core.Path.{_≡_, refl, _∙_}
-use mathlib.Core.Bool.{Bool, true, false, cond}
+use mathlib.Core.Bool.{Bool, true, false, cond, not}
 use mathlib.Core.List.{List, [], _∷_}
 use Prim.Native.Nat.{ℕ, zero, suc, _+_, _*_, _/_, _%_, _≤_, _<_}
 use native.Mathlib.Nat.{le-of-suc-le-suc, not-suc-le-zero}
@@ -58,14 +58,14 @@ module _ (v q n : ℕ) (w : List ℕ) where
   pub visit-new : getD w q 0 % 64 ≡ 1 → getD w (getD w q 0 / 64 / 2) 0 ≡ 0 → visited v q n w ≡ record { len = n + 1; clash = false; mem = pushed v n (getD w q 0 / 64) 0 w }
   visit-new e z = visit-one e ∙ rw (eq-eqb (getD w (getD w q 0 / 64 / 2) 0) 0 z) refl
 
+  pub visit-set : getD w q 0 % 64 ≡ 1 → (getD w (getD w q 0 / 64 / 2) 0 ≡ 0 → ⊥)
+      → visited v q n w ≡ stays n (not (eqb (getD w (getD w q 0 / 64 / 2) 0) (1 + getD w q 0 / 64 % 2))) w
+  visit-set e z = visit-one e ∙ rw (ne-eqb (getD w (getD w q 0 / 64 / 2) 0) 0 z) refl
+
   pub visit-true : getD w q 0 % 64 ≡ 1 → (getD w (getD w q 0 / 64 / 2) 0 ≡ 0 → ⊥) → getD w (getD w q 0 / 64 / 2) 0 ≡ 1 + getD w q 0 / 64 % 2
       → visited v q n w ≡ stays n false w
-  visit-true e z s =
-      visit-one e
-      ∙ rw (ne-eqb (getD w (getD w q 0 / 64 / 2) 0) 0 z, eq-eqb (getD w (getD w q 0 / 64 / 2) 0) (1 + getD w q 0 / 64 % 2) s) refl
+  visit-true e z s = visit-set e z ∙ rw (eq-eqb (getD w (getD w q 0 / 64 / 2) 0) (1 + getD w q 0 / 64 % 2) s) refl
 
   pub visit-false : getD w q 0 % 64 ≡ 1 → (getD w (getD w q 0 / 64 / 2) 0 ≡ 0 → ⊥) → (getD w (getD w q 0 / 64 / 2) 0 ≡ 1 + getD w q 0 / 64 % 2 → ⊥)
       → visited v q n w ≡ stays n true w
-  visit-false e z s =
-      visit-one e
-      ∙ rw (ne-eqb (getD w (getD w q 0 / 64 / 2) 0) 0 z, ne-eqb (getD w (getD w q 0 / 64 / 2) 0) (1 + getD w q 0 / 64 % 2) s) refl
+  visit-false e z s = visit-set e z ∙ rw (ne-eqb (getD w (getD w q 0 / 64 / 2) 0) (1 + getD w q 0 / 64 % 2) s) refl

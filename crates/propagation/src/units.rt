@@ -53,16 +53,9 @@ pub fn visit(work: &mut [u32], v: usize, address: usize, len: usize) -> Seen
         };
     }
     let own = 1 + literal % 2;
-    if value == own {
-        Seen {
-            len: len,
-            clash: false,
-        }
-    } else {
-        Seen {
-            len: len,
-            clash: true,
-        }
+    Seen {
+        len: len,
+        clash: value != own,
     }
 }
 

@@ -94,13 +94,19 @@ pub record LiteralAdded (g : Signature) (xs : List ℕ) (found : List Term) (don
   pub lifts : Lifts g xs (addTerms found (toLift (turnedAtom (k .atom)))) (r .table)
   pub made : Made g xs (addTerms found (toLift (turnedAtom (k .atom)))) (done ++ (k ∷ [])) r
 
+-- the literal that stands there is added
 abbrev pub LiteralMade : {codes place arities : List ℕ} {l : Lifting} → LiteralThere codes place arities l → Lifting → Type 0
 LiteralMade {codes} {place} {arities} {l} s r =
     LiteralAdded (s .source .signature) (s .source .variables) (s .found) (s .done) l (s .literal) (l .next + length (sign (s .literal .sign) ∷ atomWords (s .literal .atom))) r
 
+-- the equality of two terms, or that they differ
+abbrev pub equalityLiteral : Bool → Term → Term → theory.Literal
+equalityLiteral b t u = record { sign = b; atom = equal t u }
+
+-- that of the two terms that stand there is added
 abbrev pub EqualityMade : {codes place arities : List ℕ} {l : Lifting} {b : Bool} {at : ℕ} → EqualityThere codes place arities l b at → Lifting → Type 0
 EqualityMade {codes} {place} {arities} {l} {b} {at} s r =
-    LiteralAdded (s .source .signature) (s .source .variables) (s .found) (s .done) l (record { sign = b; atom = equal (s .left) (s .right) }) (at + length (termWords (s .left) ++ termWords (s .right))) r
+    LiteralAdded (s .source .signature) (s .source .variables) (s .found) (s .done) l (equalityLiteral b (s .left) (s .right)) (at + length (termWords (s .left) ++ termWords (s .right))) r
 
 -- all literals of the clause after step 1 are made shallow
 pub record ClauseLifted {arities : List ℕ} {w : ClauseWords} (s : Flattenable arities w) (r : Lifting) : Type 0 where

@@ -70,7 +70,4 @@ impl Problem {
 
     // the propositional variables of one symbol
     pub const MAX_TABLE_BITS: usize = Self::MAX_TABLE * Self::MAX_SIZE;
-
-    // the propositional variables of all symbols
-    pub const MAX_BITS: usize = Self::MAX_CELLS * Self::MAX_SIZE;
 }

@@ -14,10 +14,8 @@ pub enum SizeCheck {
 }
 
 impl DomainSize {
-    // the byte of the digit 0, and of the largest size
-    pub const ZERO_DIGIT: u8 = 48;
-
-    pub const LAST_DIGIT: u8 = Self::ZERO_DIGIT + Problem::MAX_SIZE as u8;
+    // the digit before those of sizes
+    pub const ZERO_DIGIT: u8 = b'0';
 
     pub fn checked(n: usize) -> SizeCheck
         ensures { λ r. ⌜ r ≡ checkedSize n ⌝ }

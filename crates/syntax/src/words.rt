@@ -7,14 +7,14 @@ pub struct ClauseWords {
 }
 
 impl ClauseWords {
-    pub const PLUS: u8 = 43;
+    pub const PLUS: u8 = b'+';
 
-    pub const MINUS: u8 = 45;
+    pub const MINUS: u8 = b'-';
 
-    pub const EQUALS: u8 = 61;
+    pub const EQUALS: u8 = b'=';
 
     // the code of the variable letter A; the others follow, up to H
-    pub const LETTER: u8 = 65;
+    pub const LETTER: u8 = b'A';
 
     // the code after that of the last letter
     pub const PAST_LETTERS: u8 = Self::LETTER + Problem::MAX_LETTERS as u8;

@@ -1,6 +1,5 @@
-use mathlib.Core.Path.{refl, sym, ap, _∙_}
-use Rattle.answers.specs.Answers.{readIn, judgeIn, lengthIn, findIn}
-use Rattle.exports.specs.Layouts.{readOut, judgeOut, writeOut, findOut}
+use mathlib.Core.Path.{ap, _∙_}
+use Rattle.exports.specs.Layouts.{judgeOut}
 use borrow.Author.Needs.{needs}
 use Rattle.exports.proofs.nk_judge.Statement.{statement}
 use Rattle.exports.proofs.nk_judge.Tie as tie

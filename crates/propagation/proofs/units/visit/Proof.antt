@@ -1,12 +1,14 @@
 -- `units::visit` meets its contract: each way out is the case of the definition that its tests say.
 use mathlib.Core.Path.{_≡_, sym, ap, _∙_}
-use mathlib.Core.Bool.{false}
+use mathlib.Core.Bool.{false, not}
 use mathlib.Core.List.{List}
-use Prim.Native.Nat.{ℕ, _+_, _/_, _<_}
+use Prim.Native.Nat.{ℕ, _+_, _/_, _%_, _<_}
 use native.Mathlib.Omega.{arith}
 use borrow.Author.Needs.{needs}
+use lib.Dec.{eqb}
 use lib.ListN.{getD}
-use Rattle.propagation.proofs.Visited.{room, visit-none, visit-many, visit-new, visit-true, visit-false}
+use Rattle.propagation.specs.Units.{stays}
+use Rattle.propagation.proofs.Visited.{room, visit-none, visit-many, visit-new, visit-set}
 use Rattle.propagation.proofs.units.visit.Statement.{statement}
 use Rattle.propagation.proofs.units.visit.Tie as tie
 
@@ -83,23 +85,10 @@ add-own c = search needs
 
 returns-4 : tie.Need-returns-4
 returns-4 c =
-    let s = c .before .before .before .before .before .before .before .before .before .before in
-    let a = s .args in
-    let t = c .before .before .before in
-    sym
-    (visit-true (a .v) (a .address) (a .len) (a .work .now) (t .before .before .if2 .left)
-    (λ z. c .before .if3 .left (value t ∙ z))
-    (sym (value t) ∙ c .if4 .taken))
-
-returns-5 : tie.Need-returns-5
-returns-5 c =
-    let s = c .before .before .before .before .before .before .before .before .before .before in
-    let a = s .args in
-    let t = c .before .before .before in
-    sym
-    (visit-false (a .v) (a .address) (a .len) (a .work .now) (t .before .before .if2 .left)
-    (λ z. c .before .if3 .left (value t ∙ z))
-    (λ z. c .if4 .left (value t ∙ z)))
+    let t = c .before .before in
+    let a = t .before .before .before .before .before .before .before .args in
+    ap (λ (x : ℕ). stays (a .len) (not (eqb x (1 + getD (a .work .now) (a .address) 0 / 64 % 2))) (a .work .now)) (value t)
+    ∙ sym (visit-set (a .v) (a .address) (a .len) (a .work .now) (t .before .before .if2 .left) (λ z. c .if3 .left (value t ∙ z)))
 
 pub visit-spec : {M : Type 1} → statement M
 visit-spec =
@@ -117,5 +106,4 @@ visit-spec =
     same-length
     returns-3
     add-own
-    returns-4
-    returns-5)
+    returns-4)
