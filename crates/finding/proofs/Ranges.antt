@@ -3,7 +3,7 @@ use Prim.Native.Nat.{ℕ, _≤_, _<_}
 use mathlib.Core.Path.{_≡_, refl, sym, ap, _∙_}
 use mathlib.Core.Bool.{Bool, true, false, cond, _&&_}
 use native.Mathlib.Omega.{arith}
-use borrow.Author.Tests.{le-leb, lt-leb}
+use borrow.Author.Tests.{le-leb}
 use lib.Dec.{leb}
 use Rattle.theory.specs.Operations.{maxSize, isSize}
 use Rattle.theory.proofs.Tests.{leb-true, and-left, and-right}
@@ -15,8 +15,8 @@ use Rattle.finding.specs.declared.range.RangeCheck.the-variants.{Is, Ref
 use Rattle.finding.specs.Ranges.{areSizes, checkedRange}
 
 module _ (low high : ℕ) where
-  pub bounds : areSizes low high ≡ true → (1 ≤ low) × (high ≤ maxSize) × (low ≤ high)
-  bounds e =
+  pub range-bounds : areSizes low high ≡ true → (1 ≤ low) × (high ≤ maxSize) × (low ≤ high)
+  range-bounds e =
       let a = and-left (leb 1 low && leb high maxSize) (leb low high) e in (
         leb-true 1 low (and-left (leb 1 low) (leb high maxSize) a),
         leb-true high maxSize (and-right (leb 1 low) (leb high maxSize) a),
@@ -28,7 +28,7 @@ module _ (low high : ℕ) where
   unless wrong = go (areSizes low high) refl
     where
       go : (b : Bool) → areSizes low high ≡ b → areSizes low high ≡ false
-      go true e = absurd (wrong (bounds e))
+      go true e = absurd (wrong (range-bounds e))
       go false e = e
 
   sized : (n : ℕ) → 1 ≤ n → n ≤ maxSize → isSize n ≡ false → ⊥
@@ -40,18 +40,18 @@ module _ (low high : ℕ) where
   refuses : areSizes low high ≡ false → Refused ≡ checkedRange low high
   refuses e = sym (ap (λ (b : Bool). cond b (Is (record { 0 = low }) (record { 0 = high })) Refused) e)
 
-  pub no-low : checkedSize low ≡ size.Refused → Refused ≡ checkedRange low high
-  no-low e = refuses (unless (λ h. sized low (h .0) (omega (arith, h .1, h .2)) (refused-size low e)))
+  pub range-no-low : checkedSize low ≡ size.Refused → Refused ≡ checkedRange low high
+  range-no-low e = refuses (unless (λ h. sized low (h .0) (omega (arith, h .1, h .2)) (refused-size low e)))
 
-  pub no-high : checkedSize high ≡ size.Refused → Refused ≡ checkedRange low high
-  no-high e = refuses (unless (λ h. sized high (omega (arith, h .0, h .2)) (h .1) (refused-size high e)))
+  pub range-no-high : checkedSize high ≡ size.Refused → Refused ≡ checkedRange low high
+  range-no-high e = refuses (unless (λ h. sized high (omega (arith, h .0, h .2)) (h .1) (refused-size high e)))
 
-  pub disordered : high < low → Refused ≡ checkedRange low high
-  disordered lt = refuses (unless (λ h. absurd (omega (arith, h .2, lt))))
+  pub range-disordered : high < low → Refused ≡ checkedRange low high
+  range-disordered lt = refuses (unless (λ h. absurd (omega (arith, h .2, lt))))
 
   module _ (l h : DomainSize) where
-    pub ordered : checkedSize low ≡ size.Is l → checkedSize high ≡ size.Is h → l .0 ≤ h .0 → Is l h ≡ checkedRange low high
-    ordered e f le =
+    pub range-ordered : checkedSize low ≡ size.Is l → checkedSize high ≡ size.Is h → l .0 ≤ h .0 → Is l h ≡ checkedRange low high
+    range-ordered e f le =
         let a = checked-size low l e in
         let b = checked-size high h f in
         let one = size-within low (a .0) .0 in
@@ -63,15 +63,15 @@ module _ (low high : ℕ) where
         ∙ sym (ap (λ (b : Bool). cond b (Is (record { 0 = low }) (record { 0 = high })) Refused) t)
 
     -- what the check tells
-    pub taken : checkedRange low high ≡ Is l h → (areSizes low high ≡ true) × (l .0 ≡ low) × (h .0 ≡ high)
-    taken = go (areSizes low high)
+    pub range-taken : checkedRange low high ≡ Is l h → (areSizes low high ≡ true) × (l .0 ≡ low) × (h .0 ≡ high)
+    range-taken = go (areSizes low high)
       where
         go : (b : Bool) → cond b (Is (record { 0 = low }) (record { 0 = high })) Refused ≡ Is l h → (b ≡ true) × (l .0 ≡ low) × (h .0 ≡ high)
         go true e = (refl, cc, cc)
         go false e = let z : _≡_ {A = ℕ} 0 1 = cc in absurd (omega arith)
 
-  pub refused : checkedRange low high ≡ Refused → areSizes low high ≡ false
-  refused = go (areSizes low high)
+  pub range-refused : checkedRange low high ≡ Refused → areSizes low high ≡ false
+  range-refused = go (areSizes low high)
     where
       go : (b : Bool) → cond b (Is (record { 0 = low }) (record { 0 = high })) Refused ≡ Refused → b ≡ false
       go true e = let z : _≡_ {A = ℕ} 0 1 = cc in absurd (omega arith)

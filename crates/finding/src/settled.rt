@@ -1,4 +1,4 @@
-// The mark `settled`, as the document defines it: a condition on the problem and the largest size. That no larger size has a model where it holds is not proved here.
+// The mark `settled`: document 01's condition, computed. What it means for larger cases is not proved.
 use syntax::limits::Problem;
 use syntax::signature::Signature;
 use syntax::size::DomainSize;

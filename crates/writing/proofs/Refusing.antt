@@ -5,7 +5,7 @@ use mathlib.Core.Bool.{Bool, true, false}
 use mathlib.Core.List.{List}
 use lib.Dec.{leb}
 use lib.ListN.{length}
-use Rattle.theory.specs.Refusals.{Answer, answer, refused, atLine, unplaced, needing, check, _>>=_}
+use Rattle.theory.specs.Refusals.{Answer, answer, refused, unplaced, needing, check, _>>=_}
 use Rattle.theory.specs.Refusals as theory
 use Rattle.theory.specs.Problem.{Problem, readProblem}
 use Rattle.theory.specs.Operations.{maxInstances, isSize, lengthAnswer, outputAfter, over, contentOf, writtenText}

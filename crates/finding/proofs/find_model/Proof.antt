@@ -3,12 +3,12 @@ use Prim.Native.Nat.{ℕ}
 use mathlib.Core.Path.{_≡_, sym, ap, _∙_}
 use native.Mathlib.Omega.{arith}
 use lib.ListN.{length}
-use Rattle.theory.specs.Refusals.{Answer, atLine, unplaced}
-use Rattle.theory.specs.Operations.{Search, findResult}
+use Rattle.theory.specs.Refusals.{atLine, unplaced}
+use Rattle.theory.specs.Operations.{findResult}
 use Rattle.problem.specs.Problems.{problemIn}
 use Rattle.problem.proofs.SheetRead.{sheet-accepted, sheet-refused}
 use Rattle.finding.specs.Ending.{foundIn}
-use Rattle.finding.proofs.Ranges.{bounds, taken, refused}
+use Rattle.finding.proofs.Ranges.{range-bounds, range-taken, range-refused}
 use Rattle.finding.proofs.Endings.{ends-as, ends-refused}
 use Rattle.finding.proofs.Refusing.{result-refused, result-8, result-read}
 use borrow.Author.Needs.{needs}
@@ -63,8 +63,8 @@ find-in-requires c κs =
     let r = c .before .before .before .before .before .before .before .before .before .read-problem in
     let ok = c .before .before .before .before .before .before .before .if1 .left in
     let g = c .before .before .before .least .given in
-    let t = taken (a .low) (a .high) (g .0 .0) (g .0 .1 .0) (sym (c .before .before .before .before .before .checked-range .ensures) ∙ g .1) in
-    let h = bounds (a .low) (a .high) (t .0) in
+    let t = range-taken (a .low) (a .high) (g .0 .0) (g .0 .1 .0) (sym (c .before .before .before .before .before .checked-range .ensures) ∙ g .1) in
+    let h = range-bounds (a .low) (a .high) (t .0) in
     record {
       accepted = r .ensures .1 ok;
       read = sheet-accepted (a .sheet .now) (r .result) (r .ensures .0) ok;
@@ -81,7 +81,7 @@ returns-2 c =
     let W = length (a .work .now) in
     let R = length (a .output .now) in
     let q = problemIn (a .sheet .now) (r .result .problem) in
-    let no = refused (a .low) (a .high) (sym (c .before .before .before .checked-range .ensures) ∙ c .before .enum-told .given .1) in
+    let no = range-refused (a .low) (a .high) (sym (c .before .before .before .checked-range .ensures) ∙ c .before .enum-told .given .1) in
     ends-refused (findResult (a .sheet .now) (a .low) (a .high)) (c .at-line2 .result) (unplaced 8) (a .work .now) (a .output .now)
     (result-8 (a .sheet .now) (a .low) (a .high) W R q (sheet-accepted (a .sheet .now) (r .result) (r .ensures .0) (c .before .before .before .before .before .if1 .left)) no) (c .at-line2 .ensures)
 
@@ -103,7 +103,7 @@ returns-3 c =
     let R = length (a .output .now) in
     let q = problemIn (a .sheet .now) (r .result .problem) in
     let g = c .before .before .before .before .before .before .before .before .least .given in
-    let t = taken (a .low) (a .high) (g .0 .0) (g .0 .1 .0) (sym (c .before .before .before .before .before .before .before .before .before .before .checked-range .ensures) ∙ g .1) in
+    let t = range-taken (a .low) (a .high) (g .0 .0) (g .0 .1 .0) (sym (c .before .before .before .before .before .before .before .before .before .before .checked-range .ensures) ∙ g .1) in
     let same : foundIn q (a .low) (a .high) W R ≡ foundIn q (g .0 .0 .0) (g .0 .1 .0 .0) W R =
     ap (λ (n : ℕ). foundIn q n (a .high) W R) (sym (t .1)) ∙ ap (λ (n : ℕ). foundIn q (g .0 .0 .0) n W R) (sym (t .2)) in
     ends-as (findResult (a .sheet .now) (a .low) (a .high)) (f .result) (a .work .now) (f .last .1 .1 .1 .1 .0) (a .output .now) (f .last .1 .1 .1 .1 .1 .0) (foundIn q (g .0 .0 .0) (g .0 .1 .0 .0))

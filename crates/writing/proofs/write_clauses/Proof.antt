@@ -1,6 +1,6 @@
 -- `write_clauses` meets its contract.
 use borrow.Author.Needs.{needs}
-use mathlib.Core.Path.{_≡_, sym, ap, _∙_, subst}
+use mathlib.Core.Path.{_≡_, sym, ap, _∙_}
 use Prim.Native.Nat.{ℕ}
 use lib.ListN.{length}
 use Rattle.theory.specs.Refusals.{atLine, unplaced}
@@ -8,7 +8,7 @@ use Rattle.theory.specs.Operations.{writtenText}
 use Rattle.syntax.proofs.Sizes.{checked-size, refused-size, size-within}
 use Rattle.problem.specs.Problems.{problemIn}
 use Rattle.problem.proofs.SheetRead.{sheet-accepted, sheet-refused}
-use Rattle.writing.specs.Texts.{Sized, textAt}
+use Rattle.writing.specs.Texts.{textAt}
 use Rattle.writing.proofs.Refusing.{refuses, answers-as, sheet-refusal, size-refusal, sized-text}
 use Rattle.writing.proofs.write_clauses.Statement.{statement}
 use Rattle.writing.proofs.write_clauses.Tie as tie

@@ -3,7 +3,7 @@ use borrow.Author.Needs.{needs}
 use mathlib.Core.Path.{sym, _∙_}
 use native.Mathlib.Omega.{arith}
 use Rattle.syntax.proofs.Sizes.{checked-size}
-use Rattle.finding.proofs.Ranges.{no-low, no-high, disordered, ordered}
+use Rattle.finding.proofs.Ranges.{range-no-low, range-no-high, range-disordered, range-ordered}
 use Rattle.finding.proofs.range.checked_range.Statement.{statement}
 use Rattle.finding.proofs.range.checked_range.Tie as tie
 use Rattle.finding.proofs.range.checked_range.Reads as reads
@@ -26,7 +26,7 @@ enum-told c = search needs
 returns : tie.Need-returns
 returns c =
     let a = c .before .before .before .args in
-    no-low (a .low) (a .high) (sym (c .before .before .checked .ensures) ∙ c .enum-told .given .1)
+    range-no-low (a .low) (a .high) (sym (c .before .before .checked .ensures) ∙ c .enum-told .given .1)
 
 -- src/range.rt:20:31
 checked-requires-2 : tie.Need-checked-requires-2
@@ -44,7 +44,7 @@ enum-told-2 c = search needs
 returns-2 : tie.Need-returns-2
 returns-2 c =
     let a = c .before .before .before .before .before .before .before .args in
-    no-high (a .low) (a .high) (sym (c .before .before .checked2 .ensures) ∙ c .enum-told2 .given .1)
+    range-no-high (a .low) (a .high) (sym (c .before .before .checked2 .ensures) ∙ c .enum-told2 .given .1)
 
 -- src/range.rt:24:9
 returns-3 : tie.Need-returns-3
@@ -54,7 +54,7 @@ returns-3 c =
     let h = c .before .before .before .before .most .given in
     let low = checked-size (a .low) (l .0 .0) (sym (c .before .before .before .before .before .before .before .before .before .before .checked .ensures) ∙ l .1) .1 in
     let high = checked-size (a .high) (h .0 .0) (sym (c .before .before .before .before .before .before .checked2 .ensures) ∙ h .1) .1 in
-    disordered (a .low) (a .high) (omega (arith, low, high, c .if1 .taken))
+    range-disordered (a .low) (a .high) (omega (arith, low, high, c .if1 .taken))
 
 -- src/range.rt:14:1
 returns-4 : tie.Need-returns-4
@@ -62,7 +62,7 @@ returns-4 c =
     let a = c .before .before .before .before .before .before .before .before .before .before .before .args in
     let l = c .before .before .before .before .before .before .before .before .least .given in
     let h = c .before .before .before .before .most .given in
-    ordered (a .low) (a .high) (l .0 .0) (h .0 .0)
+    range-ordered (a .low) (a .high) (l .0 .0) (h .0 .0)
     (sym (c .before .before .before .before .before .before .before .before .before .before .checked .ensures) ∙ l .1)
     (sym (c .before .before .before .before .before .before .checked2 .ensures) ∙ h .1)
     (c .if1 .left)

@@ -1,7 +1,7 @@
 -- `write_text` meets its contract.
 use borrow.Author.Needs.{needs}
-use Prim.Native.Nat.{ℕ, _≤_, _<_, _^_}
-use mathlib.Core.Path.{_≡_, ap, _∙_}
+use Prim.Native.Nat.{_≤_, _<_, _^_}
+use mathlib.Core.Path.{ap, _∙_}
 use native.Mathlib.Omega.{arith}
 use lib.ListN.{length}
 use Rattle.theory.specs.Refusals.{needing}
@@ -56,8 +56,8 @@ returns c =
     let m = c .before .before .before .before .before .measured in
     let e = needed p s (n .result .count) (m .result .count) (n .ensures (z .args .sheet .now) .count) (m .ensures .0) _ _ (c .before .before .before .header-length .ensures) (m .ensures .1) in
     let long : room < length (clausesText p s) = omega (arith, c .before .if1 .taken, e) in
-    refuses (textWithin p s room) (needing 11 (length (clausesText p s))) (c .needing .result) (z .args .output .now) (too-long p s room long)
-    (c .needing .ensures ∙ ap (needing 11) e)
+    let w = refuses (textWithin p s room) (needing 11 (length (clausesText p s))) (c .needing .result) (z .args .output .now) (too-long p s room long) (c .needing .ensures ∙ ap (needing 11) e) in
+    record { answer = w .answer; left = w .left }
 
 put-header-requires : tie.Need-put-header-requires
 put-header-requires c κs = search needs
