@@ -23,18 +23,12 @@ use Rattle.tptp.specs.Symbols.{Occurrence, ofVariable, ofSymbol, clauseO
 use Rattle.tptp.specs.SheetText.{sheetText}
 use Rattle.tptp.specs.Tptp.{File, readFile, clausesOfFile, Fault, faultIf, occurrenceFaults, statementFaults, faultsFrom, foreignFault, faults, sheetIn, tptpText}
 use Rattle.tptp.specs.Claims.Order.{firstFault, declaredBy, signatureBy, firstFaultFrom}
+use Rattle.tptp.specs.Claims.Deciding.{sheetOf, firstOfStatements, lastFault, declaredIn, firstOfOccurrences}
+use Rattle.tptp.specs.Claims.Deciding as claims
 use Rattle.tptp.proofs.Fresh.{self-named}
 use Rattle.tptp.proofs.Models.{first-has}
 use Rattle.tptp.proofs.SoFar.{first-append, occurrence-so-far}
 use Rattle.tptp.proofs.Order.{first-fault-append, order}
-
--- the sheet of a text's clauses
-abbrev pub sheetOf : List ℕ → List ℕ
-sheetOf text = sheetText (problemOf (clausesOfFile (readFile text)))
-
--- the first fault of the text's whole statements, told statement by statement
-abbrev pub firstOfStatements : List ℕ → Option Fault
-firstOfStatements text = firstFaultFrom [] 0 (readFile text .statements)
 
 -- the answer, by the first fault
 abbrev answerBy : List ℕ → Option Fault → List ℕ → ℕ → Answer (List ℕ)
@@ -44,10 +38,6 @@ answerBy text none sheet room = cond (leb (length sheet) room) (answer sheet) (r
 by-first : (text : List ℕ) (fs : List Fault) (sheet : List ℕ) (room : ℕ) → sheetIn text fs sheet room ≡ answerBy text (firstFault fs) sheet room
 by-first text [] sheet room = refl
 by-first text (f ∷ fs) sheet room = refl
-
--- what comes after the statements: the 15, the sheet's bytes
-abbrev pub lastFault : List ℕ → Option Fault
-lastFault text = firstFault (foreignFault (readFile text .foreign) ++ faultIf (ltb 16384 (length (sheetOf text))) 17 (length text))
 
 -- the first fault of all: that of the statements, else the last
 pub first-of-all : (text : List ℕ) → firstFault (faults text) ≡ orElse (firstOfStatements text) (lastFault text)
@@ -87,10 +77,6 @@ by-bytes text room h k =
     go true = refl
     go false = refl
 
--- the symbols that statements would declare
-abbrev pub declaredIn : List Statement → List Symbol
-declaredIn ss = concatMap (λ (s : Statement). declaredBy (s .clause)) ss
-
 -- after clean statements the rest decides, by the symbols so far
 pub after-clean : (ss rest : List Statement) (X : List Symbol) (i : ℕ) → firstFaultFrom X i ss ≡ none → firstFaultFrom X i (ss ++ rest) ≡ firstFaultFrom (X ++ declaredIn ss) (i + length ss) rest
 after-clean [] rest X i h = ap (λ (Y : List Symbol). firstFaultFrom Y i rest) (sym (append-nil X)) ∙ ap (λ (n : ℕ). firstFaultFrom (X ++ []) n rest) (sym (add-zero i))
@@ -129,14 +115,6 @@ letter-so-far U W x h =
     let r = first-append (λ (y : List ℕ). y) U W in
     let p = any→placeThat (same x) (firstOfName (λ y. y) U) (first-has (λ (y : List ℕ). y) x U h) in
     ap orZero (ap (placeThat (same x)) (r .1) ∙ placeThat-append (same x) (firstOfName (λ y. y) U) (r .0) (p .0) (p .1) ∙ sym (p .1))
-
--- the first fault of occurrences, the symbols X and the variables U having appeared before them; what comes later is not looked at
-abbrev pub firstOfOccurrences : List Symbol → List (List ℕ) → List Occurrence → Option Fault
-firstOfOccurrences X U [] = none
-firstOfOccurrences X U (o ∷ os) =
-    let own = firstFault (occurrenceFaults (signatureBy (X ++ declares o)) (firstOfName (λ y. y) (U ++ names o)) o) in
-    let later = firstOfOccurrences (X ++ declares o) (U ++ names o) os in
-    orElse own later
 
 -- a name stands in a list that it ends
 here : (x : List ℕ) (U : List (List ℕ)) → any (same x) (U ++ (x ∷ [])) ≡ true
@@ -182,3 +160,15 @@ of-statement X i s =
     let d : List Fault = faultIf (not (withinLimits (words.clauseWords (clauseOver g (s .clause))) (clauseOver g (s .clause)))) 17 (s .stop) in
     first-fault-append (faultIf (leb 64 i) 17 (s .start)) (b ++ d)
     ∙ ap (orElse (firstFault (faultIf (leb 64 i) 17 (s .start)))) (first-fault-append b d ∙ ap (λ (o : Option Fault). orElse o (firstFault d)) (one-by-one os X []))
+
+-- after clean statements the rest decides
+no-earlier : (text : List ℕ) (ss rest : List Statement) → readFile text .statements ≡ ss ++ rest → firstFaultFrom [] 0 ss ≡ none → firstFault (faults text) ≡ orElse (firstFaultFrom (declaredIn ss) (length ss) rest) (lastFault text)
+no-earlier text ss rest e h =
+    let n : 0 + length ss ≡ length ss = omega arith in
+    first-of-all text
+    ∙ ap (λ (l : List Statement). orElse (firstFaultFrom [] 0 l) (lastFault text)) e
+    ∙ ap (λ (o : Option Fault). orElse o (lastFault text)) (after-clean ss rest [] 0 h)
+    ∙ ap (λ (k : ℕ). orElse (firstFaultFrom (declaredIn ss) k rest) (lastFault text)) n
+
+pub deciding : claims.Deciding
+deciding = record { by-statement = by-statement; by-foreign = by-foreign; by-bytes = by-bytes; no-earlier = no-earlier; in-statement = of-statement }

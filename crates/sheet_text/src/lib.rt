@@ -1,0 +1,2 @@
+// The text of a sheet, written by parts at a cursor. Names are places in a lent text.
+pub mod lines;
