@@ -106,30 +106,64 @@ variable-inner b c zero z = absurd (z refl)
 variable-inner b c (suc n) z = refl
 
 -- but for cnf, the kind of the token is all that is looked at
-pub due-moves : (d : DueToken) (k : TokenKind) (c : Bool) → mayEnd d ≡ false → movedBy (moves d) k ≡ dueAfterToken d (kindToken k c)
+pub due-moves : (d : DueToken) (k : TokenKind) (w : List ℕ) (p : ℕ) → mayEnd d ≡ false → movedBy (moves d) k ≡ dueAfterToken d (record { kind = k; name = w; place = p })
 unfolding dueAfterToken
-due-moves statement k c h = absurd (true≢false h)
-due-moves opening k c h = refl
-due-moves name k c h = refl
-due-moves nameComma k c h = refl
-due-moves role k c h = refl
-due-moves roleComma k c h = refl
-due-moves clause k c h = refl
-due-moves (literal b) k c h = refl
-due-moves (literalEnd b) k c h = refl
-due-moves (term b s n) k c h = refl
-due-moves (wordEnd b (first true) zero) k c h = refl
-due-moves (wordEnd b (first false) zero) k c h = refl
-due-moves (wordEnd b second zero) k c h = refl
-due-moves (wordEnd b s (suc n)) k c h = refl
-due-moves (termEnd b (first true) zero) k c h = refl
-due-moves (termEnd b (first false) zero) k c h = refl
-due-moves (termEnd b second zero) k c h = refl
-due-moves (termEnd b s (suc n)) k c h = refl
-due-moves (equality b true) k c h = refl
-due-moves (equality b false) k c h = refl
-due-moves closing k c h = refl
-due-moves stop k c h = refl
+due-moves statement k w p h = absurd (true≢false h)
+due-moves opening k w p h = refl
+due-moves name k w p h = refl
+due-moves nameComma k w p h = refl
+due-moves role k w p h = refl
+due-moves roleComma k w p h = refl
+due-moves clause k w p h = refl
+due-moves (literal b) k w p h = refl
+due-moves (literalEnd b) k w p h = refl
+due-moves (term b s n) k w p h = refl
+due-moves (wordEnd b (first true) zero) k w p h = refl
+due-moves (wordEnd b (first false) zero) k w p h = refl
+due-moves (wordEnd b second zero) k w p h = refl
+due-moves (wordEnd b s (suc n)) k w p h = refl
+due-moves (termEnd b (first true) zero) k w p h = refl
+due-moves (termEnd b (first false) zero) k w p h = refl
+due-moves (termEnd b second zero) k w p h = refl
+due-moves (termEnd b s (suc n)) k w p h = refl
+due-moves (equality b true) k w p h = refl
+due-moves (equality b false) k w p h = refl
+due-moves closing k w p h = refl
+due-moves stop k w p h = refl
 
 pub by-due : (x y : Due) (k : TokenKind) (c : Bool) (o : Option DueToken) → x ≡ y → mayEnd (dueTokenIn y) ≡ false → o ≡ movedBy (moves (dueTokenIn y)) k → o ≡ dueAfterToken (dueTokenIn x) (kindToken k c)
-by-due x y k c o e h m = m ∙ due-moves (dueTokenIn y) k c h ∙ sym (ap (λ (z : Due). dueAfterToken (dueTokenIn z) (kindToken k c)) e)
+by-due x y k c o e h m = m ∙ due-moves (dueTokenIn y) k (cond c (bytes "cnf") []) 0 h ∙ sym (ap (λ (z : Due). dueAfterToken (dueTokenIn z) (kindToken k c)) e)
+
+-- what is due after a token, told by its kind and whether it spells cnf
+pub after-token : (d : DueToken) (k : TokenKind) (c : Bool) (w : List ℕ) (p : ℕ) → same w (bytes "cnf") ≡ c → dueAfterToken d (kindToken k c) ≡ dueAfterToken d (record { kind = k; name = w; place = p })
+unfolding dueAfterToken
+after-token d k c w p e = go d
+  where
+    spelt : (c : Bool) → same (cond c (bytes "cnf") []) (bytes "cnf") ≡ c
+    spelt true = refl
+    spelt false = refl
+
+    begun : dueAfterToken statement (kindToken k c) ≡ dueAfterToken statement (record { kind = k; name = w; place = p })
+    begun =
+        ap (λ (q : Bool). elim (elim (sameTokenKind lowerWord k && q) as (λ _. Option Move) [ true ↦ some (isCnf, opening) | false ↦ none ]) as (λ _. Option DueToken) [ some m ↦ some (m .1) | none ↦ none ])
+        (spelt c ∙ sym e)
+
+    inside : (d : DueToken) → mayEnd d ≡ false → dueAfterToken d (kindToken k c) ≡ dueAfterToken d (record { kind = k; name = w; place = p })
+    inside d h = sym (due-moves d k (cond c (bytes "cnf") []) 0 h) ∙ due-moves d k w p h
+
+    go : (d : DueToken) → dueAfterToken d (kindToken k c) ≡ dueAfterToken d (record { kind = k; name = w; place = p })
+    go statement = begun
+    go opening = inside opening refl
+    go name = inside name refl
+    go nameComma = inside nameComma refl
+    go role = inside role refl
+    go roleComma = inside roleComma refl
+    go clause = inside clause refl
+    go (literal b) = inside (literal b) refl
+    go (literalEnd b) = inside (literalEnd b) refl
+    go (term b s n) = inside (term b s n) refl
+    go (wordEnd b s n) = inside (wordEnd b s n) refl
+    go (termEnd b s n) = inside (termEnd b s n) refl
+    go (equality b x) = inside (equality b x) refl
+    go closing = inside closing refl
+    go stop = inside stop refl

@@ -21,9 +21,10 @@ use Rattle.tptp.proofs.Fresh.{self-named}
 use Rattle.tptp.proofs.Taken.{sound, limited, clean, occurrences-clean}
 use Rattle.tptp.proofs.SoFar.{occurrences-so-far, settledAt, limits-so-far}
 
-first-append : (xs ys : List Fault) → firstFault (xs ++ ys) ≡ orElse (firstFault xs) (firstFault ys)
-first-append [] ys = refl
-first-append (x ∷ xs) ys = refl
+-- the first of two lists of faults is the first of the one, else of the other
+pub first-fault-append : (xs ys : List Fault) → firstFault (xs ++ ys) ≡ orElse (firstFault xs) (firstFault ys)
+first-fault-append [] ys = refl
+first-fault-append (x ∷ xs) ys = refl
 
 module _ (X Y : List Symbol) where
   abbrev now : Signature
@@ -68,7 +69,7 @@ module _ (X Y : List Symbol) where
       d g = faultIf (not (withinLimits (words.clauseWords (clauseOver g (s .clause))) (clauseOver g (s .clause)))) 17 (s .stop)
 
       go : (b : List Fault) → concatMap (occurrenceFaults now xs) os ≡ b → firstFault (a ++ (b ++ d later)) ≡ firstFault (a ++ (b ++ d now))
-      go (x ∷ b) e = first-append a ((x ∷ b) ++ d later) ∙ sym (first-append a ((x ∷ b) ++ d now))
+      go (x ∷ b) e = first-fault-append a ((x ∷ b) ++ d later) ∙ sym (first-fault-append a ((x ∷ b) ++ d now))
       go [] e =
           let c : clean now xs os ≡ true = occurrences-clean now xs os e in
           let st : all (settledAt X Y) os ≡ true = settle xs os (and-left (all (sound now xs) os) (all (limited now) (concatMap declares os)) c) h in
@@ -90,7 +91,7 @@ first-from (s ∷ ss) X i =
     (λ f h. any-append (λ (u : Symbol). same (f .name) (u .name)) X D ∙ or-right (isNamed (f .name) X) (isNamed (f .name) D) h) (self-named D) in
     ap (λ (o : Option Fault). orElse o (firstFaultFrom X₁ (suc i) ss)) (sym (statement-so-far X₁ Y i s names))
     ∙ ap (orElse (firstFault (statementFaults (signatureBy (X₁ ++ Y)) i s))) (first-from ss X₁ (suc i))
-    ∙ sym (first-append (statementFaults (signatureBy (X₁ ++ Y)) i s) (faultsFrom (signatureBy (X₁ ++ Y)) (suc i) ss))
+    ∙ sym (first-fault-append (statementFaults (signatureBy (X₁ ++ Y)) i s) (faultsFrom (signatureBy (X₁ ++ Y)) (suc i) ss))
     ∙ ap (λ (l : List Symbol). firstFault (faultsFrom (signatureBy l) i (s ∷ ss))) (sym whole)
 
 pub order : claims.Order
