@@ -32,10 +32,10 @@ pub symbol-written : (text : List ℕ) (y : Symbol) (l l′ : List ℕ) (at e : 
 symbol-written text y l l′ at e p n h =
     let name = symbolIn text y .name in (
       put-cursor l (set l′ e 47) at (e + 1) (name ++ (47 ∷ [])) (symbolText (symbolIn text y)) (zeroDigit + y .arity)
-      (put-cursor l l′ at e name (name ++ (47 ∷ [])) 47 p n (omega (arith, symbol-length text y)) refl)
-      (cursor-more at e name (name ++ (47 ∷ [])) 47 n refl)
-      (omega (arith, symbol-length text y))
-      (append-assoc name (47 ∷ []) ((zeroDigit + y .arity) ∷ [])),
+          (put-cursor l l′ at e name (name ++ (47 ∷ [])) 47 p n (omega (arith, symbol-length text y)) refl)
+          (cursor-more at e name (name ++ (47 ∷ [])) 47 n refl)
+          (omega (arith, symbol-length text y))
+          (append-assoc name (47 ∷ []) ((zeroDigit + y .arity) ∷ [])),
       omega (arith, symbol-length text y),
     )
 
