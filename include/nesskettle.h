@@ -1,5 +1,5 @@
 /*
- * Nesskettle: finite model finder. The five operations for C.
+ * Nesskettle: finite model finder. Its operations for C.
  *
  * Link target/staticlib/libexports.a (`rt staticlib exports` writes it; x86-64 Linux).
  *
@@ -8,11 +8,12 @@
  * length beside it says, is not null (also where the length is 0) and is aligned for its type; a buffer that is lent
  * for writing overlaps no other argument. No call keeps state: calls on different buffers may run side by side.
  *
- * Sheets, cases and settings are bytes; nothing is ended by a zero byte.
+ * Sheets, cases, settings and TPTP texts are bytes; nothing is ended by a zero byte.
  *
  * Answers. `outcome` 0 is NK_REFUSED in every answer. Then `reason` is the number of the refusal and `line` the faulty
- * line, counted from 1, or 0 where the refusal names none. `reason` and `line` are 0 in results, and a field that
- * an outcome does not speak of is 0.
+ * line, counted from 1, or 0 where the refusal names none; `column`, where an answer has one, is the faulty byte of that
+ * line, counted from 1, or 0 where none is named. `reason`, `line` and `column` are 0 in results, and a field that an
+ * outcome does not speak of is 0.
  *
  * A refused call changes nothing: every lent byte and number is as it was.
  */
@@ -33,7 +34,7 @@ enum {
     NK_READ = 1,    /* nk_read: the sheet is accepted */
     NK_YES = 1,     /* nk_judge: the case is a model */
     NK_NO = 2,      /* nk_judge: it is none */
-    NK_WRITTEN = 1, /* nk_write, nk_read_back: the text stands in the output */
+    NK_WRITTEN = 1, /* nk_write, nk_read_back, nk_from_tptp: the text stands in the output */
     NK_FOUND = 1,   /* nk_find: the least model stands in the output */
     NK_NONE = 2     /* nk_find: no case of a searched size is a model */
 };
@@ -43,7 +44,7 @@ enum {
  * named, and on one line the lower number wins.
  */
 enum {
-    /* The sheet, in every call. */
+    /* The sheet, in every call that takes one. */
     NK_SHEET_TOO_LONG = 1,   /* over 16,384 bytes; names no line */
     NK_LAYOUT = 2,           /* key, line feed, digits or /arity not as laid out, a line missing, bytes after the end */
     NK_OVER_LIMIT = 3,       /* over 12 functions, 12 predicates, 64 clauses, or arity 3 */
@@ -59,7 +60,12 @@ enum {
     NK_OUTPUT_TOO_SHORT = 11,   /* `length` says how many bytes are needed */
     NK_BAD_CASE = 12,           /* `line` is the first line of the case that is not exactly as laid out */
     NK_BAD_SETTING = 13,        /* not one byte for each propositional variable, or a byte over 1 */
-    NK_NOT_ONE_RESULT = 14      /* a function cell with no result or several */
+    NK_NOT_ONE_RESULT = 14,     /* a function cell with no result or several */
+
+    /* A TPTP text; each names line and column. */
+    NK_NOT_TPTP = 15,      /* text outside the part of TPTP that is read, or text missing */
+    NK_SYMBOL_CLASH = 16,  /* a symbol with two arities, or that is a function and a predicate */
+    NK_BEYOND_SHEETS = 17  /* a name that no sheet has, a ninth variable, or any limit of a sheet */
 };
 
 /* The answer of nk_read. */
@@ -97,6 +103,15 @@ typedef struct {
     uint32_t settled; /* NK_NONE: 1 exactly if no function has arity above 0 and high is at least the number of
                          constants; else 0 */
 } nk_find_answer;
+
+/* The answer of nk_from_tptp. */
+typedef struct {
+    uint32_t outcome; /* NK_WRITTEN or NK_REFUSED */
+    uint32_t reason;
+    uint64_t line;
+    uint64_t column;
+    uint64_t length; /* NK_WRITTEN: the sheet's length; refused 11: the length that is needed */
+} nk_tptp_answer;
 
 /*
  * Is this a sheet? Answers how many functions, predicates and clauses it has.
@@ -143,6 +158,28 @@ nk_write_answer nk_read_back(const uint8_t *sheet, size_t sheet_length, uint64_t
 nk_find_answer nk_find(const uint8_t *sheet, size_t sheet_length, uint64_t low, uint64_t high,
                        uint32_t *work, size_t work_length,
                        uint8_t *output, size_t output_length);
+
+/*
+ * Reads TPTP clauses into a sheet, and writes the sheet: a case is a model of the sheet exactly if every clause of the
+ * text is true in it. The text is any number of statements
+ *
+ *     cnf(name, role, literal | literal | ..).
+ *
+ * with blanks (space, tab, CR, LF) and comments (% to the line's end, or between slash-star and star-slash) between
+ * tokens. A literal is $false, an atom, ~ and an atom, or term != term; an atom is a predicate with its arguments or
+ * term = term; the whole clause may stand in parentheses. A clause's name is a lower word or digits, a role is a lower
+ * word, and both are forgotten. Symbols are declared in order of first appearance, functions and predicates apart;
+ * variables become A to H likewise in each clause; `$false` leaves no literal.
+ * The text has no limit; time grows with its length, at worst times the depth to which terms nest.
+ * Afterwards the output's first `length` bytes are the sheet; the bytes after it are as they were.
+ * Refused: 15 to 17, statement by statement. In a whole statement the earliest place is named, and of one place the lower
+ * number; where a statement is not whole, 15 is given before any 16 or 17 of its own. The place is the start of the
+ * faulty token (of the symbol for an arity, of `cnf` for a 65th clause); the clause's full stop for its words, literals
+ * and variables after flattening; the text's end for missing text, a comment without an end, and the sheet's bytes.
+ * Then 11. Every byte of the output is then as it was.
+ */
+nk_tptp_answer nk_from_tptp(const uint8_t *text, size_t text_length,
+                            uint8_t *output, size_t output_length);
 
 #ifdef __cplusplus
 }

@@ -7,6 +7,7 @@
 //! | [`write`] | a sheet's clauses at a size, as DIMACS text |
 //! | [`read_back`] | the case that a setting of the propositional variables stands for |
 //! | [`find`] | the least model at the smallest size, or that there is none |
+//! | [`from_tptp`] | the sheet that a file of TPTP clauses is read into |
 //!
 //! Every call takes any bytes and numbers. A refused call has changed no lent byte and no lent number.
 
@@ -22,6 +23,7 @@ pub const OPERATIONS: Operations = Operations {
     write,
     read_back,
     find,
+    from_tptp,
 };
 
 /// Reads a sheet.
@@ -106,6 +108,22 @@ pub fn find(sheet: &[u8], low: u64, high: u64, work: &mut [u32], output: &mut [u
     }
 }
 
+/// Reads TPTP clauses into a sheet, writes the sheet and answers its length. The bytes after it are unchanged.
+///
+/// A case is a model of the sheet exactly if every clause of the text is true in it.
+pub fn from_tptp(text: &[u8], output: &mut [u8]) -> Result<usize, Refusal> {
+    // SAFETY: pointers and lengths are slices', and the output is lent to this call alone.
+    let answer = unsafe { raw::nk_from_tptp(text.as_ptr(), text.len(), output.as_mut_ptr(), output.len()) };
+    match answer.outcome {
+        0 => Err(Refusal {
+            column: answer.column,
+            ..refusal(answer.reason, answer.line, answer.length)
+        }),
+        1 => Ok(answer.length as usize),
+        other => unknown_outcome(other),
+    }
+}
+
 fn written(answer: raw::WriteAnswer) -> Result<usize, Refusal> {
     match answer.outcome {
         0 => Err(refusal(answer.reason, answer.line, answer.length)),
@@ -114,9 +132,15 @@ fn written(answer: raw::WriteAnswer) -> Result<usize, Refusal> {
     }
 }
 
+/// A refusal that names no column.
 fn refusal(number: u32, line: u64, needed: u64) -> Refusal {
     let reason = Reason::from_number(number).unwrap_or_else(|| panic!("the library answered reason {number}"));
-    Refusal { reason, line, needed }
+    Refusal {
+        reason,
+        line,
+        column: 0,
+        needed,
+    }
 }
 
 /// An outcome that `include/nesskettle.h` does not have: another library was linked.

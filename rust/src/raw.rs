@@ -43,6 +43,17 @@ pub struct FindAnswer {
     pub settled: u32,
 }
 
+/// The answer of [`nk_from_tptp`].
+#[repr(C)]
+#[derive(Clone, Copy, Debug, PartialEq, Eq)]
+pub struct TptpAnswer {
+    pub outcome: u32,
+    pub reason: u32,
+    pub line: u64,
+    pub column: u64,
+    pub length: u64,
+}
+
 extern "C" {
     pub fn nk_read(sheet: *const u8, sheet_length: usize) -> ReadAnswer;
 
@@ -76,4 +87,6 @@ extern "C" {
         output: *mut u8,
         output_length: usize,
     ) -> FindAnswer;
+
+    pub fn nk_from_tptp(text: *const u8, text_length: usize, output: *mut u8, output_length: usize) -> TptpAnswer;
 }

@@ -157,6 +157,114 @@ fn tables() {
     prints("find - --high 3 --tables", sheet, 0, tables);
 }
 
+const TWO_CONSTANTS: &str = "cnf(apart, axiom, a != b). % no end of line";
+
+#[test]
+fn tptp() {
+    let sheet = "sheet=1\nfuns=2\nfun=a/0\nfun=b/0\npreds=0\nclauses=1\nclause=- = a b\n";
+    prints("tptp -", TWO_CONSTANTS, 0, sheet);
+    prints("tptp - --tptp", TWO_CONSTANTS, 0, sheet);
+    prints("tptp -", "", 0, "sheet=1\nfuns=0\npreds=0\nclauses=0\n");
+}
+
+#[test]
+fn every_verb_takes_a_tptp_file() {
+    let found = "answer=found\ncase=1\nsize=2\na=1\nb=2\n";
+    prints("find - --tptp", TWO_CONSTANTS, 0, found);
+    prints(
+        "find --tptp - --tables",
+        TWO_CONSTANTS,
+        0,
+        "found: a model of size 2\n\na = 1\nb = 2\n",
+    );
+    prints(
+        "check --tptp -",
+        TWO_CONSTANTS,
+        0,
+        "2 functions, 0 predicates, 1 clause\n",
+    );
+    let text = "p cnf 2 3\n1 0\n2 0\n-2 -1 0\n";
+    prints("clauses --tptp - --size 1", TWO_CONSTANTS, 0, text);
+    let examples = "../../../examples";
+    prints(
+        &format!("check {examples}/both-eyes.p"),
+        "",
+        0,
+        "4 functions, 5 predicates, 16 clauses\n",
+    );
+    let case = "case=1\nsize=1\nboth=1\nleft=1\nright=1\ncap=1\nmore=0\nstop_left=0\nstop_right=1\npatchy_left=0\n\
+                patchy_right=1\n";
+    prints(&format!("judge {examples}/both-eyes.p -"), case, 1, "no\n");
+    prints(
+        &format!("read-back {examples}/both-eyes.p --size 1 -"),
+        "1111 0 0101",
+        0,
+        case,
+    );
+}
+
+#[test]
+fn the_tptp_examples() {
+    prints(
+        "find ../../../examples/both-eyes.p --high 4",
+        "",
+        0,
+        "answer=found\ncase=1\nsize=3\nboth=1\nleft=2\nright=2\ncap=3\nmore=0 1 1 0 0 0 0 1 0\n\
+         stop_left=0\nstop_right=1\npatchy_left=0\npatchy_right=1\n",
+    );
+    prints(
+        "find ../../../examples/each-eye.p --high 4",
+        "",
+        1,
+        "answer=none\nsettled=yes\n",
+    );
+}
+
+/// A refused TPTP text ends with its line and the mark.
+fn marks(text: &str, refused: &str, shown: &str) {
+    for verb in ["tptp -", "find - --tptp"] {
+        let output = run(verb, text);
+        let told = String::from_utf8_lossy(&output.stderr).into_owned();
+        assert_eq!(output.status.code(), Some(2), "{told}");
+        assert!(told.starts_with(&format!("nesskettle: refused {refused}: ")), "{told}");
+        let (_, lines) = told.split_once('\n').expect("the line is shown");
+        assert_eq!(lines, shown);
+    }
+}
+
+#[test]
+fn a_refused_tptp_text_is_marked() {
+    marks(
+        "% two arities\ncnf(a, axiom, p(X) | ~ p(X, X)).\n",
+        "16, line 2, column 24",
+        "  standard input:2: cnf(a, axiom, p(X) | ~ p(X, X)).\n                                           ^\n",
+    );
+    marks(
+        "cnf(a,\taxiom, 'p').\n",
+        "15, line 1, column 15",
+        "  standard input:1: cnf(a,\\taxiom, 'p').\n                                   ^\n",
+    );
+    marks(
+        "cnf(a, axiom, p)",
+        "15, line 1, column 17",
+        "  standard input:1: cnf(a, axiom, p) (the text ends here)\n                                    ^\n",
+    );
+    marks(
+        "/* no end\n",
+        "15, line 2, column 1",
+        "  standard input:2: (the text ends before this line)\n                    ^\n",
+    );
+    let long = format!("cnf(a, axiom, {0}q & p | {0}).\n", "p | ".repeat(40));
+    let shown = format!(".. | {0}q & {0}p  ..", "p | ".repeat(14));
+    marks(
+        &long,
+        "15, line 1, column 177",
+        &format!("  standard input:1: {shown}\n{}^\n", " ".repeat(20 + 3 + 60)),
+    );
+    let unknown = run("find -", "cnf(a, axiom, p).\n");
+    assert!(String::from_utf8_lossy(&unknown.stderr).starts_with("nesskettle: refused 2, line 1: "));
+}
+
 #[test]
 fn wrong_calls_are_told() {
     let more = " (nesskettle --help says more)\n";

@@ -1,4 +1,4 @@
-/* The five operations from C: each is called once, and what it answers is held to the specification's first example. */
+/* The operations from C: each is called, and what it answers is held to the specification's first example. */
 #include "nesskettle.h"
 
 #include <stdio.h>
@@ -50,7 +50,17 @@ int main(void) {
     found = nk_find(sheet, sheet_length, 1, 1, work, 1000, output, sizeof output);
     expect(found.outcome == NK_NONE && found.settled == 0 && found.length == 0, "there is none of size 1");
 
-    printf("%zu %zu %zu %zu\n", sizeof(nk_read_answer), sizeof(nk_judge_answer), sizeof(nk_write_answer),
-           sizeof(nk_find_answer));
+    static const char clauses[] = "% two constants\ncnf(1, axiom, a != b).\n";
+    nk_tptp_answer sheet_of = nk_from_tptp((const uint8_t *)clauses, strlen(clauses), output, sizeof output);
+    expect(sheet_of.outcome == NK_WRITTEN && sheet_of.line == 0 && sheet_of.column == 0, "the clause is taken");
+    expect(text_is(output, sheet_of.length, text), "its sheet is the first example");
+    sheet_of = nk_from_tptp((const uint8_t *)clauses, strlen(clauses), output, 10);
+    expect(sheet_of.reason == NK_OUTPUT_TOO_SHORT && sheet_of.length == sheet_length, "a short output is refused");
+    sheet_of = nk_from_tptp((const uint8_t *)clauses, strlen(clauses) - 2, output, sizeof output);
+    expect(sheet_of.outcome == NK_REFUSED && sheet_of.reason == NK_NOT_TPTP, "a missing full stop is refused");
+    expect(sheet_of.line == 2 && sheet_of.column == 22 && sheet_of.length == 0, "at the text's end");
+
+    printf("%zu %zu %zu %zu %zu\n", sizeof(nk_read_answer), sizeof(nk_judge_answer), sizeof(nk_write_answer),
+           sizeof(nk_find_answer), sizeof(nk_tptp_answer));
     return failures;
 }

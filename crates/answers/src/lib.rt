@@ -49,6 +49,18 @@ pub fn at_line(number: u8, line: usize) -> Refusal
     }
 }
 
+// A refusal at a line and a column.
+pub fn at_place(number: u8, line: usize, column: usize) -> Refusal
+    ensures { λ r. ⌜ refusalIn r ≡ theory.atPlace number (record { line = line; column = column }) ⌝ }
+{
+    Refusal {
+        number,
+        line,
+        column,
+        needed: 0,
+    }
+}
+
 // A refusal that tells the needed length.
 pub fn needing(number: u8, needed: usize) -> Refusal
     ensures { λ r. ⌜ refusalIn r ≡ theory.needing number needed ⌝ }

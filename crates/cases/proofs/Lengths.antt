@@ -15,7 +15,7 @@ use Rattle.syntax.specs.declared.signature.Signature.{Signature}
 use Rattle.syntax.specs.Signatures.{symbolIn, signatureIn}
 use Rattle.clauses.specs.Names.{Readable}
 use Rattle.clauses.proofs.Held.{blank, count-signatureIn, symbolAt-signatureIn, name-within}
-use Rattle.cases.proofs.NamesLent.{name-length}
+use Rattle.syntax.proofs.NamesLent.{name-length}
 
 -- the length of a symbol's line
 abbrev lineLength : ℕ → theory.Symbol → ℕ

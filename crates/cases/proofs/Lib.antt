@@ -1,6 +1,5 @@
 pub mod ValuesAfter
 pub mod TableLines
-pub mod NamesLent
 pub mod Cuts
 pub mod LinesRead
 pub mod TablesRead

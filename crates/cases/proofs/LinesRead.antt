@@ -16,7 +16,7 @@ use Rattle.text.specs.Lines.{part, LineEnd, StartsWith}
 use Rattle.text.proofs.Part.{length-part, drop-part}
 use Rattle.cases.specs.declared.reading.TableLine.the-variants.{Next, Fault}
 use Rattle.cases.specs.Reading.{ValuesRead, TableRead}
-use Rattle.cases.proofs.NamesLent.{name-lent, lent-length}
+use Rattle.syntax.proofs.NamesLent.{name-lent, lent-length}
 use Rattle.cases.proofs.Cuts.{unended, ended}
 use Rattle.cases.proofs.TableLines.{no-line, no-name, other-length, no-values, values-read}
 

@@ -11,7 +11,7 @@ use Rattle.syntax.specs.declared.signature.Symbol.{Symbol}
 use Rattle.syntax.specs.Signatures.{kindOf, symbolIn}
 use Rattle.text.specs.Put.{put, put-run}
 use Rattle.cases.specs.Writing.{paired}
-use Rattle.cases.proofs.NamesLent.{name-lent, name-length, lent-length}
+use Rattle.syntax.proofs.NamesLent.{name-lent, name-length, lent-length}
 use Rattle.cases.proofs.Pairs.{length-paired, table-pairs}
 
 module _ (sheet : List ℕ) (y : Symbol) (held : y .name + y .length ≤ length sheet) (table : List ℕ) (some-value : 0 < length table) where

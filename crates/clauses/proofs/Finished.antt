@@ -2,7 +2,7 @@
 use Prim.Native.Nat.{ℕ, zero, suc, _+_, _≤_, _<_}
 use mathlib.Core.Path.{_≡_, refl, sym, ap, _∙_}
 use mathlib.Core.Bool.{Bool, true, false, cond, _&&_}
-use mathlib.Core.Option.{Option, none, some}
+use mathlib.Core.Option.{Option, none, some, Option·some-injective}
 use mathlib.Core.List.{List, [], _∷_, map}
 use native.Mathlib.Omega.{arith}
 use lib.Dec.{eqb, leb, eqb·suc-zero}
@@ -17,18 +17,21 @@ use Rattle.theory.specs.Flattening.{flatten, variableCount}
 use Rattle.theory.specs.Refusals.{Answer, answer, refused, atLine, _>>=_, check, orRefuse}
 use Rattle.theory.specs.Problem.{maxWords, maxLiterals, maxVariables, readAll, withinLimits, clauseOf}
 use Rattle.theory.specs.Claims.Grammar.{isDeclared}
-use Rattle.theory.proofs.Tests.{and-left}
+use Rattle.theory.specs.WellFormed.{isKnownLetter}
+use Rattle.theory.proofs.Tests.{leb-true, and-left, and-right}
 use Rattle.theory.proofs.Lists.{all-imply}
 use Rattle.theory.proofs.Answers.{bind-step, bind-refused, orRefuse-of-some, orRefuse-of-none, check-of-true, check-of-false}
-use Rattle.theory.proofs.Parsing.{isLetter, readAll-known}
+use Rattle.theory.proofs.Parsing.{readAll-known}
 use Rattle.syntax.specs.declared.words.ClauseWords.{ClauseWords}
-use Rattle.syntax.specs.Signatures.{Arities, Small}
+use Rattle.syntax.specs.declared.signature.Signature as declared
+use Rattle.syntax.specs.Signatures.{signatureIn, Arities, Small}
 use Rattle.syntax.specs.Codes.{wordsIn, clauseIn, isKnown, IsClause}
 use Rattle.shallow.specs.Flattenable.{Flattenable}
 use Rattle.clauses.specs.declared.clause.Words.{Words}
 use Rattle.clauses.specs.declared.clause.ClauseLine.{ClauseLine}
 use Rattle.clauses.specs.Grammar.{dueIn, dueAfterAll, isFinished}
-use Rattle.clauses.specs.Clauses.{signCount, Passed, ClauseRead}
+use Rattle.clauses.specs.Names.{Limited}
+use Rattle.clauses.specs.Clauses.{signCount, Passed, codesOf, WholeClause, AcceptedWords, ClauseRead}
 
 module _ (g : Signature) where
   nothing-due : (ws : List Word) → dueAfterAll g none ws ≡ none
@@ -50,10 +53,10 @@ module _ (g : Signature) where
       go (some e) ih = ih e
 
   -- the grammar's own answer
-  clause-of : (t : Grammar) (c : Clause) → clauseIf t c ≡ some c → t ≡ clause
-  clause-of clause c e = refl
-  clause-of (misplaced i) c e = let z : _≡_ {A = ℕ} 0 1 = cc in absurd (omega arith)
-  clause-of unfinished c e = let z : _≡_ {A = ℕ} 0 1 = cc in absurd (omega arith)
+  clause-of : (t : Grammar) (x c : Clause) → clauseIf t x ≡ some c → (t ≡ clause) × (x ≡ c)
+  clause-of clause x c e = (refl, Option·some-injective x c e)
+  clause-of (misplaced i) x c e = let z : _≡_ {A = ℕ} 0 1 = cc in absurd (omega arith)
+  clause-of unfinished x c e = let z : _≡_ {A = ℕ} 0 1 = cc in absurd (omega arith)
 
   -- a literal was read for each sign
   literal-count : (ws : List Word) → length (readWords g ws .clause) ≡ sum (map signCount ws)
@@ -67,11 +70,80 @@ module _ (g : Signature) where
       go predicate h = omega arith
   literal-count (letter x ∷ ws) = omega (arith, literal-count ws)
 
-  known : (w : Word) → (isDeclared g w && isLetter w) ≡ true → isKnown g w ≡ true
+  known : (w : Word) → (isDeclared g w && isKnownLetter w) ≡ true → isKnown g w ≡ true
   known (sign b) e = refl
   known equals e = refl
   known (symbol i) e = and-left (isDeclared g (symbol i)) true e
   known (letter x) e = e
+
+-- Words of a clause that were read, and what their codes are.
+module _ (g : Signature) (ws : List Word) (w : Words) (p : Passed g ws w) (c : Clause) (read : readClause g ws ≡ some c) (ok : all (isKnown g) ws ≡ true) where
+  written : readWords g ws .clause ≡ c
+  unfolding readClause
+  written = clause-of g (grammar g ws) (readWords g ws .clause) c read .1
+
+  literals-read : length c ≡ w .literals
+  literals-read = ap length (sym written) ∙ literal-count g ws ∙ sym (p .literals)
+
+  -- the three tests of the limits
+  limits : (a b d : Bool) → leb (length ws) maxWords ≡ a → leb (length c) maxLiterals ≡ b → leb (variableCount (flatten c)) maxVariables ≡ d → withinLimits ws c ≡ (a && b && d)
+  unfolding withinLimits
+  limits a b d x y z = rw (x, y, z)
+
+  pub many-words : 64 < w .count → false ≡ withinLimits ws c
+  many-words k = sym (limits false _ _ (lt-leb (length ws) maxWords (omega (arith, p .count))) refl refl)
+
+  module _ (few : w .count ≤ 64) where
+    pub many-literals : 16 < w .literals → false ≡ withinLimits ws c
+    many-literals k = sym (limits true false _ (le-leb (length ws) maxWords (omega (arith, p .count))) (lt-leb (length c) maxLiterals (omega (arith, literals-read))) refl)
+
+    coded-words : wordsIn (codesOf w) ≡ ws
+    coded-words = p .codes ∙ take-all maxWords ws (omega (arith, p .count))
+
+    pub clauseIn-coded : clauseIn g (codesOf w) ≡ c
+    unfolding clauseIn
+    clauseIn-coded = ap (λ (ws : List Word). readWords g ws .clause) coded-words ∙ written
+
+    pub coded-clause : IsClause g (codesOf w)
+    unfolding readClause
+    coded-clause = record { fits = few; known = ap (all (isKnown g)) coded-words ∙ ok; grammatical = ap (grammar g) coded-words ∙ clause-of g (grammar g ws) (readWords g ws .clause) c read .0 }
+
+    module _ (short : w .literals ≤ 16) where
+      pub coded-literals : length (clauseIn g (codesOf w)) ≤ maxLiterals
+      coded-literals = omega (arith, ap length clauseIn-coded, literals-read)
+
+      -- it can be flattened
+      abbrev pub flattenable : (x : ClauseWords) → x ≡ codesOf w → (arities : List ℕ) → Arities g arities → Small g → Flattenable arities x
+      flattenable x e arities table small = record { signature = g; table = table; small = small; clause = rw e coded-clause; literals = rw e coded-literals }
+
+      pub by-variables : (x : ClauseWords) → x ≡ codesOf w → (n : ℕ) → n ≡ variableCount (flatten (clauseIn g x)) → leb n 10 ≡ withinLimits ws c
+      by-variables x e n h =
+          let k : variableCount (flatten c) ≡ n = sym (h ∙ ap (λ (y : ClauseWords). variableCount (flatten (clauseIn g y))) e ∙ ap (λ (d : Clause). variableCount (flatten d)) clauseIn-coded) in
+          sym (limits true true (leb n 10) (le-leb (length ws) maxWords (omega (arith, p .count))) (le-leb (length c) maxLiterals (omega (arith, literals-read))) (ap (λ (m : ℕ). leb m 10) k))
+
+  -- words within the limits
+  pub accepted : withinLimits ws c ≡ true → AcceptedWords g (codesOf w)
+  unfolding withinLimits
+  accepted h =
+      let x : Bool = leb (length ws) maxWords in
+      let y : Bool = leb (length c) maxLiterals in
+      let z : Bool = leb (variableCount (flatten c)) maxVariables in
+      let few : w .count ≤ 64 = omega (arith, p .count, leb-true (length ws) maxWords (and-left x y (and-left (x && y) z h))) in
+      let short : length c ≤ maxLiterals = leb-true (length c) maxLiterals (and-right x y (and-left (x && y) z h)) in
+      let low : variableCount (flatten c) ≤ maxVariables = leb-true (variableCount (flatten c)) maxVariables (and-right (x && y) z h) in
+      record {
+        clause = coded-clause few;
+        literals = omega (arith, ap length (clauseIn-coded few));
+        variables = omega (arith, ap (λ (d : Clause). variableCount (flatten d)) (clauseIn-coded few));
+      }
+
+  pub accepted-clause : withinLimits ws c ≡ true → clauseIn g (codesOf w) ≡ c
+  unfolding withinLimits
+  accepted-clause h =
+      let x : Bool = leb (length ws) maxWords in
+      let y : Bool = leb (length c) maxLiterals in
+      let z : Bool = leb (variableCount (flatten c)) maxVariables in
+      clauseIn-coded (omega (arith, p .count, leb-true (length ws) maxWords (and-left x y (and-left (x && y) z h))))
 
 module _ (g : Signature) (value : List ℕ) where
   -- a word is unknown
@@ -86,21 +158,17 @@ module _ (g : Signature) (value : List ℕ) where
 
   -- all words are known
   module _ (ws : List Word) (e : readAll g (wordsOf value) ≡ some ws) where
-    known-words : all (isKnown g) ws ≡ true
-    known-words = all-imply (λ x. isDeclared g x && isLetter x) (isKnown g) ws (known g) (readAll-known g (wordsOf value) ws e)
-
-    -- the clause that they are, if they are one
-    written : Clause
-    written = readWords g ws .clause
+    pub known-words : all (isKnown g) ws ≡ true
+    known-words = all-imply (λ x. isDeclared g x && isKnownLetter x) (isKnown g) ws (known g) (readAll-known g (wordsOf value) ws e)
 
     words-read : (l : ℕ) (a : Answer Clause) → (orRefuse (readClause g ws) (atLine 6 l) >>= λ c. check (withinLimits ws c) (atLine 7 l) >>= λ _. answer c) ≡ a → clauseOf g l value ≡ a
     unfolding clauseOf
     words-read l a h = bind-step (orRefuse (readAll g (wordsOf value)) (atLine 5 l)) _ ws a (orRefuse-of-some (readAll g (wordsOf value)) (atLine 5 l) ws e) h
 
     module _ (w : Words) (p : Passed g ws w) where
-      clause-read : (b : Bool) → isFinished (dueIn (w .due)) ≡ b → readClause g ws ≡ cond b (some written) none
-      unfolding readClause grammar written
-      clause-read b h = finished-clause g ws 0 (terms 0) written ∙ ap (λ (b : Bool). cond b (some written) none) (ap isFinished (sym (p .due)) ∙ h)
+      pub clause-read : (b : Bool) → isFinished (dueIn (w .due)) ≡ b → readClause g ws ≡ cond b (some (readWords g ws .clause)) none
+      unfolding readClause grammar
+      clause-read b h = finished-clause g ws 0 (terms 0) (readWords g ws .clause) ∙ ap (λ (b : Bool). cond b (some (readWords g ws .clause)) none) (ap isFinished (sym (p .due)) ∙ h)
 
       -- they are no clause
       pub no-clause : (r : ClauseLine) → isFinished (dueIn (w .due)) ≡ false → r .fault ≡ 6 → ClauseRead g value r
@@ -111,78 +179,32 @@ module _ (g : Signature) (value : List ℕ) where
             accepted = λ z. absurd (omega arith);
           }
 
-      module _ (h : isFinished (dueIn (w .due)) ≡ true) where
-        held-to : (l : ℕ) (a : Answer Clause) → (check (withinLimits ws written) (atLine 7 l) >>= λ _. answer written) ≡ a → clauseOf g l value ≡ a
-        held-to l a k = words-read l a (bind-step (orRefuse (readClause g ws) (atLine 6 l)) _ written a (orRefuse-of-some (readClause g ws) (atLine 6 l) written (clause-read true h)) k)
+      -- they are the clause c
+      module _ (c : Clause) (read : readClause g ws ≡ some c) where
+        held-to : (l : ℕ) (a : Answer Clause) → (check (withinLimits ws c) (atLine 7 l) >>= λ _. answer c) ≡ a → clauseOf g l value ≡ a
+        held-to l a k = words-read l a (bind-step (orRefuse (readClause g ws) (atLine 6 l)) _ c a (orRefuse-of-some (readClause g ws) (atLine 6 l) c read) k)
 
-        over : (r : ClauseLine) → withinLimits ws written ≡ false → r .fault ≡ 7 → ClauseRead g value r
-        over r e k =
+        pub over : (r : ClauseLine) → withinLimits ws c ≡ false → r .fault ≡ 7 → ClauseRead g value r
+        over r h k =
             record {
               read = λ l. ap (λ (f : ℕ). cond (eqb f 0) (answer (clauseIn g (r .words))) (refused (atLine f l))) k
-                  ∙ sym (held-to l _ (bind-refused (check (withinLimits ws written) (atLine 7 l)) _ (atLine 7 l) (check-of-false (withinLimits ws written) (atLine 7 l) e)));
+                  ∙ sym (held-to l _ (bind-refused (check (withinLimits ws c) (atLine 7 l)) _ (atLine 7 l) (check-of-false (withinLimits ws c) (atLine 7 l) h)));
               accepted = λ z. absurd (omega arith);
             }
 
-        -- the three tests of the limits
-        limits : (a b c : Bool) → leb (length ws) maxWords ≡ a → leb (length written) maxLiterals ≡ b → leb (variableCount (flatten written)) maxVariables ≡ c → withinLimits ws written ≡ (a && b && c)
-        unfolding withinLimits
-        limits a b c x y z = rw (x, y, z)
+        pub within : withinLimits ws c ≡ true → ClauseRead g value (record { words = codesOf w; fault = 0 })
+        within h =
+            record {
+              read = λ l. ap answer (accepted-clause g ws w p c read known-words h) ∙ sym (held-to l _ (bind-step (check (withinLimits ws c) (atLine 7 l)) _ tt _ (check-of-true (withinLimits ws c) (atLine 7 l) h) refl));
+              accepted = λ _. accepted g ws w p c read known-words h;
+            }
 
-        pub many-words : (r : ClauseLine) → 64 < w .count → r .fault ≡ 7 → ClauseRead g value r
-        many-words r k f = over r (limits false _ _ (lt-leb (length ws) maxWords (omega (arith, p .count))) refl refl) f
-
-        module _ (few : w .count ≤ 64) where
-          literals-read : length written ≡ w .literals
-          unfolding written
-          literals-read = literal-count g ws ∙ sym (p .literals)
-
-          pub many-literals : (r : ClauseLine) → 16 < w .literals → r .fault ≡ 7 → ClauseRead g value r
-          many-literals r k f = over r (limits true false _ (le-leb (length ws) maxWords (omega (arith, p .count))) (lt-leb (length written) maxLiterals (omega (arith, literals-read))) refl) f
-
-          -- the clause words
-          abbrev pub coded : ClauseWords
-          coded = record { words = w .words; count = w .count }
-
-          coded-words : wordsIn coded ≡ ws
-          coded-words = p .codes ∙ take-all maxWords ws (omega (arith, p .count))
-
-          clauseIn-coded : clauseIn g coded ≡ written
-          unfolding clauseIn written
-          clauseIn-coded = ap (λ (ws : List Word). readWords g ws .clause) coded-words
-
-          pub coded-clause : IsClause g coded
-          unfolding grammar readClause written
-          coded-clause =
-              record {
-                fits = few;
-                known = ap (all (isKnown g)) coded-words ∙ known-words;
-                grammatical = ap (grammar g) coded-words ∙ clause-of g (grammar g ws) written (clause-read true h);
-              }
-
-          module _ (short : w .literals ≤ 16) where
-            pub coded-literals : length (clauseIn g coded) ≤ maxLiterals
-            coded-literals = omega (arith, ap length clauseIn-coded, literals-read)
-
-            -- it can be flattened
-            abbrev pub coded-flattenable : (arities : List ℕ) → Arities g arities → Small g → Flattenable arities coded
-            coded-flattenable arities table small = record { signature = g; table = table; small = small; clause = coded-clause; literals = coded-literals }
-
-            module _ (n : ℕ) (counted : n ≡ variableCount (flatten (clauseIn g coded))) where
-              variables-read : variableCount (flatten written) ≡ n
-              variables-read = sym (counted ∙ ap (λ (c : Clause). variableCount (flatten c)) clauseIn-coded)
-
-              pub many-variables : (r : ClauseLine) → 10 < n → r .fault ≡ 7 → ClauseRead g value r
-              many-variables r k f =
-                  over r (limits true true false (le-leb (length ws) maxWords (omega (arith, p .count))) (le-leb (length written) maxLiterals (omega (arith, literals-read))) (lt-leb (variableCount (flatten written)) maxVariables (omega (arith, variables-read)))) f
-
-              pub clause-accepted : n ≤ 10 → ClauseRead g value (record { words = coded; fault = 0 })
-              clause-accepted k =
-                  record {
-                    read = λ l. ap answer clauseIn-coded ∙ sym (held-to l _ (bind-step (check (withinLimits ws written) (atLine 7 l)) _ tt _
-                        (check-of-true (withinLimits ws written) (atLine 7 l)
-                        (limits true true true (le-leb (length ws) maxWords (omega (arith, p .count))) (le-leb (length written) maxLiterals (omega (arith, literals-read))) (le-leb (variableCount (flatten written)) maxVariables (omega (arith, variables-read))))) refl));
-                    accepted = λ _. record { clause = coded-clause; literals = coded-literals; variables = omega (arith, counted) };
-                  }
+-- the words of a line that are a clause
+abbrev pub whole-clause : (sheet : List ℕ) (signature : declared.Signature) → Limited signature → (value : List ℕ) (ws : List Word) → readAll (signatureIn sheet signature) (wordsOf value) ≡ some ws
+    → (w : Words) → Passed (signatureIn sheet signature) ws w → isFinished (dueIn (w .due)) ≡ true → WholeClause signature w
+whole-clause sheet signature limited value ws e w p h =
+    let g : Signature = signatureIn sheet signature in
+    record { sheet = sheet; limited = limited; words = ws; passed = p; known = known-words g value ws e; clause = readWords g ws .clause; read = clause-read g value ws e w p true h }
 
 -- n terms due are none
 pub finished-terms : (n : ℕ) → eqb n 0 ≡ isFinished (some (terms n))

@@ -5,7 +5,6 @@ use mathlib.Core.Bool.{Bool, true, false, cond, true≢false, false≢true}
 use mathlib.Core.Option.{Option, none, some}
 use mathlib.Core.List.{List, [], _∷_, _++_, append-assoc, append-nil}
 use native.Mathlib.Omega.{arith}
-use lib.Dec.{leb}
 use lib.ListN.{length, drop, length-append, length-replicate}
 use borrow.Author.Tests.{le-leb, lt-leb}
 use Rattle.theory.specs.Lists.{prefix}
@@ -32,7 +31,7 @@ pub record Going (g : Signature) (value : List ℕ) (w : Words) (at : ℕ) : Typ
   pub within : at ≤ length value + 1
   pub rest : readAll g (cutWords value) ≡ joined words (readAll g (wordsLeft value at))
 
-passed-none : (g : Signature) → Passed g [] noWords
+pub passed-none : (g : Signature) → Passed g [] noWords
 unfolding dueAfterAll
 passed-none g = record { count = refl; held = length-replicate {A = ℕ} maxWords 0; codes = refl; literals = refl; due = refl; pending = omega arith }
 

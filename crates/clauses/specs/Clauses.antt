@@ -6,18 +6,21 @@ use mathlib.Core.Option.{none, some}
 use mathlib.Core.List.{List, [], _∷_, _++_, map}
 use lib.Dec.{eqb}
 use lib.ListN.{length, take, replicate}
-use Rattle.theory.specs.Lists.{sum}
+use Rattle.theory.specs.Lists.{all, sum}
 use Rattle.theory.specs.Syntax.{Signature, Clause}
-use Rattle.theory.specs.Grammar.{Word, sign, equals, symbol, letter, terms}
+use Rattle.theory.specs.Grammar.{Word, sign, equals, symbol, letter, terms, readClause}
 use Rattle.theory.specs.Flattening.{flatten, variableCount}
 use Rattle.theory.specs.Refusals.{Answer, answer, refused, atLine}
 use Rattle.theory.specs.Problem.{maxWords, maxLiterals, maxVariables, readAll, clauseOf}
 use Rattle.theory.specs.Problem as theory
 use Rattle.syntax.specs.declared.words.ClauseWords.{ClauseWords}
-use Rattle.syntax.specs.Codes.{codeWord, clauseIn, IsClause}
+use Rattle.syntax.specs.declared.signature.Signature as declared
+use Rattle.syntax.specs.Signatures.{signatureIn}
+use Rattle.syntax.specs.Codes.{codeWord, isKnown, clauseIn, IsClause}
 use Rattle.clauses.specs.declared.grammar.Due.the-variants.{Terms}
 use Rattle.clauses.specs.declared.clause.Words.{Words}
 use Rattle.clauses.specs.declared.clause.ClauseLine.{ClauseLine}
+use Rattle.clauses.specs.Names.{Limited}
 use Rattle.clauses.specs.Grammar.{dueIn, pending, dueAfterAll}
 
 -- the number of signs that a word is
@@ -59,6 +62,20 @@ noWords = record { words = replicate maxWords 0; count = 0; literals = 0; due = 
 pub record WordsRead (g : Signature) (line : List (List ℕ)) (r : Words) : Type 0 where
   pub unknown : r .unknown ≡ true → readAll g line ≡ none
   pub known : r .unknown ≡ false → (ws : List Word) × (readAll g line ≡ some ws) × Passed g ws r
+
+-- the codes that were kept of the words
+abbrev pub codesOf : Words → ClauseWords
+codesOf w = record { words = w .words; count = w .count }
+
+-- w is what was read of the words of a clause, whatever the symbols' names are
+pub record WholeClause (signature : declared.Signature) (w : Words) : Type 0 where
+  pub sheet : List ℕ
+  pub limited : Limited signature
+  pub words : List Word
+  pub passed : Passed (signatureIn sheet signature) words w
+  pub known : all (isKnown (signatureIn sheet signature)) words ≡ true
+  pub clause : Clause
+  pub read : readClause (signatureIn sheet signature) words ≡ some clause
 
 -- what the value of line l was read to
 abbrev pub clauseValueIn : Signature → ℕ → ClauseLine → Answer Clause

@@ -15,11 +15,12 @@ ghost use mathlib.Core.List.{List};
 ghost use Prim.Native.Nat.{ℕ};
 ghost use lib.ListN.{set};
 ghost use Rattle.theory.specs.Lines.{cutWords, wordsOf};
+ghost use Rattle.theory.specs.Problem.{withinLimits};
 ghost use Rattle.syntax.specs.Signatures.{signatureIn};
 ghost use Rattle.syntax.specs.Codes.{codeWord};
 ghost use Rattle.clauses.specs.Names.{Limited, Readable};
 ghost use Rattle.clauses.specs.Words.{isCode};
-ghost use Rattle.clauses.specs.Clauses.{signCount, WordsBounded, Extends, noWords, WordAdded, WordsRead, ClauseRead};
+ghost use Rattle.clauses.specs.Clauses.{signCount, WordsBounded, Extends, noWords, codesOf, WordAdded, WordsRead, WholeClause, ClauseRead};
 
 // What was read of a line: the codes of its first words, up to the limit, how many words and signs, what is due, whether a word was unknown.
 pub struct Words {
@@ -49,22 +50,39 @@ pub fn read_clause(sheet: &[u8], signature: Signature, value: &[u8]) -> ClauseLi
     if !is_finished(due) {
         return refused(6);
     }
-    if Problem::MAX_WORDS < w.count {
+    if !within_limits(signature, w) {
         return refused(7);
+    }
+    ClauseLine {
+        words: kept_codes(w),
+        fault: 0,
+    }
+}
+
+// Whether the words of a clause are within the limits.
+pub fn within_limits(signature: Signature, w: Words) -> bool
+    requires { ⌜ WholeClause signature w ⌝ }
+    ensures { λ r. ⌜ ((s : WholeClause signature w) → r ≡ withinLimits (s .words) (s .clause)) ⌝ }
+{
+    if Problem::MAX_WORDS < w.count {
+        return false;
     }
     if Problem::MAX_LITERALS < w.literals {
-        return refused(7);
+        return false;
     }
+    let arities = signature.arities();
+    variable_count(kept_codes(w), &arities) <= Problem::MAX_VARIABLES
+}
+
+// The codes that were kept.
+pub fn kept_codes(w: Words) -> ClauseWords
+    ensures { λ r. ⌜ r ≡ codesOf w ⌝ }
+{
     let words = w.words;
-    let c = ClauseWords {
+    ClauseWords {
         words,
         count: w.count,
-    };
-    let arities = signature.arities();
-    if Problem::MAX_VARIABLES < variable_count(c, &arities) {
-        return refused(7);
     }
-    ClauseLine { words: c, fault: 0 }
 }
 
 fn refused(fault: u8) -> ClauseLine
@@ -109,7 +127,7 @@ fn take_words(sheet: &[u8], signature: Signature, value: &[u8]) -> Words
 }
 
 // Nothing was read.
-fn no_words() -> Words
+pub fn no_words() -> Words
     ensures { λ r. ⌜ r ≡ noWords ⌝ }
 {
     Words {
@@ -139,7 +157,8 @@ fn with_unknown(mut w: Words) -> Words
     w
 }
 
-fn with_code(signature: Signature, w: Words, code: u8) -> Words
+// One more word, by its code.
+pub fn with_code(signature: Signature, w: Words, code: u8) -> Words
     requires { ⌜ Limited signature × ((isCode (signature .count) code ≡ true) × WordsBounded w) ⌝ }
     ensures known { λ r. ⌜ r .unknown ≡ false ⌝ }
     ensures extended { λ r. ⌜ ((sheet : List ℕ) → Extends (signatureIn sheet signature) w (codeWord code) r) ⌝ }

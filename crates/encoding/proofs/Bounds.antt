@@ -19,9 +19,10 @@ use Rattle.theory.specs.Instances.{instances}
 use Rattle.theory.specs.PropClauses.{propClauses, instanceCount, workNeeded}
 use Rattle.theory.specs.Problem.{clauseOf}
 use Rattle.theory.specs.Claims.Counts.{isNumbered}
+use Rattle.theory.specs.WellFormed.{clauseAccepted}
 use Rattle.theory.proofs.Tests.{and-join, leb-true, ltb-of-<}
 use Rattle.theory.proofs.Lists.{all-map, all-imply, sum-within}
-use Rattle.theory.proofs.Parsing.{clauseAccepted, clauseOf-accepted}
+use Rattle.theory.proofs.Parsing.{clauseOf-accepted}
 use Rattle.theory.proofs.Limits.{clause-limits}
 use Rattle.theory.proofs.Counts.{counts}
 use Rattle.syntax.specs.declared.limits.Problem.{Problem}

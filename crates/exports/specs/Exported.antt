@@ -5,9 +5,11 @@ use mathlib.Core.List.{List}
 use lib.ListN.{length}
 use Rattle.theory.specs.Refusals.{Answer}
 use Rattle.theory.specs.Operations.{lengthAnswer, outputAfter, writtenText, readBackText, Search, findResult, findAnswer, findWork, findOutput}
+use Rattle.tptp.specs.Tptp.{tptpText}
 use Rattle.exports.specs.declared.WriteOut.{WriteOut}
 use Rattle.exports.specs.declared.FindOut.{FindOut}
-use Rattle.exports.specs.Layouts.{writeOut, findOut}
+use Rattle.exports.specs.declared.TptpOut.{TptpOut}
+use Rattle.exports.specs.Layouts.{writeOut, findOut, tptpOut}
 
 -- a call that writes this text, or is refused
 pub record WritingExport (text : Answer (List ℕ)) (r : WriteOut) (output output′ : List ℕ) : Type 0 where
@@ -31,3 +33,8 @@ pub record SearchingExport (result : Answer Search) (r : FindOut) (work work′ 
 -- Find
 abbrev pub FindExport : List ℕ → ℕ → ℕ → FindOut → List ℕ → List ℕ → List ℕ → List ℕ → Type 0
 FindExport sheet low high r work work′ output output′ = SearchingExport (findResult sheet low high (length work) (length output)) r work work′ output output′
+
+-- From TPTP
+pub record TptpExport (text : List ℕ) (r : TptpOut) (output output′ : List ℕ) : Type 0 where
+  pub answer : r ≡ tptpOut (lengthAnswer (tptpText text (length output)))
+  pub left : output′ ≡ outputAfter (tptpText text (length output)) output

@@ -7,6 +7,7 @@ use Rattle.exports.specs.declared.ReadOut.{ReadOut}
 use Rattle.exports.specs.declared.JudgeOut.{JudgeOut}
 use Rattle.exports.specs.declared.WriteOut.{WriteOut}
 use Rattle.exports.specs.declared.FindOut.{FindOut}
+use Rattle.exports.specs.declared.TptpOut.{TptpOut}
 
 -- Read: outcome 1 and the counts
 abbrev pub readOut : Answer Counts → ReadOut
@@ -29,3 +30,8 @@ abbrev pub findOut : Answer Found → FindOut
 findOut (answer (foundCase s n)) = record { outcome = 1; reason = 0; line = 0; size = s; length = n; settled = 0 }
 findOut (answer (noCase b)) = record { outcome = 2; reason = 0; line = 0; size = 0; length = 0; settled = cond b 1 0 }
 findOut (refused r) = record { outcome = 0; reason = r .number; line = r .place .line; size = 0; length = r .needed; settled = 0 }
+
+-- From TPTP: as Write, with the column of a refusal
+abbrev pub tptpOut : Answer ℕ → TptpOut
+tptpOut (answer n) = record { outcome = 1; reason = 0; line = 0; column = 0; length = n }
+tptpOut (refused r) = record { outcome = 0; reason = r .number; line = r .place .line; column = r .place .column; length = r .needed }

@@ -1,4 +1,4 @@
-// The five operations for C: `include/nesskettle.h` has the declarations. Each answer is a struct of numbers; outcome 0 is always "refused", and a
+// The operations for C: `include/nesskettle.h` has the declarations. Each answer is a struct of numbers; outcome 0 is always "refused", and a
 // field that an outcome does not speak of is 0.
 use answers::FindAnswer;
 use answers::JudgeAnswer;
@@ -8,8 +8,8 @@ ghost use mathlib.Core.Path.{_≡_};
 ghost use mathlib.Core.Bool.{cond};
 ghost use Rattle.answers.specs.Answers.{readIn, judgeIn, lengthIn, findIn};
 ghost use Rattle.theory.specs.Operations as theory;
-ghost use Rattle.exports.specs.Exported.{FindExport, ReadBackExport, WriteExport};
-ghost use Rattle.exports.specs.Layouts.{readOut, judgeOut, writeOut, findOut};
+ghost use Rattle.exports.specs.Exported.{FindExport, ReadBackExport, TptpExport, WriteExport};
+ghost use Rattle.exports.specs.Layouts.{readOut, judgeOut, writeOut, findOut, tptpOut};
 
 #[repr(C)]
 pub struct ReadOut {
@@ -44,6 +44,15 @@ pub struct FindOut {
     pub size: u64,
     pub length: u64,
     pub settled: u32,
+}
+
+#[repr(C)]
+pub struct TptpOut {
+    pub outcome: u32,
+    pub reason: u32,
+    pub line: u64,
+    pub column: u64,
+    pub length: u64,
 }
 
 #[no_mangle]
@@ -195,4 +204,32 @@ fn number_of(mark: bool) -> u32
         return 1;
     }
     0
+}
+
+#[no_mangle]
+pub extern "C" fn nk_from_tptp(text: &[u8], output: &mut [u8]) -> TptpOut
+    ensures { λ r. ⌜ TptpExport (now (text .entry)) r (now (output .entry)) (now (output .exit)) ⌝ }
+{
+    tptp_out(nesskettle::from_tptp(text, output))
+}
+
+fn tptp_out(answer: WriteAnswer) -> TptpOut
+    ensures { λ r. ⌜ r ≡ tptpOut (lengthIn answer) ⌝ }
+{
+    match answer {
+        WriteAnswer::Written(n) => TptpOut {
+            outcome: 1,
+            reason: 0,
+            line: 0,
+            column: 0,
+            length: n as u64,
+        },
+        WriteAnswer::Refused(r) => TptpOut {
+            outcome: 0,
+            reason: r.number as u32,
+            line: r.line as u64,
+            column: r.column as u64,
+            length: r.needed as u64,
+        },
+    }
 }

@@ -9,9 +9,9 @@ use lib.Dec.{eqb}
 use lib.ListN.{length, drop}
 use lib.Seq.{drop-cons, drop-length}
 use Rattle.theory.specs.Lists.{all}
-use Rattle.theory.specs.Syntax.{Signature, symbolAt, noSymbol}
+use Rattle.theory.specs.Syntax.{Signature, symbolAt, noSymbol, functions}
 use Rattle.theory.specs.Syntax as theory
-use Rattle.theory.specs.Least.{functions, settled}
+use Rattle.theory.specs.Least.{settled}
 use Rattle.syntax.specs.declared.signature.Symbol.{Symbol}
 use Rattle.syntax.specs.declared.limits.Problem.{Problem}
 use Rattle.syntax.specs.Signatures.{kindOf, symbolIn, signatureIn}

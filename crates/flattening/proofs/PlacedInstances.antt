@@ -18,7 +18,7 @@ use Rattle.theory.specs.Instances.{flatValue, Ground, known, variable, ground, 
 use Rattle.theory.proofs.Tests.{and-left, and-right}
 use Rattle.theory.proofs.Lists.{concatMap-cong}
 use Rattle.theory.proofs.Truth.{assign-place}
-use Rattle.theory.proofs.WellFormed.{flatten-scoped}
+use Rattle.theory.proofs.FlatForm.{flatten-scoped}
 use Rattle.lifting.proofs.Standing.{own-place}
 use Rattle.shallow.specs.Placed.{placedVariable, placedAtom, placedLiteral, placed}
 

@@ -11,7 +11,7 @@ use Rattle.theory.specs.Flattening.{FlatVariable, own, new, placeOr0, FlatAtom,
 use Rattle.theory.specs.Lifted.{flatAtomOk, flatOk, scoped, flatAtomScoped, flatScoped}
 use Rattle.theory.proofs.Tests.{ltb-true, ltb-of-<, and-left, and-right, and-join}
 use Rattle.theory.proofs.Lists.{all-map, all-imply}
-use Rattle.theory.proofs.WellFormed.{flatten-ok, flatten-scoped}
+use Rattle.theory.proofs.FlatForm.{flatten-ok, flatten-scoped}
 use Rattle.lifting.specs.Places.{placeIn}
 use Rattle.lifting.proofs.Standing.{own-place}
 use Rattle.shallow.specs.Placed.{placedVariable, placedAtom, placedLiteral, placed}

@@ -11,12 +11,11 @@ use Rattle.theory.specs.Lists.{elem, placeThat}
 use Rattle.theory.specs.Syntax.{Term, variable, apply, Terms, empty, cons, count, termVariables, termsVariables}
 use Rattle.theory.specs.Flattening.{placeOr0, variableFor, variablesFor}
 use Rattle.theory.specs.Lifted.{covered, coveredAll, within}
-use Rattle.theory.proofs.Tests.{eqb-true, and-left, and-right}
-use Rattle.theory.proofs.Lists.{all-append}
+use Rattle.theory.proofs.Tests.{eqb-true, and-left}
 use Rattle.theory.proofs.Finding.{placeThat-some, any→placeThat}
 use Rattle.theory.proofs.Distinct.{elem-any}
 use Rattle.theory.proofs.LiftedTerms.{place, covered-among, covered-first, covered-rest}
-use Rattle.theory.proofs.WellFormed.{length-variablesFor, within-left, within-right}
+use Rattle.theory.proofs.FlatForm.{length-variablesFor, within-left, within-right}
 use Rattle.lifting.specs.Places.{placeIn, places}
 
 pub length-places : (xs : List ℕ) (found : List Term) (ts : Terms) → length (places xs found ts) ≡ count ts

@@ -7,7 +7,7 @@ use mathlib.Core.List.{List, [], _∷_, _++_, append-assoc}
 use native.Mathlib.Nat.{add-zero}
 use native.Mathlib.Omega.{arith}
 use lib.ListN.{length, getD, set, replicate, length-append, getD-replicate}
-use Rattle.theory.proofs.WellFormed.{within-left, within-right}
+use Rattle.theory.proofs.FlatForm.{within-left, within-right}
 use Rattle.theory.specs.Lists.{all, elem}
 use Rattle.theory.specs.Syntax.{Signature, symbolAt, Term, variable, apply, Terms, empty, cons, count, functionOf, termVariables, termsVariables, termOk, termsOk}
 use Rattle.theory.specs.Grammar.{Word, letter, symbol, termWords, termsWords}

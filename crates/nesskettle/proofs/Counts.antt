@@ -6,18 +6,12 @@ use native.Mathlib.Omega.{arith}
 use native.Mathlib.Nat.{add-suc, suc-add}
 use lib.ListN.{length, take, length-map}
 use lib.Seq.{length-take-le}
-use Rattle.theory.specs.Lists.{select}
-use Rattle.theory.specs.Syntax.{Kind, function, predicate, isPredicate, Symbol, Signature}
-use Rattle.theory.specs.Least.{functions}
+use Rattle.theory.specs.Syntax.{Kind, function, predicate, Signature, functions, predicates}
 use Rattle.theory.specs.Operations.{counts}
 use Rattle.syntax.specs.declared.limits.Problem.{Problem}
 use Rattle.syntax.specs.Signatures.{signatureIn}
 use Rattle.clauses.proofs.Held.{count-signatureIn}
 use Rattle.problem.specs.Problems.{problemIn, Accepted}
-
--- the predicates of a signature
-abbrev predicates : Signature → List Symbol
-predicates g = select (λ (f : Symbol). isPredicate (f .kind)) g
 
 -- every symbol is a function or a predicate
 kinds-parted : (g : Signature) → length (functions g) + length (predicates g) ≡ length g

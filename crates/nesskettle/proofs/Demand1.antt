@@ -1,7 +1,7 @@
 -- Demand 1 of the calls: the numbers of each operation's refusals, check by check, and what a refused call leaves.
 use Prim.Native.Nat.{ℕ, suc, _+_, _≤_}
 use mathlib.Core.Path.{_≡_, refl, sym, subst, _∙_}
-use mathlib.Core.Bool.{Bool, true, false, _&&_}
+use mathlib.Core.Bool.{Bool, true, false, cond, _&&_}
 use mathlib.Core.Option.{Option, none, some}
 use mathlib.Core.List.{List, [], _∷_, _++_}
 use native.Mathlib.Omega.{arith}
@@ -14,20 +14,25 @@ use Rattle.theory.specs.Syntax.{Symbol, Signature}
 use Rattle.theory.specs.Cells.{tableSize}
 use Rattle.theory.specs.PropClauses.{instanceCount, workNeeded}
 use Rattle.theory.specs.Valuation.{isValuation, isFunctional}
-use Rattle.theory.specs.Refusals.{Refusal, Answer, answer, refused, atLine, unplaced, needing, _>>=_, check, orRefuse}
+use Rattle.theory.specs.Refusals.{Refusal, Answer, answer, refused, atPlace, atLine, unplaced, needing, _>>=_, check, orRefuse}
 use Rattle.theory.specs.Problem.{readProblem}
+use Rattle.theory.specs.SheetText.{sheetText}
 use Rattle.theory.specs.CaseText.{equalsSign, caseLength, unjoined, isValueByte, readTable, readTables, sizeOf, readCase}
 use Rattle.theory.specs.Operations.{maxSize, maxInstances, isSize, readAnswer, judgeAnswer, lengthAnswer, outputAfter, contentOf, writtenText, readBackText, Search, found, nothing, findResult, findAnswer, findWork, findOutput}
-use Rattle.theory.proofs.Tests.{leb-true, and-left, and-right, or-left}
+use Rattle.theory.proofs.Tests.{leb-true, and-left, and-right, or-left, or-right}
 use Rattle.theory.proofs.Lists.{elem-append, upFrom-elem}
 use Rattle.theory.proofs.Answers.{answer≢refused, refused-inj, unrefused}
 use Rattle.theory.proofs.SheetRefusals.{sheet-refusal}
+use Rattle.tptp.specs.Symbols.{problemOf}
+use Rattle.tptp.specs.Places.{placeOf}
+use Rattle.tptp.specs.Tptp.{readFile, clausesOfFile, Fault, faults, sheetIn, tptpText}
 use Rattle.answers.specs.declared.WriteAnswer.{WriteAnswer}
 use Rattle.answers.specs.declared.FindAnswer.{FindAnswer}
 use Rattle.answers.specs.Answers.{lengthIn, findIn}
 use Rattle.answers.specs.Calls.{WritingCall, SearchingCall}
 use Rattle.writing.specs.Texts.{clausesText}
-use Rattle.nesskettle.specs.Demand1.{readNumbers, judgeNumbers, writeNumbers, readBackNumbers, findNumbers, NumberOf, ResultOr, Demand1}
+use Rattle.nesskettle.specs.Demand1.{readNumbers, judgeNumbers, writeNumbers, readBackNumbers, findNumbers, tptpNumbers, NumberOf, ResultOr, Demand1}
+use Rattle.nesskettle.proofs.TptpNumbers.{isTptpNumber, text-numbers}
 
 -- the number of every refusal of the answer is one of these
 abbrev Within : {A : Type 0} → List ℕ → Answer A → Type 0
@@ -139,6 +144,24 @@ find-within sheet low high work room =
     (checks findNumbers (leb (workNeeded high (p .symbols) (p .clauses)) work) (needing 10 (workNeeded high (p .symbols) (p .clauses))) _ refl
     (checks findNumbers (leb (caseLength high (p .symbols)) room) (needing 11 (caseLength high (p .symbols))) _ refl (ends findNumbers _))))
 
+-- From TPTP: 15 to 17 at the first fault, else 11
+tptp-within : (text : List ℕ) (room : ℕ) → Within tptpNumbers (tptpText text room)
+unfolding tptpText
+tptp-within text room = go (faults text) (text-numbers text)
+  where
+    sheet : List ℕ
+    sheet = sheetText (problemOf (clausesOfFile (readFile text)))
+
+    room-or : (b : Bool) (q : Refusal) → cond b (answer sheet) (refused (needing 11 (length sheet))) ≡ refused q → NumberOf tptpNumbers q
+    room-or true q e = ends tptpNumbers sheet q e
+    room-or false q e = refuses tptpNumbers {A = List ℕ} (needing 11 (length sheet)) q refl e
+
+    go : (fs : List Fault) → all isTptpNumber fs ≡ true → (q : Refusal) → sheetIn text fs sheet room ≡ refused q → NumberOf tptpNumbers q
+    go [] h q e = room-or (leb (length sheet) room) q e
+    go (f ∷ fs) h q e =
+        refuses tptpNumbers {A = List ℕ} (atPlace (f .number) (placeOf text (f .place))) q
+        (or-right (eqb (f .number) 11) (elem (f .number) (upFrom 15 3)) (and-left (isTptpNumber f) (all isTptpNumber fs) h)) e
+
 -- a refused call that writes leaves the output as it was
 writing-kept : (numbers : List ℕ) (text : Answer (List ℕ)) (r : WriteAnswer) (output output′ : List ℕ) → WritingCall text r output output′ → Within numbers text
     → ResultOr (λ q. NumberOf numbers q × (output′ ≡ output)) (lengthIn r)
@@ -171,4 +194,5 @@ demand1-of-calls =
           writing-kept readBackNumbers (readBackText sheet size setting (length output)) r output output′ c (read-back-within sheet size setting (length output));
       find = λ sheet low high r work work′ output output′ c.
           searching-kept findNumbers (findResult sheet low high (length work) (length output)) r work work′ output output′ c (find-within sheet low high (length work) (length output));
+      fromTptp = λ text r output output′ c. writing-kept tptpNumbers (tptpText text (length output)) r output output′ c (tptp-within text (length output));
     }

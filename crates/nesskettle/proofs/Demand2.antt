@@ -30,7 +30,7 @@ use Rattle.nesskettle.proofs.Leaving.{left-text}
 use Rattle.nesskettle.proofs.Models.{true-if-model, model-if-true, judged-is-model, model-is-judged}
 
 -- Judge's answers
-said-yes : (r : JudgeAnswer) → judgeIn r ≡ answer true → r ≡ judge.Yes
+pub said-yes : (r : JudgeAnswer) → judgeIn r ≡ answer true → r ≡ judge.Yes
 said-yes judge.Yes e = refl
 said-yes judge.No e = absurd (true≢false (sym (answer-inj false true e)))
 said-yes (judge.Refused q) e = absurd (answer≢refused true (refusalIn q) (sym e))

@@ -12,8 +12,9 @@ use Rattle.answers.specs.declared.WriteAnswer.{WriteAnswer}
 use Rattle.answers.specs.declared.FindAnswer.{FindAnswer}
 use Rattle.answers.specs.Answers.{readIn, judgeIn, lengthIn, findIn}
 use Rattle.answers.specs.Calls.{ReadCall, JudgeCall, WriteCall, ReadBackCall, FindCall}
+use Rattle.importing.specs.Calls.{TptpCall}
 
--- The numbers that document 01 gives each operation. Read: 1 to 7
+-- The numbers that documents 01 and 02 give each operation. Read: 1 to 7
 abbrev pub readNumbers : List ℕ
 readNumbers = upFrom 1 7
 
@@ -32,6 +33,10 @@ readBackNumbers = upFrom 1 8 ++ (11 ∷ 13 ∷ 14 ∷ [])
 -- Find: 1 to 11
 abbrev pub findNumbers : List ℕ
 findNumbers = upFrom 1 11
+
+-- From TPTP: 11, and 15 to 17
+abbrev pub tptpNumbers : List ℕ
+tptpNumbers = 11 ∷ upFrom 15 3
 
 -- the refusal's number is one of these
 abbrev pub NumberOf : List ℕ → Refusal → Type 0
@@ -52,3 +57,5 @@ pub record Demand1 : Type 0 where
       → ResultOr (λ q. NumberOf readBackNumbers q × (output′ ≡ output)) (lengthIn r)
   pub find : (sheet : List ℕ) (low high : ℕ) (r : FindAnswer) (work work′ output output′ : List ℕ) → FindCall sheet low high r work work′ output output′
       → ResultOr (λ q. NumberOf findNumbers q × (work′ ≡ work) × (output′ ≡ output)) (findIn r)
+  pub fromTptp : (text : List ℕ) (r : WriteAnswer) (output output′ : List ℕ) → TptpCall text r output output′
+      → ResultOr (λ q. NumberOf tptpNumbers q × (output′ ≡ output)) (lengthIn r)

@@ -1,7 +1,8 @@
-// The operations of document 01. Each answers every byte string, number and lent buffer with a result or a numbered refusal, and
-// ends. A promise is a record of `answers/specs/Calls`: equations with the definitions of `theory/specs/Operations`, where
-// `answers/specs/Answers` says what each answer means. What is lent as `&` cannot change; what is lent as `&mut` is told to the
-// last byte and number. The demands (`specs/Demand1` to `specs/Demand3`) are proved of these records.
+// The operations of documents 01 and 02. Each answers every byte string, number and lent buffer with a result or a numbered refusal, and
+// ends. A promise is a record of `answers/specs/Calls` (From TPTP's of `importing/specs/Calls`): equations with the definitions of
+// `theory/specs/Operations` and `tptp/specs/Tptp`, where `answers/specs/Answers` says what each answer means. What is lent as `&` cannot
+// change; what is lent as `&mut` is told to the last byte and number. The demands (`specs/Demand1` to `specs/Demand3`) and what is asked of
+// From TPTP (`specs/FromTptp`) are proved of these records.
 mod reading;
 
 use answers::FindAnswer;
@@ -9,10 +10,12 @@ use answers::JudgeAnswer;
 use answers::ReadAnswer;
 use answers::WriteAnswer;
 use finding::find_model;
+use importing::import_clauses;
 use judging::verdict::judge_case;
 use reading_back::setting::read_setting_back;
 use writing::write_clauses;
 ghost use Rattle.answers.specs.Calls.{FindCall, JudgeCall, ReadBackCall, ReadCall, WriteCall};
+ghost use Rattle.importing.specs.Calls.{TptpCall};
 
 // Read: the sheet's counts.
 pub fn read(sheet: &[u8]) -> ReadAnswer
@@ -47,4 +50,11 @@ pub fn find(sheet: &[u8], low: u64, high: u64, work: &mut [u32], output: &mut [u
     ensures { λ r. ⌜ FindCall (now (sheet .entry)) low high r (now (work .entry)) (now (work .exit)) (now (output .entry)) (now (output .exit)) ⌝ }
 {
     find_model(sheet, low, high, work, output)
+}
+
+// From TPTP: the sheet of a text of TPTP clauses, at the front of the output.
+pub fn from_tptp(text: &[u8], output: &mut [u8]) -> WriteAnswer
+    ensures { λ r. ⌜ TptpCall (now (text .entry)) r (now (output .entry)) (now (output .exit)) ⌝ }
+{
+    import_clauses(text, output)
 }

@@ -12,11 +12,10 @@ use lib.ListN.{length, getD, set, take, drop, replicate, length-set, length-repl
 use lib.Seq.{take-suc-set, getD-set-same, getD-set-other, drop-cons}
 use borrow.Author.Tests.{ne-eqb}
 use Rattle.theory.specs.Lists.{same}
-use Rattle.theory.specs.Syntax.{Signature, Clause}
+use Rattle.theory.specs.Syntax.{Signature, Clause, functions}
 use Rattle.theory.specs.Refusals.{Answer, answer, refused, atLine, _>>=_}
 use Rattle.theory.specs.Problem.{clauseLines, nothingLeft}
 use Rattle.theory.specs.Problem as theory
-use Rattle.theory.specs.Least.{functions}
 use Rattle.theory.proofs.Answers.{bind-step, bind-refused, check-of-true, check-of-false}
 use Rattle.syntax.specs.declared.limits.Problem.{Problem}
 use Rattle.syntax.specs.declared.signature.Signature as declared

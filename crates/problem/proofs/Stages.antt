@@ -6,11 +6,10 @@ use mathlib.Core.List.{List, [], _++_, append-nil}
 use lib.ListN.{length, drop}
 use borrow.Author.Tests.{eq-eqb, ne-eqb}
 use Rattle.theory.specs.Bytes.{bytes}
-use Rattle.theory.specs.Syntax.{Kind, function, predicate, isFunction, isPredicate, Signature, Symbol}
+use Rattle.theory.specs.Syntax.{Kind, function, predicate, isFunction, isPredicate, Signature, Symbol, functions}
 use Rattle.theory.specs.Refusals.{Answer, answer, refused, atLine, _>>=_}
 use Rattle.theory.specs.Problem.{maxSymbols, maxClauses, countLine, symbolLines}
 use Rattle.theory.specs.Problem as theory
-use Rattle.theory.specs.Least.{functions}
 use Rattle.theory.proofs.Lists.{all-imply, select-append, select-all, select-none}
 use Rattle.theory.proofs.Answers.{answer-inj, unbind, bind-step, bind-refused}
 use Rattle.theory.proofs.Parsing.{Added, symbolLines-added}

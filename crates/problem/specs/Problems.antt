@@ -6,12 +6,11 @@ use mathlib.Core.Option.{Option, none, some}
 use mathlib.Core.List.{List, [], map}
 use lib.Dec.{eqb}
 use lib.ListN.{length, getD, take, drop}
-use Rattle.theory.specs.Syntax.{Signature, Clause}
+use Rattle.theory.specs.Syntax.{Signature, Clause, functions}
 use Rattle.theory.specs.Lines.{Cut, cutLine}
 use Rattle.theory.specs.Refusals.{Answer, answer, refused, atLine}
 use Rattle.theory.specs.Problem.{maxClauses, clauseOf}
 use Rattle.theory.specs.Problem as theory
-use Rattle.theory.specs.Least.{functions}
 use Rattle.syntax.specs.declared.limits.Problem.{Problem}
 use Rattle.syntax.specs.declared.words.ClauseWords.{ClauseWords}
 use Rattle.syntax.specs.Signatures.{signatureIn}

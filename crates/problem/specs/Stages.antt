@@ -4,11 +4,10 @@ use mathlib.Core.Path.{_≡_}
 use mathlib.Core.List.{List, []}
 use lib.ListN.{length}
 use Rattle.theory.specs.Bytes.{bytes}
-use Rattle.theory.specs.Syntax.{function, predicate, Signature}
+use Rattle.theory.specs.Syntax.{function, predicate, Signature, functions}
 use Rattle.theory.specs.Refusals.{Answer, answer, _>>=_}
 use Rattle.theory.specs.Problem.{maxClauses, countLine, clauseLines, nothingLeft}
 use Rattle.theory.specs.Problem as theory
-use Rattle.theory.specs.Least.{functions}
 use Rattle.syntax.specs.declared.signature.Signature as declared
 use Rattle.syntax.specs.Signatures.{signatureIn}
 use Rattle.clauses.specs.Names.{Readable}

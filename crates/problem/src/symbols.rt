@@ -74,7 +74,7 @@ fn symbol_at(sheet: &[u8], from: usize, end: usize, function: bool, before: Sign
 }
 
 // A lower-case letter, then name bytes, MAX_NAME bytes at most.
-fn is_name(name: &[u8]) -> bool
+pub fn is_name(name: &[u8]) -> bool
     ensures { λ r. ⌜ r ≡ isName (now (name .entry)) ⌝ }
 {
     if name.len() == 0 {

@@ -1,6 +1,6 @@
 -- What the program's writers leave is what is printed.
-use Prim.Native.Nat.{ℕ, _+_, _-_, _≤_, _<_, _^_}
-use mathlib.Core.Path.{_≡_, refl, sym, ap, _∙_}
+use Prim.Native.Nat.{ℕ, _+_, _≤_, _<_, _^_}
+use mathlib.Core.Path.{_≡_, sym, ap, _∙_}
 use mathlib.Core.Bool.{Bool, true, false}
 use mathlib.Core.List.{List, [], _∷_, _++_, append-assoc}
 use native.Mathlib.Nat.{zero-add}
@@ -12,16 +12,13 @@ use Rattle.theory.specs.Refusals.{answer, refused, atLine}
 use Rattle.theory.specs.Operations.{over, found, nothing}
 use Rattle.theory.specs.Program.{printed}
 use Rattle.text.specs.Put.{put, put-cursor, put-run, cursor-run}
-use Rattle.stream.proofs.Texts.{decimal-within}
+use Rattle.answers.proofs.Answering.{put-over}
+use Rattle.text.proofs.Decimal.{decimal-within}
 use Rattle.program.specs.Reports.{Responds}
 
 -- a number of 32 bits has at most ten digits
 pub digits : (n : ℕ) → n < 2 ^ 32 → length (decimal n) ≤ 10
 digits n h = decimal-within 9 n (omega arith)
-
-put-over : (l text : List ℕ) → put l 0 text ≡ over text l
-unfolding put
-put-over l text = rw zero-add refl
 
 -- a text that was put at the start of the output
 responds : (l l′ : List ℕ) (r : ℕ) (text : List ℕ) → l′ ≡ put l 0 text → r ≡ 0 + length text → Responds text r l l′

@@ -5,18 +5,16 @@ use mathlib.Core.Bool.{true, false}
 use mathlib.Core.List.{List}
 use lib.ListN.{length}
 use Rattle.theory.specs.Syntax.{Signature}
-use Rattle.theory.specs.Refusals.{Refusal, Answer, answer, refused, atLine, unplaced, needing}
+use Rattle.theory.specs.Refusals.{answer, refused, atLine, unplaced, needing}
 use Rattle.theory.specs.Problem.{readProblem}
 use Rattle.theory.specs.CaseText.{caseText, caseLength}
 use Rattle.theory.specs.Valuation.{isValuation, isFunctional, readBack}
-use Rattle.theory.specs.Operations.{isSize, lengthAnswer, over, outputAfter, readBackText}
+use Rattle.theory.specs.Operations.{isSize, readBackText}
 use Rattle.theory.proofs.Tests.{leb-of-≤, leb-of-<}
 use Rattle.theory.proofs.Answers.{bind-step, bind-refused, check-of-true, check-of-false}
 use Rattle.theory.proofs.Parsing.{readProblem-bytes}
 use Rattle.answers.specs.declared.Refusal as code
-use Rattle.answers.specs.declared.WriteAnswer.the-variants.{Written, Refused}
-use Rattle.answers.specs.Answers.{refusalIn}
-use Rattle.answers.specs.Calls.{WritingCall}
+use Rattle.answers.specs.declared.WriteAnswer.the-variants.{Refused}
 use Rattle.syntax.specs.declared.size.DomainSize.{DomainSize}
 use Rattle.syntax.specs.declared.size.SizeCheck.{SizeCheck}
 use Rattle.syntax.specs.declared.size.SizeCheck.the-variants as size
@@ -27,15 +25,6 @@ use Rattle.problem.specs.declared.sheet.Reading.{Reading}
 use Rattle.problem.specs.Problems.{problemIn, readingOf}
 use Rattle.problem.proofs.SheetRead.{sheet-accepted, sheet-refused}
 use Rattle.reading_back.specs.Settings.{settingText}
-
--- a refusal leaves the output as it was
-pub refused-so : (q : code.Refusal) (r : Refusal) (a : Answer (List ℕ)) (out : List ℕ) → refusalIn q ≡ r → a ≡ refused r → WritingCall a (Refused q) out out
-refused-so q r a out e h = record { answer = ap refused e ∙ sym (ap lengthAnswer h); left = sym (ap (λ (a : Answer (List ℕ)). outputAfter a out) h) }
-
--- a text stands at the front of the output
-pub written-so : (n : ℕ) (text : List ℕ) (a : Answer (List ℕ)) (out out′ : List ℕ) → n ≡ length text → out′ ≡ over text out → a ≡ answer text
-    → WritingCall a (Written n) out out′
-written-so n text a out out′ e p h = record { answer = ap answer e ∙ sym (ap lengthAnswer h); left = p ∙ sym (ap (λ (a : Answer (List ℕ)). outputAfter a out) h) }
 
 module _ (s : ℕ) (g : Signature) (setting : List ℕ) (room : ℕ) where
   pub no-valuation : isValuation s g setting ≡ false → settingText s g setting room ≡ refused (unplaced 13)

@@ -1,1 +1,4 @@
 pub mod Lookahead
+pub mod Entering
+pub mod NextTaken
+pub mod WholeEntered

@@ -1,1 +1,3 @@
-pub mod ItemsAhead
+pub mod Ahead
+pub mod Entries
+pub mod Taking

@@ -1,2 +1,4 @@
-// What can be told of a variable or symbol of a TPTP clause by looking ahead from it: its arguments, and whether it is a function or a predicate.
+// The clause of a TPTP statement told token by token: what each token adds to the words of the sheet's clause. Arguments and relations are found by looking ahead.
 pub mod ahead;
+pub mod entries;
+pub mod taking;

@@ -15,7 +15,7 @@ use Rattle.theory.specs.Lifted.{within}
 use Rattle.theory.proofs.Tests.{and-left, and-right}
 use Rattle.theory.proofs.Lists.{all-append, all-distinct, concatMap-append}
 use Rattle.theory.proofs.Letters.{merged-length}
-use Rattle.theory.proofs.WellFormed.{variables-within}
+use Rattle.theory.proofs.FlatForm.{variables-within}
 use Rattle.theory.proofs.Growing.{addTerms-append, addTerms-length, functionTerms-words, allFunctionTerms-words}
 use Rattle.syntax.specs.declared.words.ClauseWords.{ClauseWords}
 use Rattle.syntax.specs.Codes.{wordsIn, clauseIn}

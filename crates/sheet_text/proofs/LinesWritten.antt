@@ -1,16 +1,23 @@
 -- A line as it is written: a key, what follows it, LF.
-use Prim.Native.Nat.{ℕ, _+_, _-_, _≤_}
-use mathlib.Core.Path.{_≡_, refl, ap}
+use Prim.Native.Nat.{ℕ, _+_, _≤_}
+use mathlib.Core.Path.{_≡_, refl, ap, _∙_}
 use mathlib.Core.List.{List, [], _∷_, _++_, append-assoc}
 use native.Mathlib.Omega.{arith}
-use lib.ListN.{length, set, take, drop, length-append, length-drop}
-use lib.Seq.{length-take-le}
+use lib.ListN.{length, set, length-append}
 use Rattle.theory.specs.Bytes.{LF, zeroDigit}
-use Rattle.tptp.specs.SheetText.{line, symbolText}
+use Rattle.theory.specs.SheetText.{line, symbolText}
 use Rattle.syntax.specs.declared.signature.Symbol.{Symbol}
 use Rattle.syntax.specs.Signatures.{symbolIn}
 use Rattle.text.specs.Put.{put, put-run, cursor-run, put-cursor, cursor-more}
-use Rattle.sheet_text.specs.Parts.{Named}
+
+-- what is written, said otherwise
+pub same-text : (l l′ : List ℕ) (at e : ℕ) (v t : List ℕ) → v ≡ t → l′ ≡ put l at v → e ≡ at + length v → (l′ ≡ put l at t) × (e ≡ at + length t)
+same-text l l′ at e v t s p n = (p ∙ ap (put l at) s, omega (arith, ap length s))
+
+-- a second text is written after a first
+pub two-written : (l l′ l″ : List ℕ) (at a b : ℕ) (v w : List ℕ) → at + length (v ++ w) ≤ length l → l′ ≡ put l at v → a ≡ at + length v → l″ ≡ put l′ a w → b ≡ a + length w
+    → (l″ ≡ put l at (v ++ w)) × (b ≡ at + length (v ++ w))
+two-written l l′ l″ at a b v w room p n q m = (put-run l l′ l″ at a v w p n q (omega (arith, length-append v w)), cursor-run at a b v w n m)
 
 pub line-length : (key v : List ℕ) → length (line key v) ≡ length key + length v + 1
 line-length key v = omega (arith, length-append key (v ++ (LF ∷ [])), length-append v (LF ∷ []))
@@ -38,11 +45,3 @@ symbol-written text y l l′ at e p n h =
           (append-assoc name (47 ∷ []) ((zeroDigit + y .arity) ∷ [])),
       omega (arith, symbol-length text y),
     )
-
--- the name as it is lent from the text
-pub name-lent : (text : List ℕ) (y : Symbol) → take (y .name + y .length - y .name) (drop (y .name) text) ≡ symbolIn text y .name
-name-lent text y = let z : y .name + y .length - y .name ≡ y .length = omega arith in ap (λ (n : ℕ). take n (drop (y .name) text)) z
-
--- and its length
-pub name-length : (text : List ℕ) (y : Symbol) → Named text y → length (symbolIn text y .name) ≡ y .length
-name-length text y h = length-take-le (y .length) (drop (y .name) text) (omega (arith, h .within, length-drop (y .name) text))

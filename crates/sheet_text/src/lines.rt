@@ -5,11 +5,12 @@ use text::writing::decimal_length;
 use text::writing::put_bytes;
 use text::writing::put_number;
 ghost use mathlib.Core.Path.{_≡_};
-ghost use Prim.Native.Nat.{_+_, _≤_, _<_, _^_};
+ghost use mathlib.Core.List.{List};
+ghost use Prim.Native.Nat.{ℕ, _+_, _≤_, _<_, _^_};
 ghost use lib.ListN.{length};
 ghost use Rattle.theory.specs.Bytes.{decimal};
 ghost use Rattle.syntax.specs.Signatures.{symbolIn};
-ghost use Rattle.tptp.specs.SheetText.{line, symbolText};
+ghost use Rattle.theory.specs.SheetText.{line, symbolText};
 ghost use Rattle.text.specs.Put.{put};
 ghost use Rattle.sheet_text.specs.Parts.{Named};
 
@@ -34,9 +35,10 @@ pub fn put_count_line(out: &mut [u8], at: usize, key: &[u8], n: u32) -> usize
 }
 
 // The length of a symbol's line: after the name stand /, the arity's digit and LF.
-pub fn symbol_line_length(text: &[u8], key: &[u8], symbol: Symbol) -> usize
-    requires { ⌜ Named (now text) symbol × (length (line (now key) (symbolText (symbolIn (now text) symbol))) < 2 ^ 64) ⌝ }
-    ensures { λ r. ⌜ r ≡ length (line (now (key .entry)) (symbolText (symbolIn (now (text .entry)) symbol))) ⌝ }
+pub fn symbol_line_length(key: &[u8], symbol: Symbol) -> usize
+    requires { ⌜ length (now key) + symbol .length + 3 < 2 ^ 64 ⌝ }
+    ensures length { λ r. ⌜ ((text : List ℕ) → Named text symbol → r ≡ length (line (now (key .entry)) (symbolText (symbolIn text symbol)))) ⌝ }
+    ensures short { λ r. ⌜ r ≤ length (now (key .entry)) + symbol .length + 3 ⌝ }
 {
     key.len() + symbol.length + 3
 }

@@ -7,7 +7,7 @@ use mathlib.Core.List.{List, [], _∷_, _++_}
 use native.Mathlib.Omega.{arith}
 use Rattle.theory.specs.Lists.{firstThat}
 use Rattle.tptp.specs.Tokens.{TokenKind, lowerWord, upperWord, digits, falsum, leftParen, rightParen, comma, fullStop, bar, tilde, equalSign, unequalSign, foreign, openComment, TptpToken, is}
-use Rattle.tptp.specs.Grammar.{Side, first, second, DueToken, Move, statement, opening, name, nameComma, role, roleComma, clause, literal, literalEnd, term, wordEnd, termEnd, equality, closing, stop, afterLiteral, relations, afterTerm, afterVariable, beginsTerm, beginsLiteral, moves, dueAfterToken, mayEnd}
+use Rattle.tptp.specs.Grammar.{Side, first, second, DueToken, Move, statement, opening, name, nameComma, role, roleComma, clause, literal, literalEnd, term, wordEnd, termEnd, equality, closing, stop, afterLiteral, relations, afterTerm, beginsTerm, beginsLiteral, moves, dueAfterToken, mayEnd}
 use Rattle.tptp.specs.Scanning.{sameTokenKind}
 use Rattle.statements.specs.Dues.{openLists}
 

@@ -1,5 +1,5 @@
 -- What is due after a token of a kind, one move after the other.
-use Prim.Native.Nat.{ℕ, zero, suc, _-_, _+_}
+use Prim.Native.Nat.{ℕ, zero, suc, _-_}
 use mathlib.Core.Path.{_≡_, refl, sym, ap, _∙_}
 use mathlib.Core.Bool.{Bool, true, false, cond, _&&_, true≢false, false≢true}
 use mathlib.Core.Option.{Option, none, some}
@@ -7,8 +7,8 @@ use mathlib.Core.List.{List, [], _∷_, _++_}
 use native.Mathlib.Omega.{arith}
 use Rattle.theory.specs.Lists.{firstThat, same}
 use Rattle.theory.specs.Bytes.{bytes}
-use Rattle.tptp.specs.Tokens.{TokenKind, lowerWord, comma, rightParen, leftParen, equalSign, unequalSign, TptpToken, is}
-use Rattle.tptp.specs.Grammar.{Side, first, second, DueToken, Move, isCnf, statement, opening, name, nameComma, role, roleComma, clause, literal, literalEnd, term, wordEnd, termEnd, equality, closing, stop, mayEnd, afterLiteral, relations, afterTerm, afterVariable, moves, dueAfterToken}
+use Rattle.tptp.specs.Tokens.{TokenKind, lowerWord, comma, rightParen, equalSign, unequalSign, is}
+use Rattle.tptp.specs.Grammar.{Side, first, second, DueToken, Move, isCnf, statement, opening, name, nameComma, role, roleComma, clause, literal, literalEnd, term, wordEnd, termEnd, equality, closing, stop, mayEnd, relations, afterTerm, afterVariable, moves, dueAfterToken}
 use Rattle.tptp.specs.Scanning.{sameTokenKind}
 use Rattle.statements.specs.Dues.{dueTokenIn, kindToken, movedBy}
 use Rattle.statements.specs.declared.due.Due.{Due}

@@ -1,6 +1,6 @@
 -- The next token and what the code makes of it, inside a statement and at its begin.
-use Prim.Native.Nat.{ℕ, suc, _≤_, _<_}
-use mathlib.Core.Path.{_≡_, refl, sym, ap, _∙_}
+use Prim.Native.Nat.{ℕ, _+_, _≤_}
+use mathlib.Core.Path.{_≡_, refl, sym, ap, _∙_, subst}
 use mathlib.Core.Bool.{Bool, true, false, _&&_}
 use mathlib.Core.Option.{Option, none, some}
 use mathlib.Core.List.{List, [], _∷_}
@@ -9,18 +9,19 @@ use lib.Dec.{eqb}
 use lib.ListN.{length}
 use Rattle.theory.specs.Lists.{same}
 use Rattle.theory.specs.Bytes.{bytes}
-use Rattle.theory.proofs.Tests.{eqb-true, and-left}
+use Rattle.theory.proofs.Tests.{eqb-true, and-left, and-right}
+use Rattle.theory.proofs.Lists.{same-true}
+use Rattle.text.proofs.Part.{length-part}
 use Rattle.text.specs.Lines.{part}
-use Rattle.tptp.specs.Tokens.{TokenKind, lowerWord, fullStop, kindNumber, TptpToken, is}
+use Rattle.tptp.specs.Tokens.{lowerWord, fullStop, kindNumber, TptpToken, is}
 use Rattle.tptp.specs.Grammar.{DueToken, Move, statement, opening, isCnf, dueAfterToken, mayEnd}
 use Rattle.tptp.specs.Scanning.{sameTokenKind}
 use Rattle.tokens.specs.Pieces.{kindIn}
 use Rattle.tokens.specs.declared.pieces.Kind.{Kind}
 use Rattle.tokens.specs.NextTokens.{tokensAt, tokenIn, NextFound}
-use Rattle.tokens.specs.declared.next.NextToken.{NextToken}
 use Rattle.tokens.specs.declared.next.NextToken.the-variants.{Is, End}
 use Rattle.statements.specs.Dues.{kindToken, openLists}
-use Rattle.statements.specs.Follows.{WholeFrom, ForeignFrom, OneOn, FollowedTo, firstPlace}
+use Rattle.statements.specs.Follows.{WholeFrom, ForeignFrom, OneOn, Inside, FollowedTo}
 use Rattle.statements.specs.declared.follow.Followed.the-variants as followed
 use Rattle.statements.proofs.Moves.{due-moves}
 use Rattle.statements.proofs.Inside.{goes-inside, stops}
@@ -110,8 +111,20 @@ module _ (text : List ℕ) (at : ℕ) (k : Kind) (start end : ℕ) (f : NextFoun
   pub follow-foreign : isCnf first ≡ true → (p : ℕ) → ForeignFrom text opening end p → ForeignFrom text statement at p
   follow-foreign e p g = foreign-on text statement at end first (f .listed) opening (begun true e) (no-stop e) (f .within .1 .1 .0) p g
 
+  -- cnf has three bytes
+  three : isCnf first ≡ true → end ≡ start + 3
+  three e =
+      let n : length (part text start end) ≡ 3 = ap length (same-true (part text start end) (bytes "cnf") (and-right (is lowerWord first) (same (part text start end) (bytes "cnf")) e)) in
+      omega (arith, n, length-part text start end (f .within .1 .0) (f .within .1 .1 .1), f .within .1 .0)
+
   pub follow-whole : isCnf first ≡ true → (stop past : ℕ) → WholeFrom text opening end stop past → FollowedTo text at (followed.Whole start stop past)
-  follow-whole e stop past w = (
-    whole-on text statement at end first (f .listed) opening (begun true e) (no-stop e) (f .within .1 .1 .0) stop past w,
-    (ap firstPlace (f .listed), (f .within .0, omega (arith, f .within .1 .0, w .past))),
-  )
+  follow-whole e stop past w = record {
+    whole = whole-on text statement at end first (f .listed) opening (begun true e) (no-stop e) (f .within .1 .1 .0) stop past w;
+    cnf = first;
+    listed = f .listed ∙ ap (λ (n : ℕ). first ∷ tokensAt text n) (three e);
+    begins = e;
+    started = refl;
+    rest = subst (Inside text opening) (three e) (record { stands = w .stands; inside = refl; lists = omega arith; within = f .within .1 .1 .1 });
+    from = f .within .0;
+    past = omega (arith, f .within .1 .0, w .past);
+  }

@@ -1,20 +1,20 @@
 -- A statement token by token: what one more token does to the file, and what one whole statement does.
-use Prim.Native.Nat.{ℕ, zero, suc, _+_, _-_, _≤_, _<_}
-use mathlib.Core.Path.{_≡_, refl, sym, ap, _∙_, subst}
-use mathlib.Core.Bool.{Bool, true, false, cond, _&&_}
+use Prim.Native.Nat.{ℕ, _-_, _≤_, _<_}
+use mathlib.Core.Path.{_≡_, refl, sym, ap, _∙_}
+use mathlib.Core.Bool.{Bool, true, false, cond}
 use mathlib.Core.Option.{Option, none, some}
 use mathlib.Core.List.{List, [], _∷_, _++_, append-assoc}
 use native.Mathlib.Omega.{arith}
-use lib.ListN.{length, getD, drop, length-append}
+use lib.ListN.{length, getD, length-append}
 use lib.Seq.{getD-at}
-use Rattle.tptp.specs.Tokens.{TokenKind, fullStop, TptpToken, is, tokens}
-use Rattle.tptp.specs.Grammar.{DueToken, statement, opening, isCnf, dueAfterToken, mayEnd}
-use Rattle.tptp.specs.Trees.{noToken, Statement, statementOf}
+use Rattle.tptp.specs.Tokens.{fullStop, TptpToken, is, tokens}
+use Rattle.tptp.specs.Grammar.{DueToken, statement, dueAfterToken, mayEnd}
+use Rattle.tptp.specs.Trees.{noToken, statementOf}
 use Rattle.tptp.specs.Tptp.{File, foreignAt, withStatement, fileFrom, readFile}
 use Rattle.tptp.specs.Claims.Places.{dueAfterTokens}
 use Rattle.tptp.proofs.Places.{going}
 use Rattle.tokens.specs.NextTokens.{tokensAt}
-use Rattle.statements.specs.Follows.{upToStop, ownTokens, fileDue, fileAt, WholeFrom, ForeignFrom, firstPlace}
+use Rattle.statements.specs.Follows.{upToStop, ownTokens, fileDue, fileAt, WholeFrom, ForeignFrom, WholeAt}
 
 -- the file is that from the first place on
 pub file-begins : (text : List ℕ) → readFile text ≡ fileAt text 0
@@ -118,10 +118,6 @@ statement-stop text at stop end w = last (ownTokens text at) (w .ended) ∙ w .p
         ap (λ (us : List TptpToken). getD us (length ts - 1) noToken .place) e ∙ ap (λ (x : TptpToken). x .place) (getD-at (w .front) (w .final) [] noToken (length ts - 1) m)
 
 -- where it begins
-pub statement-start : (text : List ℕ) (at : ℕ) → statementOf (ownTokens text at) .start ≡ firstPlace (tokensAt text at)
+pub statement-start : (text : List ℕ) (at start stop end : ℕ) → WholeAt text at start stop end → statementOf (ownTokens text at) .start ≡ start
 unfolding statementOf
-statement-start text at = go (tokensAt text at)
-  where
-    go : (ts : List TptpToken) → firstPlace (upToStop ts) ≡ firstPlace ts
-    go [] = refl
-    go (t ∷ ts) = refl
+statement-start text at start stop end w = ap (λ (ts : List TptpToken). getD (upToStop ts) 0 noToken .place) (w .listed) ∙ w .started

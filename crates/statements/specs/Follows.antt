@@ -1,13 +1,13 @@
 -- What one statement of a text is, from a place on: its tokens, and what it does to the file.
-use Prim.Native.Nat.{ℕ, zero, suc, _≤_, _<_}
+use Prim.Native.Nat.{ℕ, _+_, _≤_, _<_}
 use mathlib.Core.Path.{_≡_}
-use mathlib.Core.Bool.{Bool, true, false}
-use mathlib.Core.Option.{Option, none, some}
+use mathlib.Core.Bool.{true, false}
+use mathlib.Core.Option.{some}
 use mathlib.Core.List.{List, [], _∷_, _++_}
-use lib.ListN.{length, getD}
+use lib.ListN.{length}
 use Rattle.tptp.specs.Tokens.{fullStop, TptpToken, is}
-use Rattle.tptp.specs.Grammar.{DueToken, statement, dueAfterToken, mayEnd}
-use Rattle.tptp.specs.Trees.{noToken, statementOf}
+use Rattle.tptp.specs.Grammar.{DueToken, statement, opening, isCnf, dueAfterToken, mayEnd}
+use Rattle.tptp.specs.Trees.{statementOf}
 use Rattle.tptp.specs.Tptp.{File, foreignAt, withStatement, fileFrom}
 use Rattle.tptp.specs.Claims.Places.{dueAfterTokens}
 use Rattle.tokens.specs.NextTokens.{tokensAt}
@@ -77,12 +77,26 @@ Stepped text at d (step.On e end) = OneOn text d (dueTokenIn e) at end
 Stepped text at d (step.Stop stop end) = WholeFrom text d at stop end
 Stepped text at d (step.Foreign p) = ForeignFrom text d at p
 
--- the first token's place
-abbrev pub firstPlace : List TptpToken → ℕ
-firstPlace ts = getD ts 0 noToken .place
+-- Inside a statement: d is due at a place, and the tokens from there on up to the full stop all stand where they may.
+pub record Inside (text : List ℕ) (d : DueToken) (at : ℕ) : Type 0 where
+  pub stands : dueAfterTokens d (ownTokens text at) ≡ some statement
+  pub inside : mayEnd d ≡ false
+  pub lists : openLists d ≤ at
+  pub within : at ≤ length text
+
+-- A whole statement from a place on: its cnf is at `start`, its full stop at `stop`, and `end` is the place after it.
+pub record WholeAt (text : List ℕ) (at start stop end : ℕ) : Type 0 where
+  pub whole : WholeFrom text statement at stop end
+  pub cnf : TptpToken
+  pub listed : tokensAt text at ≡ cnf ∷ tokensAt text (start + 3)
+  pub begins : isCnf cnf ≡ true
+  pub started : cnf .place ≡ start
+  pub rest : Inside text opening (start + 3)
+  pub from : at ≤ start
+  pub past : start < end
 
 -- what the statement that begins at a place is: whole, missing at the text's end, or one with a 15
 abbrev pub FollowedTo : List ℕ → ℕ → Followed → Type 0
-FollowedTo text at (followed.Whole start stop end) = WholeFrom text statement at stop end × ((firstPlace (tokensAt text at) ≡ start) × ((at ≤ start) × (start < end)))
+FollowedTo text at (followed.Whole start stop end) = WholeAt text at start stop end
 FollowedTo text at followed.End = tokensAt text at ≡ []
 FollowedTo text at (followed.Foreign p) = ForeignFrom text statement at p

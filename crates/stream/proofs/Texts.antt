@@ -1,9 +1,8 @@
 -- Laws of the text of a clause, one literal at a time.
-use Prim.Native.Nat.{ℕ, zero, suc, _+_, _^_, _/_, _%_, _≤_, _<_}
+use Prim.Native.Nat.{ℕ, suc, _+_, _/_, _%_, _≤_, _<_}
 use mathlib.Core.Path.{_≡_, refl, sym, ap, _∙_}
 use mathlib.Core.Bool.{Bool, true, false}
 use mathlib.Core.List.{List, [], _∷_, _++_, append-assoc, append-nil, map-append}
-use native.Mathlib.Nat.{pow-suc}
 use native.Mathlib.Omega.{arith}
 use borrow.Author.Tests.{eq-eqb, ne-eqb, ltb-true, ltb-false}
 use lib.Dec.{ltb}
@@ -15,17 +14,7 @@ use Rattle.theory.specs.Propositional.{PropClause}
 use Rattle.theory.specs.Dimacs.{minus, literalText, clauseText, header}
 use Rattle.theory.proofs.Lists.{concatMap-append}
 use Rattle.text.specs.Put.{put, put-none, put-run, put-cursor, cursor-run, cursor-more}
-use Rattle.text.proofs.Decimal.{decimal-length-small, decimal-length-large}
 use Rattle.stream.specs.Literals.{literalOf, propClauseOf, literalSpaced}
-
--- a number of at most k digits
-pub decimal-within : (k n : ℕ) → n < 10 ^ suc k → length (decimal n) ≤ suc k
-decimal-within zero n h = omega (arith, pow-suc 10 0, decimal-length-small n (omega (arith, pow-suc 10 0)))
-decimal-within (suc k) n h = go (ltb n 10) refl (decimal-within k (n / 10) (omega (arith, pow-suc 10 (suc k))))
-  where
-    go : (b : Bool) → ltb n 10 ≡ b → length (decimal (n / 10)) ≤ suc k → length (decimal n) ≤ suc (suc k)
-    go true e l = omega (arith, decimal-length-small n (ltb-true n 10 e))
-    go false e l = omega (arith, decimal-length-large n (ltb-false n 10 e))
 
 -- an odd code says no
 pub spaced-no : (u : ℕ) → u % 2 ≡ 1 → literalSpaced (literalOf u) ≡ minus ∷ (decimal (u / 2 + 1) ++ (space ∷ []))

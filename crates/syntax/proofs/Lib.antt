@@ -3,3 +3,4 @@ pub mod Codes
 pub mod Places
 pub mod Clauses
 pub mod Sizes
+pub mod NamesLent

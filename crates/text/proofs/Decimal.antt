@@ -78,3 +78,12 @@ front-digits k n e = go (ltb n 10) refl
     go false h =
         let big : 10 ≤ n = ltb-false n 10 h in
         sym (ap (take (suc k)) (decimal-large n big) ∙ take-at (decimal (n / 10)) ((48 + n % 10) ∷ []) (suc k) (omega (arith, decimal-length-large n big)))
+
+-- a number of at most k + 1 digits
+pub decimal-within : (k n : ℕ) → n < 10 ^ suc k → length (decimal n) ≤ suc k
+decimal-within zero n h = omega (arith, pow-suc 10 0, decimal-length-small n (omega (arith, pow-suc 10 0)))
+decimal-within (suc k) n h = go (ltb n 10) refl (decimal-within k (n / 10) (omega (arith, pow-suc 10 (suc k))))
+  where
+    go : (b : Bool) → ltb n 10 ≡ b → length (decimal (n / 10)) ≤ suc k → length (decimal n) ≤ suc (suc k)
+    go true e l = omega (arith, decimal-length-small n (ltb-true n 10 e))
+    go false e l = omega (arith, decimal-length-large n (ltb-false n 10 e))

@@ -14,11 +14,12 @@ use Rattle.theory.specs.Cells.{tableSize, isInterpretation}
 use Rattle.theory.specs.Refusals.{answer}
 use Rattle.theory.specs.Problem.{isName, Problem, readProblem}
 use Rattle.theory.specs.CaseText.{leastByte, joined, equalsSign, tableText, tablesText, caseText, caseLength}
+use Rattle.theory.specs.WellFormed.{symbolOk, WellFormed}
 use Rattle.theory.proofs.Tests.{and-right}
 use Rattle.theory.proofs.Lists.{sum-within}
 use Rattle.theory.proofs.Limits.{tableSize-within}
 use Rattle.theory.proofs.Names.{name-length}
-use Rattle.theory.proofs.Parsing.{symbolOk, WellFormed, readProblem-wellFormed, at-most-24}
+use Rattle.theory.proofs.Parsing.{readProblem-wellFormed, at-most-24}
 use Rattle.theory.proofs.Tables.{Table, interpretation-split}
 
 spaced-length : (bs : List ℕ) → length (concatMap (λ c. space ∷ c ∷ []) bs) ≡ 2 * length bs

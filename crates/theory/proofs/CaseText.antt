@@ -17,12 +17,13 @@ use Rattle.theory.specs.Cells.{tableSize, valueCount, isInterpretation}
 use Rattle.theory.specs.Refusals.{Answer, answer, atLine}
 use Rattle.theory.specs.Problem.{Problem}
 use Rattle.theory.specs.CaseText.{leastByte, joined, equalsSign, tableText, tablesText, caseText, spaced, unjoined, isValueByte, readTable, readTables, Case, sizeOf, readCase}
+use Rattle.theory.specs.WellFormed.{WellFormed}
 use Rattle.theory.proofs.Tests.{eqb-true, eqb-of-≡, leb-true, leb-of-≤, ltb-true, ltb-of-<, and-left, and-right, and-join}
 use Rattle.theory.proofs.Lists.{all-append, same-true}
 use Rattle.theory.proofs.First.{prefix-some}
 use Rattle.theory.proofs.Answers.{unbind, bind-step, answer-inj, check-true, check-of-true, orRefuse-some, orRefuse-of-some}
 use Rattle.theory.proofs.Lines.{inLine, digit-inLine, cut-line, cut-only, after-key, key-only}
-use Rattle.theory.proofs.Parsing.{WellFormed, names-without}
+use Rattle.theory.proofs.Parsing.{names-without}
 use Rattle.theory.proofs.Tables.{Table, interpretation-split, interpretation-join, interpretation-empty, empty-interpretation}
 
 -- joining with spaces, and taking apart

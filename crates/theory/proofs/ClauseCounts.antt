@@ -26,7 +26,7 @@ use Rattle.theory.proofs.Parts.{tables, tables←, all-propClauses}
 use Rattle.theory.proofs.CellClauses.{pairs}
 use Rattle.theory.proofs.Numbering.{variable-within, propVariable-within}
 use Rattle.theory.proofs.Declared.{functionOf→, predicateOf→}
-use Rattle.theory.proofs.WellFormed.{flatten-ok}
+use Rattle.theory.proofs.FlatForm.{flatten-ok}
 use Rattle.theory.proofs.Instances.{flatValue-below}
 
 -- the number of literals of a list of clauses

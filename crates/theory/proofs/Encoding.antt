@@ -14,7 +14,7 @@ use Rattle.theory.specs.Valuation.{satisfiesClause, satisfies, isValuati
 use Rattle.theory.specs.Claims.Encoding.{Encoding, EncodingHolds}
 use Rattle.theory.proofs.Tests.{iff→≡, and-left, and-right}
 use Rattle.theory.proofs.Truth.{isValid, isValid→Valid, Valid→isValid, isModel-all}
-use Rattle.theory.proofs.WellFormed.{flatten-ok}
+use Rattle.theory.proofs.FlatForm.{flatten-ok}
 use Rattle.theory.proofs.Flattening.{flattening}
 use Rattle.theory.proofs.Parts.{all-propClauses}
 use Rattle.theory.proofs.Interpretations.{interpretation-closed}

@@ -13,7 +13,7 @@ use Rattle.theory.specs.Lists.{all}
 use Rattle.theory.specs.Vectors.{AllBelow}
 use Rattle.theory.specs.Syntax.{Term, variable, apply, Terms, empty, cons, Clause, Signature, variables, count, functionOf, termOk, termsOk, clauseOk}
 use Rattle.theory.specs.Truth.{Interpretation, Assignment, value, values, assign}
-use Rattle.theory.specs.Flattening.{merged, turned, liftedTerms, FlatVariable, own, new, shallow, FlatLiteral, definitions, flatten, variableCount}
+use Rattle.theory.specs.Flattening.{merged, turned, liftedTerms, FlatVariable, own, shallow, FlatLiteral, definitions, flatten, variableCount}
 use Rattle.theory.specs.Instances.{flatValue}
 use Rattle.theory.specs.Claims.Truth.{Valid}
 use Rattle.theory.specs.Claims.Flattening.{flatLiteralTrue, flatTrue, FlatValid, Closed, Flattening}
@@ -23,7 +23,7 @@ use Rattle.theory.proofs.Vectors.{allBelow-map, allBelow-append}
 use Rattle.theory.proofs.Truth.{assign-lt, variables-agree}
 use Rattle.theory.proofs.Merging.{merged→, merged←, noneLeft, merged-ok}
 use Rattle.theory.proofs.LiftedTerms.{liftedTerms-turned, liftedTerms-covered}
-use Rattle.theory.proofs.WellFormed.{turned-ok, liftedTerms-ok}
+use Rattle.theory.proofs.FlatForm.{turned-ok, liftedTerms-ok}
 use Rattle.theory.proofs.Lifting.{Valued, shallow-true, false→defined, defined→false, defined→placed, valued→placed, valued→defined}
 
 -- values after those of the own variables do not matter to them

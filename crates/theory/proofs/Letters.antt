@@ -10,50 +10,44 @@ use lib.Dec.{eqb}
 use lib.ListN.{length, length-map}
 use Rattle.theory.specs.Lists.{all, concatMap}
 use Rattle.theory.specs.Syntax.{Term, variable, apply, Terms, empty, cons, Atom, equal, holds, Literal, Clause, termVariables, termsVariables, atomVariables, variables}
-use Rattle.theory.specs.Grammar.{Word, sign, equals, symbol, letter, termWords, termsWords, atomWords, clauseWords}
+use Rattle.theory.specs.Grammar.{sign, termWords, termsWords, atomWords, clauseWords}
+use Rattle.theory.specs.WellFormed.{letterPasses}
 use Rattle.theory.specs.Flattening.{rename, renameTerm, renameTerms, renameAtom, renameLiteral, unequalVariables, Unequal, leftmostAt, leftmost, mergeFound, merge, merged}
 use Rattle.theory.proofs.Tests.{and-left, and-right, and-join}
 use Rattle.theory.proofs.Lists.{all-append, all-concatMap, all-cong, all-distinct}
 use Rattle.theory.proofs.Merging.{leftmost-length}
 
 module _ (q : ℕ → Bool) where
-  -- the variable of a letter's word passes the test
-  abbrev pub letterPasses : Word → Bool
-  letterPasses (sign b) = true
-  letterPasses equals = true
-  letterPasses (symbol i) = true
-  letterPasses (letter x) = q x
-
   -- every variable of the clause passes it
   abbrev pub variablesPass : Clause → Bool
   variablesPass c = all (λ (l : Literal). all q (atomVariables (l .atom))) c
 
   mutual
-    term-letters : (t : Term) → all letterPasses (termWords t) ≡ all q (termVariables t)
+    term-letters : (t : Term) → all (letterPasses q) (termWords t) ≡ all q (termVariables t)
     term-letters (variable x) = refl
     term-letters (apply f ts) = terms-letters ts
 
-    terms-letters : (ts : Terms) → all letterPasses (termsWords ts) ≡ all q (termsVariables ts)
+    terms-letters : (ts : Terms) → all (letterPasses q) (termsWords ts) ≡ all q (termsVariables ts)
     terms-letters empty = refl
     terms-letters (cons t ts) =
-        all-append letterPasses (termWords t) (termsWords ts)
-        ∙ ap (λ (b : Bool). b && all letterPasses (termsWords ts)) (term-letters t)
+        all-append (letterPasses q) (termWords t) (termsWords ts)
+        ∙ ap (λ (b : Bool). b && all (letterPasses q) (termsWords ts)) (term-letters t)
         ∙ ap (λ (b : Bool). all q (termVariables t) && b) (terms-letters ts)
         ∙ sym (all-append q (termVariables t) (termsVariables ts))
 
-  atom-letters : (a : Atom) → all letterPasses (atomWords a) ≡ all q (atomVariables a)
+  atom-letters : (a : Atom) → all (letterPasses q) (atomWords a) ≡ all q (atomVariables a)
   atom-letters (equal t u) =
-      all-append letterPasses (termWords t) (termWords u)
-      ∙ ap (λ (b : Bool). b && all letterPasses (termWords u)) (term-letters t)
+      all-append (letterPasses q) (termWords t) (termWords u)
+      ∙ ap (λ (b : Bool). b && all (letterPasses q) (termWords u)) (term-letters t)
       ∙ ap (λ (b : Bool). all q (termVariables t) && b) (term-letters u)
       ∙ sym (all-append q (termVariables t) (termVariables u))
   atom-letters (holds p ts) = terms-letters ts
 
   -- a test on the letters of a clause's words is the test on its variables
-  pub clause-letters : (c : Clause) → all letterPasses (clauseWords c) ≡ variablesPass c
+  pub clause-letters : (c : Clause) → all (letterPasses q) (clauseWords c) ≡ variablesPass c
   clause-letters c =
-      all-concatMap letterPasses (λ (l : Literal). sign (l .sign) ∷ atomWords (l .atom)) c
-      ∙ all-cong (λ (l : Literal). all letterPasses (atomWords (l .atom))) (λ (l : Literal). all q (atomVariables (l .atom))) c (λ l. atom-letters (l .atom))
+      all-concatMap (letterPasses q) (λ (l : Literal). sign (l .sign) ∷ atomWords (l .atom)) c
+      ∙ all-cong (λ (l : Literal). all (letterPasses q) (atomWords (l .atom))) (λ (l : Literal). all q (atomVariables (l .atom))) c (λ l. atom-letters (l .atom))
 
   pub variables-pass : (c : Clause) → variablesPass c ≡ true → all q (variables c) ≡ true
   variables-pass c h =

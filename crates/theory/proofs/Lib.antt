@@ -22,7 +22,7 @@ pub mod Unset
 pub mod Walking
 pub mod LiftedTerms
 pub mod Growing
-pub mod WellFormed
+pub mod FlatForm
 pub mod Parts
 pub mod CellClauses
 pub mod Parsing
@@ -48,5 +48,7 @@ pub mod Limits
 pub mod Monotone
 pub mod ModelTexts
 pub mod FindsLeast
+pub mod SheetWords
+pub mod SheetRead
 pub mod SheetRefusals
 pub mod Program

@@ -1,5 +1,5 @@
 -- The limits of a problem that is read, as numbers: of its tables at a size of at most 8, and of each of its clauses.
-use Prim.Native.Nat.{ℕ, suc, _+_, _*_, _≤_, _<_}
+use Prim.Native.Nat.{ℕ, suc, _+_, _≤_, _<_}
 use mathlib.Core.Path.{_≡_, refl, sym, ap, _∙_}
 use mathlib.Core.Bool.{Bool, true, _&&_}
 use mathlib.Core.List.{List, [], _∷_, map}
@@ -13,10 +13,10 @@ use Rattle.theory.specs.Cells.{tableSize}
 use Rattle.theory.specs.Grammar.{clauseWords}
 use Rattle.theory.specs.Flattening.{merged, turned, liftedTerms, shallow, definitions, flatten, variableCount}
 use Rattle.theory.specs.Problem.{isName, withinLimits, Problem}
+use Rattle.theory.specs.WellFormed.{symbolOk, isKnownLetter, clauseAccepted, WellFormed}
 use Rattle.theory.proofs.Tests.{leb-true, and-left, and-right}
 use Rattle.theory.proofs.Lists.{all-at}
 use Rattle.theory.proofs.Letters.{variablesPass, clause-letters, variables-pass, merged-passes, merged-length}
-use Rattle.theory.proofs.Parsing.{symbolOk, isLetter, clauseAccepted, WellFormed}
 
 -- a symbol has at most 512 cells
 pub tableSize-within : (s : ℕ) (f : Symbol) → s ≤ 8 → symbolOk f ≡ true → tableSize s f ≤ 512
@@ -63,7 +63,7 @@ pub record ClauseLimits (g : Signature) (c : Clause) : Type 0 where
 pub clause-limits : (g : Signature) (c : Clause) → clauseAccepted g c ≡ true → ClauseLimits g c
 unfolding withinLimits
 clause-limits g c h =
-    let d : Bool = all isLetter (clauseWords c) in
+    let d : Bool = all isKnownLetter (clauseWords c) in
     let e : (clauseOk g c && withinLimits (clauseWords c) c) ≡ true = and-left (clauseOk g c && withinLimits (clauseWords c) c) d h in
     let l : withinLimits (clauseWords c) c ≡ true = and-right (clauseOk g c) (withinLimits (clauseWords c) c) e in
     let x : Bool = leb (length (clauseWords c)) 64 in

@@ -1,7 +1,7 @@
 -- Case texts that are judged models are the texts of interpretations that are models, and of no others.
 use Prim.Native.Nat.{ℕ, zero, _≤_, _<_}
 use mathlib.Core.Path.{_≡_, refl, sym, ap, _∙_}
-use mathlib.Core.Bool.{Bool, true}
+use mathlib.Core.Bool.{true}
 use mathlib.Core.List.{List}
 use Rattle.theory.specs.Syntax.{Signature}
 use Rattle.theory.specs.Cells.{isInterpretation, isModel}
@@ -11,7 +11,7 @@ use Rattle.theory.specs.CaseText.{Case, caseText, readCase}
 use Rattle.theory.specs.Operations.{judgeAnswer}
 use Rattle.theory.specs.Claims.ReadingBack.{ModelText}
 use Rattle.theory.proofs.Answers.{unbind, bind-step, answer-inj}
-use Rattle.theory.proofs.Parsing.{WellFormed, readProblem-wellFormed}
+use Rattle.theory.proofs.Parsing.{readProblem-wellFormed}
 use Rattle.theory.proofs.CaseText.{OnlyText, read-own-case, read-exactly}
 
 module _ (sheet : List ℕ) (p : Problem) (read : readProblem sheet ≡ answer p) where

@@ -1,5 +1,5 @@
 -- Laws of names: their bytes and length, and what a name is as a word.
-use Prim.Native.Nat.{ℕ, _-_, _≤_, _<_}
+use Prim.Native.Nat.{ℕ, _≤_, _<_}
 use mathlib.Core.Path.{_≡_, ap, _∙_}
 use mathlib.Core.Bool.{true, false, not, _&&_, _||_, false≢true}
 use mathlib.Core.Option.{some}
@@ -38,10 +38,6 @@ name-without x w h k =
     all-imply isNameByte (λ b. not (eqb b x)) w
     (λ b e. ap not (not-true (eqb b x) (λ z. both-false e (ap isNameByte (eqb-true b x z) ∙ h))))
     (name-bytes w k)
-
--- no two symbols of the signature have the same name
-abbrev pub NamesDiffer : Signature → Type 0
-NamesDiffer g = (i j : ℕ) → i < length g → j < length g → symbolAt g i .name ≡ symbolAt g j .name → i ≡ j
 
 -- a name that is found is the name of the symbol there
 pub named-place : (g : Signature) (w : List ℕ) (i : ℕ) → placeOfName w g ≡ some i → (i < length g) × (w ≡ symbolAt g i .name)

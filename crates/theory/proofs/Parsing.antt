@@ -12,17 +12,16 @@ use lib.Seq.{getD-append-seam}
 use Rattle.theory.specs.Lists.{all, same, prefix}
 use Rattle.theory.specs.Bytes.{bytes, zeroDigit, isDigit}
 use Rattle.theory.specs.Lines.{Cut, wordsOf}
-use Rattle.theory.specs.Syntax.{Kind, function, predicate, isFunction, isPredicate, Symbol, Signature, noSymbol, symbolAt, Clause, clauseOk}
+use Rattle.theory.specs.Syntax.{Kind, function, predicate, isFunction, isPredicate, Symbol, Signature, noSymbol, symbolAt, Clause, clauseOk, functions}
 use Rattle.theory.specs.Grammar.{Word, sign, equals, symbol, letter, clauseWords, readClause}
 use Rattle.theory.specs.Refusals.{answer, atLine, unplaced}
 use Rattle.theory.specs.Problem.{countLine, isNameByte, isName, symbolOf, isNamed, symbolLines, placeOfName, nameWord, wordOf, readAll, withinLimits, clauseOf, clauseLines, Problem, readProblem}
-use Rattle.theory.specs.Least.{functions}
+use Rattle.theory.specs.WellFormed.{symbolOk, NamesDiffer, isKnownLetter, clauseAccepted, WellFormed}
 use Rattle.theory.specs.Claims.Grammar.{isDeclared}
 use Rattle.theory.proofs.Tests.{both-false, false-of-not, lt-or-eq-or-gt, leb-true, ltb-true, ltb-of-<, and-left, and-right, and-join}
 use Rattle.theory.proofs.Lists.{all-append, all-imply, all-at, any-at, same-refl}
 use Rattle.theory.proofs.Answers.{unbind, answer-inj, check-true, orRefuse-some}
-use Rattle.theory.proofs.Letters.{letterPasses}
-use Rattle.theory.proofs.Names.{NamesDiffer, name-without, named-place}
+use Rattle.theory.proofs.Names.{name-without, named-place}
 use Rattle.theory.proofs.Grammar.{readClause-sound}
 
 -- the two kinds are the same
@@ -33,10 +32,6 @@ isKind predicate k = isPredicate k
 isKind-refl : (k : Kind) → isKind k k ≡ true
 isKind-refl function = refl
 isKind-refl predicate = refl
-
--- a symbol of at most 3 arguments, with a name
-abbrev pub symbolOk : Symbol → Bool
-symbolOk f = leb (f .arity) 3 && isName (f .name)
 
 -- what n lines of symbols of one kind add to the signature g
 pub record Added (k : Kind) (n : ℕ) (g r : Signature) : Type 0 where
@@ -113,18 +108,14 @@ symbolLines-added (suc n) key k g l text r e =
           differ = λ d. ih .differ (differ-snoc g f (false-of-not (isNamed (f .name) g) (and-right (isName (f .name)) (not (isNamed (f .name) g)) c)) d);
         }
 
--- a letter's word is one of A to H
-abbrev pub isLetter : Word → Bool
-isLetter w = letterPasses (λ x. ltb x 8) w
-
-name-known : (g : Signature) (w : List ℕ) (x : Word) (o : Option ℕ) → placeOfName w g ≡ o → nameWord o ≡ some x → (isDeclared g x && isLetter x) ≡ true
+name-known : (g : Signature) (w : List ℕ) (x : Word) (o : Option ℕ) → placeOfName w g ≡ o → nameWord o ≡ some x → (isDeclared g x && isKnownLetter x) ≡ true
 name-known g w x none h e = let z : _≡_ {A = ℕ} 0 1 = cc in absurd (omega arith)
 name-known g w x (some i) h e =
-    ap (λ (y : Word). isDeclared g y && isLetter y) (sym (Option·some-injective (symbol i) x e))
+    ap (λ (y : Word). isDeclared g y && isKnownLetter y) (sym (Option·some-injective (symbol i) x e))
     ∙ and-join (ltb i (length g)) true (ltb-of-< i (length g) (named-place g w i h .0)) refl
 
 -- a word that is known means a declared symbol or one of the eight letters
-pub wordOf-known : (g : Signature) (w : List ℕ) (x : Word) → wordOf g w ≡ some x → (isDeclared g x && isLetter x) ≡ true
+pub wordOf-known : (g : Signature) (w : List ℕ) (x : Word) → wordOf g w ≡ some x → (isDeclared g x && isKnownLetter x) ≡ true
 unfolding wordOf
 wordOf-known g [] x e = let z : _≡_ {A = ℕ} 0 1 = cc in absurd (omega arith)
 wordOf-known g (b ∷ c ∷ w) x e = name-known g (b ∷ c ∷ w) x (placeOfName (b ∷ c ∷ w) g) refl e
@@ -133,11 +124,11 @@ wordOf-known g (b ∷ []) x e = go (eqb b 43) (eqb b 45) (eqb b 61) (leb 65 b &&
     r : Option Word
     r = nameWord (placeOfName (b ∷ []) g)
 
-    is : (y : Word) → (isDeclared g y && isLetter y) ≡ true → some y ≡ some x → (isDeclared g x && isLetter x) ≡ true
-    is y h q = ap (λ (y : Word). isDeclared g y && isLetter y) (sym (Option·some-injective y x q)) ∙ h
+    is : (y : Word) → (isDeclared g y && isKnownLetter y) ≡ true → some y ≡ some x → (isDeclared g x && isKnownLetter x) ≡ true
+    is y h q = ap (λ (y : Word). isDeclared g y && isKnownLetter y) (sym (Option·some-injective y x q)) ∙ h
 
     go : (p q s t : Bool) → (leb 65 b && ltb b 73) ≡ t → cond p (some (sign true)) (cond q (some (sign false)) (cond s (some equals) (cond t (some (letter (b - 65))) r))) ≡ some x
-        → (isDeclared g x && isLetter x) ≡ true
+        → (isDeclared g x && isKnownLetter x) ≡ true
     go true q s t h e = is (sign true) refl e
     go false true s t h e = is (sign false) refl e
     go false false true t h e = is equals refl e
@@ -147,22 +138,18 @@ wordOf-known g (b ∷ []) x e = go (eqb b 43) (eqb b 45) (eqb b 61) (leb 65 b &&
         is (letter (b - 65)) (ltb-of-< (b - 65) 8 (omega arith)) e
     go false false false false h e = name-known g (b ∷ []) x (placeOfName (b ∷ []) g) refl e
 
-pub readAll-known : (g : Signature) (vs : List (List ℕ)) (ws : List Word) → readAll g vs ≡ some ws → all (λ x. isDeclared g x && isLetter x) ws ≡ true
-readAll-known g [] ws e = ap (all (λ x. isDeclared g x && isLetter x)) (sym (Option·some-injective [] ws e))
+pub readAll-known : (g : Signature) (vs : List (List ℕ)) (ws : List Word) → readAll g vs ≡ some ws → all (λ x. isDeclared g x && isKnownLetter x) ws ≡ true
+readAll-known g [] ws e = ap (all (λ x. isDeclared g x && isKnownLetter x)) (sym (Option·some-injective [] ws e))
 readAll-known g (v ∷ vs) ws e = go (wordOf g v) refl (readAll g vs) refl e (λ us. readAll-known g vs us)
   where
     known : Word → Bool
-    known x = isDeclared g x && isLetter x
+    known x = isDeclared g x && isKnownLetter x
 
     go : (o : Option Word) → wordOf g v ≡ o → (m : Option (List Word)) → readAll g vs ≡ m → (elim o as (λ _. Option (List Word)) [ some x ↦ prefix x m | none ↦ none ]) ≡ some ws
         → ((us : List Word) → readAll g vs ≡ some us → all known us ≡ true) → all known ws ≡ true
     go none h m k e ih = let z : _≡_ {A = ℕ} 0 1 = cc in absurd (omega arith)
     go (some x) h none k e ih = let z : _≡_ {A = ℕ} 0 1 = cc in absurd (omega arith)
     go (some x) h (some us) k e ih = ap (all known) (sym (Option·some-injective (x ∷ us) ws e)) ∙ and-join (known x) (all known us) (wordOf-known g v x h) (ih us k)
-
--- the clause is over the signature, within the limits, and has letters A to H
-abbrev pub clauseAccepted : Signature → Clause → Bool
-clauseAccepted g c = clauseOk g c && withinLimits (clauseWords c) c && all isLetter (clauseWords c)
 
 pub clauseOf-accepted : (g : Signature) (l : ℕ) (v : List ℕ) (c : Clause) → clauseOf g l v ≡ answer c → clauseAccepted g c ≡ true
 unfolding clauseOf
@@ -173,14 +160,14 @@ clauseOf-accepted g l v c e =
     step ws (readAll-known g (wordsOf v) ws (orRefuse-some (readAll g (wordsOf v)) (atLine 5 l) ws h₁)) d (orRefuse-some (readClause g ws) (atLine 6 l) d h₂)
     (check-true (withinLimits ws d) (atLine 7 l) u h₃) (answer-inj d c e₃)
   where
-    step : (ws : List Word) → all (λ x. isDeclared g x && isLetter x) ws ≡ true → (d : Clause) → readClause g ws ≡ some d → withinLimits ws d ≡ true → d ≡ c → clauseAccepted g c ≡ true
+    step : (ws : List Word) → all (λ x. isDeclared g x && isKnownLetter x) ws ≡ true → (d : Clause) → readClause g ws ≡ some d → withinLimits ws d ≡ true → d ≡ c → clauseAccepted g c ≡ true
     step ws k d r lim q =
-        let s = readClause-sound g ws d (all-imply (λ x. isDeclared g x && isLetter x) (isDeclared g) ws (λ x. and-left (isDeclared g x) (isLetter x)) k) r in
+        let s = readClause-sound g ws d (all-imply (λ x. isDeclared g x && isKnownLetter x) (isDeclared g) ws (λ x. and-left (isDeclared g x) (isKnownLetter x)) k) r in
         let lim₂ : withinLimits (clauseWords d) d ≡ true = ap (λ (ws : List Word). withinLimits ws d) (s .1) ∙ lim in
-        let letters : all isLetter (clauseWords d) ≡ true =
-        ap (all isLetter) (s .1) ∙ all-imply (λ x. isDeclared g x && isLetter x) isLetter ws (λ x. and-right (isDeclared g x) (isLetter x)) k in
+        let letters : all isKnownLetter (clauseWords d) ≡ true =
+        ap (all isKnownLetter) (s .1) ∙ all-imply (λ x. isDeclared g x && isKnownLetter x) isKnownLetter ws (λ x. and-right (isDeclared g x) (isKnownLetter x)) k in
         ap (clauseAccepted g) (sym q)
-        ∙ and-join (clauseOk g d && withinLimits (clauseWords d) d) (all isLetter (clauseWords d)) (and-join (clauseOk g d) (withinLimits (clauseWords d) d) (s .0) lim₂) letters
+        ∙ and-join (clauseOk g d && withinLimits (clauseWords d) d) (all isKnownLetter (clauseWords d)) (and-join (clauseOk g d) (withinLimits (clauseWords d) d) (s .0) lim₂) letters
 
 pub clauseLines-accepted : (n : ℕ) (g : Signature) (l : ℕ) (text : List ℕ) (r : (List Clause) × List ℕ) → clauseLines n g l text ≡ answer r
     → (length (r .0) ≡ n) × (all (clauseAccepted g) (r .0) ≡ true)
@@ -206,23 +193,7 @@ countLine-limit key limit l text r e =
     unbind _ _ r e₂ λ (u : Unit {0}) h₃ e₃.
     subst (λ (m : ℕ). m ≤ limit) (ap (λ (r : ℕ × List ℕ). r .0) (answer-inj (n, p .1) r e₃)) (leb-true n limit (check-true (leb n limit) (atLine 3 l) u h₃))
 
--- Every problem that is read is well-formed.
-pub record WellFormed (p : Problem) : Type 0 where
-  -- the functions, then the predicates, at most 12 of each
-  pub functions : List Symbol
-  pub predicates : List Symbol
-  pub split : p .symbols ≡ functions ++ predicates
-  pub function-kinds : all (λ (f : Symbol). isFunction (f .kind)) functions ≡ true
-  pub predicate-kinds : all (λ (f : Symbol). isPredicate (f .kind)) predicates ≡ true
-  pub function-count : length functions ≤ 12
-  pub predicate-count : length predicates ≤ 12
-  -- each has at most 3 arguments and a name, and no two have the same name
-  pub symbols-ok : all symbolOk (p .symbols) ≡ true
-  pub names-differ : NamesDiffer (p .symbols)
-  -- at most 64 clauses, each accepted
-  pub clause-count : length (p .clauses) ≤ 64
-  pub clauses-accepted : all (clauseAccepted (p .symbols)) (p .clauses) ≡ true
-
+-- every problem that is read is well-formed
 well-formed : (f p c : ℕ) (fs g : Signature) (cs : List Clause) → f ≤ 12 → p ≤ 12 → c ≤ 64 → Added function f [] fs → Added predicate p fs g → (length cs ≡ c) × (all (clauseAccepted g) cs ≡ true)
     → WellFormed (record { symbols = g; clauses = cs })
 well-formed f p c fs g cs hf hp hc af ap′ h =
@@ -292,4 +263,4 @@ module _ (p : Problem) (w : WellFormed p) where
   pub clauses-ok : all (clauseOk g) (p .clauses) ≡ true
   clauses-ok =
       all-imply (clauseAccepted g) (clauseOk g) (p .clauses)
-      (λ c h. and-left (clauseOk g c) (withinLimits (clauseWords c) c) (and-left (clauseOk g c && withinLimits (clauseWords c) c) (all isLetter (clauseWords c)) h)) (w .clauses-accepted)
+      (λ c h. and-left (clauseOk g c) (withinLimits (clauseWords c) c) (and-left (clauseOk g c && withinLimits (clauseWords c) c) (all isKnownLetter (clauseWords c)) h)) (w .clauses-accepted)

@@ -13,13 +13,14 @@ use Rattle.theory.specs.Valuation.{satisfies, satisfiesText, isValuation
 use Rattle.theory.specs.Refusals.{answer, unplaced, needing}
 use Rattle.theory.specs.Problem.{Problem, readProblem}
 use Rattle.theory.specs.CaseText.{Case, caseText, caseLength, readCase}
-use Rattle.theory.specs.Operations.{isSize, judgeAnswer, contentOf, writtenText, readBackText}
+use Rattle.theory.specs.Operations.{isSize, contentOf, writtenText, readBackText}
 use Rattle.theory.specs.Claims.Encoding.{Encoding}
 use Rattle.theory.specs.Claims.ReadingBack.{Satisfying, ModelText, ReadingBack, ReadingBackHolds}
+use Rattle.theory.specs.WellFormed.{WellFormed}
 use Rattle.theory.proofs.Tests.{leb-true, leb-of-≤, and-left, and-right, and-join}
 use Rattle.theory.proofs.Answers.{unbind, bind-step, answer-inj, check-true, check-of-true}
 use Rattle.theory.proofs.Dimacs.{written-clauses}
-use Rattle.theory.proofs.Parsing.{WellFormed, readProblem-wellFormed, clauses-ok}
+use Rattle.theory.proofs.Parsing.{readProblem-wellFormed, clauses-ok}
 use Rattle.theory.proofs.ModelTexts.{read-own, model-text, IsModelText, is-model-text}
 use Rattle.theory.proofs.Encoding.{encoding}
 

@@ -9,4 +9,5 @@ pub mod Least
 pub mod FindsLeast
 pub mod Walk
 pub mod Counts
+pub mod SheetRead
 pub mod Program

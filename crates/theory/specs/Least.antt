@@ -1,12 +1,12 @@
 -- The least model: the first list of cell values, in value order, cell by cell, that is a model; at the smallest size that has one.
-use Prim.Native.Nat.{ℕ, zero, suc, _-_}
-use mathlib.Core.Bool.{Bool, true, false, cond, _&&_}
+use Prim.Native.Nat.{ℕ, suc, _-_}
+use mathlib.Core.Bool.{Bool, cond, _&&_}
 use mathlib.Core.Option.{Option, none, some}
 use mathlib.Core.List.{List, [], _∷_, map}
 use lib.Dec.{eqb, leb}
 use lib.ListN.{length}
-use Rattle.theory.specs.Lists.{all, select, upFrom, upTo, prefix}
-use Rattle.theory.specs.Syntax.{isFunction, Symbol, Signature}
+use Rattle.theory.specs.Lists.{all, upFrom, upTo, prefix}
+use Rattle.theory.specs.Syntax.{Symbol, Signature, functions}
 use Rattle.theory.specs.Cells.{cellKinds, valueCount, isModel}
 use Rattle.theory.specs.Problem.{Problem}
 use Rattle.theory.specs.CaseText.{Case}
@@ -42,10 +42,6 @@ withSize s (some v) = some (record { size = s; values = v })
 -- the least model at the smallest of the sizes low to high that has one
 unfoldable pub smallestModel : Problem → ℕ → ℕ → Option Case
 smallestModel p low high = firstOf (λ s. withSize s (leastModel s p)) (upFrom low (suc high - low))
-
--- the functions of a problem
-abbrev pub functions : Signature → List Symbol
-functions g = select (λ (f : Symbol). isFunction (f .kind)) g
 
 -- settled: no function has arity above 0, and high is at least the number of constants; low is not looked at
 unfoldable pub settled : Problem → ℕ → ℕ → Bool

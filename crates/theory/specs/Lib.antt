@@ -15,6 +15,8 @@ pub mod Refusals
 pub mod Lines
 pub mod Grammar
 pub mod Problem
+pub mod WellFormed
+pub mod SheetText
 pub mod CaseText
 pub mod Least
 pub mod Walk

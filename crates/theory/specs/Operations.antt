@@ -1,21 +1,20 @@
 -- The five operations: what each call answers, and what every lent byte and number is afterwards.
 use Prim.Native.Nat.{ℕ}
-use mathlib.Core.Bool.{Bool, true, false, _&&_}
+use mathlib.Core.Bool.{Bool, _&&_}
 use mathlib.Core.Option.{Option, none, some}
-use mathlib.Core.List.{List, [], _∷_, _++_, map}
+use mathlib.Core.List.{List, _++_}
 use lib.Dec.{leb}
 use lib.ListN.{length, drop, replicate}
-use Rattle.theory.specs.Lists.{select}
-use Rattle.theory.specs.Syntax.{isPredicate, Symbol}
+use Rattle.theory.specs.Syntax.{functions, predicates}
 use Rattle.theory.specs.Cells.{isModel}
 use Rattle.theory.specs.Propositional.{propCount}
 use Rattle.theory.specs.PropClauses.{propClauses, instanceCount, workNeeded}
 use Rattle.theory.specs.Dimacs.{dimacs}
 use Rattle.theory.specs.Valuation.{isValuation, isFunctional, readBack}
-use Rattle.theory.specs.Refusals.{Refusal, Answer, answer, refused, unplaced, needing, _>>=_, check}
+use Rattle.theory.specs.Refusals.{Answer, answer, refused, unplaced, needing, _>>=_, check}
 use Rattle.theory.specs.Problem.{Problem, readProblem}
 use Rattle.theory.specs.CaseText.{Case, caseText, caseLength, readCase}
-use Rattle.theory.specs.Least.{functions, smallestModel, settled}
+use Rattle.theory.specs.Least.{smallestModel, settled}
 
 -- the largest domain size
 abbrev pub maxSize : ℕ
@@ -40,7 +39,7 @@ abbrev pub counts : Problem → Counts
 counts p =
     record {
       functions = length (functions (p .symbols));
-      predicates = length (select (λ (f : Symbol). isPredicate (f .kind)) (p .symbols));
+      predicates = length (predicates (p .symbols));
       clauses = length (p .clauses);
     }
 

@@ -19,9 +19,13 @@ pub data Answer (A : Type 0) : Type 0 where
   answer : A → Answer A
   refused : Refusal → Answer A
 
+-- refusal n at a place
+abbrev pub atPlace : ℕ → Place → Refusal
+atPlace n p = record { number = n; place = p; needed = 0 }
+
 -- refusal n at line l, no column named
 abbrev pub atLine : ℕ → ℕ → Refusal
-atLine n l = record { number = n; place = record { line = l; column = 0 }; needed = 0 }
+atLine n l = atPlace n (record { line = l; column = 0 })
 
 -- refusal n without a line
 abbrev pub unplaced : ℕ → Refusal

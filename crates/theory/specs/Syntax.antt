@@ -1,10 +1,10 @@
 -- Symbols, terms, literals and clauses. A symbol is meant by its place in the signature, a variable by its letter's number.
-use Prim.Native.Nat.{ℕ, zero, suc}
+use Prim.Native.Nat.{ℕ, suc}
 use mathlib.Core.Bool.{Bool, true, false, _&&_}
 use mathlib.Core.List.{List, [], _∷_, _++_}
 use lib.Dec.{eqb, ltb}
 use lib.ListN.{length, getD}
-use Rattle.theory.specs.Lists.{all, concatMap, distinct}
+use Rattle.theory.specs.Lists.{all, concatMap, distinct, select}
 
 -- a symbol is a function or a predicate
 pub data Kind : Type 0 where
@@ -37,6 +37,13 @@ noSymbol = record { kind = predicate; name = []; arity = 0 }
 -- the symbol at a place
 abbrev pub symbolAt : Signature → ℕ → Symbol
 symbolAt g i = getD g i noSymbol
+
+-- the functions, and the predicates, of a signature in its order
+abbrev pub functions : Signature → List Symbol
+functions g = select (λ (f : Symbol). isFunction (f .kind)) g
+
+abbrev pub predicates : Signature → List Symbol
+predicates g = select (λ (f : Symbol). isPredicate (f .kind)) g
 
 -- A term is a variable, or a function followed by terms.
 mutual

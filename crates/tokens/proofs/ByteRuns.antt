@@ -1,5 +1,5 @@
 -- Runs of bytes that pass a test, byte by byte; the first byte of what is left of a text.
-use Prim.Native.Nat.{ℕ, zero, suc, _+_, _-_, _≤_, _<_}
+use Prim.Native.Nat.{ℕ, suc, _+_, _-_, _≤_, _<_}
 use mathlib.Core.Path.{_≡_, refl, sym, ap, _∙_}
 use mathlib.Core.Bool.{Bool, true, false, _&&_, _||_}
 use mathlib.Core.List.{List, [], _∷_}
@@ -12,14 +12,6 @@ use borrow.Author.Tests.{eq-eqb, ne-eqb}
 use Rattle.tptp.specs.Tokens.{run, startsWith}
 
 module _ (p : ℕ → Bool) where
-  pub run-within : (bs : List ℕ) → run p bs ≤ length bs
-  run-within [] = omega arith
-  run-within (b ∷ bs) = go (p b) (run-within bs)
-    where
-      go : (q : Bool) → run p bs ≤ length bs → (elim q as (λ _. ℕ) [ true ↦ suc (run p bs) | false ↦ 0 ]) ≤ suc (length bs)
-      go true h = omega arith
-      go false h = omega arith
-
   module _ (text : List ℕ) where
     pub starts-here : (at : ℕ) → at < length text → startsWith p (drop at text) ≡ p (getD text at 0)
     starts-here at h = ap (startsWith p) (drop-cons text at 0 h)

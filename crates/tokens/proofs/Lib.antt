@@ -1,6 +1,5 @@
 pub mod ByteRuns
 pub mod CommentEnds
-pub mod PieceSizes
 pub mod NumberLengths
 pub mod PieceStarts
 pub mod NextPieces

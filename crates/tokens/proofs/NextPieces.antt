@@ -1,7 +1,6 @@
 -- The tokens of a text from a place on, by the piece that begins there.
-use Prim.Native.Nat.{ℕ, zero, suc, _+_, _-_, _≤_, _<_}
+use Prim.Native.Nat.{ℕ, suc, _+_, _-_, _≤_, _<_}
 use mathlib.Core.Path.{_≡_, refl, sym, ap, _∙_, subst}
-use mathlib.Core.Bool.{Bool, true, false}
 use mathlib.Core.List.{List, [], _∷_, _++_}
 use native.Mathlib.Omega.{arith}
 use lib.ListN.{length, getD, take, drop, length-drop, drop-of-length-le}
@@ -9,12 +8,11 @@ use lib.Seq.{drop-cons, drop-drop}
 use Rattle.text.specs.Lines.{part}
 use Rattle.tptp.specs.Tokens.{Piece, gap, token, unclosed, TokenKind, openComment, TptpToken, pieceOf, pieceTokens, moreBytes, tokensFrom}
 use Rattle.tptp.proofs.Stepping.{next-piece}
-use Rattle.tokens.proofs.PieceSizes.{Sized, piece-sized}
-use Rattle.tokens.specs.NextTokens.{tokensAt, tokenIn, NextFound}
+use Rattle.tptp.proofs.PieceSizes.{Sized, piece-sized}
+use Rattle.tokens.specs.NextTokens.{tokensAt, NextFound}
 use Rattle.tokens.specs.Pieces.{kindIn}
 use Rattle.tokens.specs.declared.pieces.Kind.{Kind}
 use Rattle.tokens.specs.declared.pieces.Kind.the-variants.{OpenComment}
-use Rattle.tokens.specs.declared.next.NextToken.{NextToken}
 use Rattle.tokens.specs.declared.next.NextToken.the-variants.{Is, End}
 
 -- a token in front of others

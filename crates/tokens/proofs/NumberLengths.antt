@@ -1,8 +1,8 @@
 -- What makes digits a rational or a real, from a place of a text on.
-use Prim.Native.Nat.{ℕ, zero, suc, _+_, _-_, _≤_, _<_}
-use mathlib.Core.Path.{_≡_, refl, sym, ap, _∙_}
+use Prim.Native.Nat.{ℕ, suc, _+_, _≤_, _<_}
+use mathlib.Core.Path.{_≡_, sym, ap, _∙_}
 use mathlib.Core.Bool.{Bool, true, false, cond, not, _&&_, _||_}
-use mathlib.Core.List.{List, [], _∷_}
+use mathlib.Core.List.{List, _∷_}
 use native.Mathlib.Numerals.{add-one}
 use native.Mathlib.Omega.{arith}
 use lib.Dec.{eqb}
@@ -10,8 +10,7 @@ use lib.ListN.{length, getD, drop, length-drop, drop-of-length-le}
 use lib.Seq.{drop-cons, drop-drop}
 use Rattle.theory.specs.Bytes.{isDigit}
 use Rattle.tptp.specs.Tokens.{run, startsWith, ratio, fraction, signLength, exponent, numberRest}
-use Rattle.tokens.proofs.ByteRuns.{run-within}
-use Rattle.tokens.proofs.PieceSizes.{fraction-within, number-within, sign-within}
+use Rattle.tptp.proofs.PieceSizes.{number-within, sign-within}
 
 module _ (text : List ℕ) (at : ℕ) where
   next : at < length text → drop at text ≡ getD text at 0 ∷ drop (at + 1) text

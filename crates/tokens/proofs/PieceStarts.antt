@@ -1,9 +1,9 @@
 -- The piece that begins at a place of a text, by its first byte.
-use Prim.Native.Nat.{ℕ, zero, suc, _+_, _-_, _≤_, _<_}
-use mathlib.Core.Path.{_≡_, refl, sym, ap, _∙_}
-use mathlib.Core.Bool.{Bool, true, false, cond, not, _&&_, _||_}
+use Prim.Native.Nat.{ℕ, suc, _+_, _-_, _≤_}
+use mathlib.Core.Path.{_≡_, sym, ap, _∙_}
+use mathlib.Core.Bool.{Bool, false, cond, not, _&&_}
 use mathlib.Core.Option.{Option, none, some}
-use mathlib.Core.List.{List, [], _∷_}
+use mathlib.Core.List.{List}
 use native.Mathlib.Numerals.{add-one}
 use native.Mathlib.Omega.{arith}
 use lib.Dec.{eqb}
@@ -13,9 +13,8 @@ use borrow.Author.Tests.{eq-eqb, ne-eqb}
 use Rattle.theory.specs.Lists.{same}
 use Rattle.theory.specs.Bytes.{bytes, LF, isDigit}
 use Rattle.theory.specs.Problem.{isLower}
-use Rattle.tptp.specs.Tokens.{Piece, gap, token, unclosed, lowerWord, upperWord, digits, falsum, foreign, run, startsWith, isWordByte, isUpper, isBlank, toCommentEnd, numberRest, commentPiece, digitsPiece, dollarPiece, signPiece, pieceOf}
-use Rattle.tokens.proofs.ByteRuns.{run-within}
-use Rattle.tokens.proofs.PieceSizes.{Counted, comment-within}
+use Rattle.tptp.specs.Tokens.{Piece, gap, token, lowerWord, upperWord, digits, falsum, foreign, run, startsWith, isWordByte, isUpper, isBlank, toCommentEnd, numberRest, commentPiece, digitsPiece, dollarPiece, signPiece, pieceOf}
+use Rattle.tptp.proofs.PieceSizes.{run-within, Counted, comment-within}
 
 -- a run lies within the text
 pub run-room : (p : ℕ → Bool) (text : List ℕ) (at r : ℕ) → at ≤ length text → r ≡ run p (drop at text) → at + r ≤ length text

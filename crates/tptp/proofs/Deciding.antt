@@ -1,12 +1,12 @@
 -- Laws for a caller that reads statement by statement: the first fault decides the answer, and each occurrence is judged by the symbols and variables up to itself.
-use Prim.Native.Nat.{ℕ, zero, suc, _+_}
-use mathlib.Core.Path.{_≡_, refl, sym, ap, _∙_, subst}
-use mathlib.Core.Bool.{Bool, true, false, cond, not, _&&_, _||_, false≢true}
-use mathlib.Core.Option.{Option, none, some, Option·some-injective}
-use mathlib.Core.List.{List, [], _∷_, _++_, map, append-assoc, append-nil}
+use Prim.Native.Nat.{ℕ, suc, _+_}
+use mathlib.Core.Path.{_≡_, refl, sym, ap, _∙_}
+use mathlib.Core.Bool.{Bool, true, false, cond, not}
+use mathlib.Core.Option.{Option, none, some}
+use mathlib.Core.List.{List, [], _∷_, _++_, append-assoc, append-nil}
 use native.Mathlib.Omega.{arith}
 use native.Mathlib.Nat.{add-zero}
-use lib.Dec.{eqb, ltb, leb}
+use lib.Dec.{ltb, leb}
 use lib.ListN.{length}
 use Rattle.theory.specs.Lists.{any, all, same, concatMap, placeThat}
 use Rattle.theory.specs.Syntax.{Symbol, Signature}
@@ -18,9 +18,8 @@ use Rattle.theory.proofs.Tests.{or-left, or-right}
 use Rattle.theory.proofs.Lists.{any-append, same-refl, all-imply}
 use Rattle.theory.proofs.Finding.{any→placeThat, placeThat-append}
 use Rattle.tptp.specs.Places.{refusedAt}
-use Rattle.tptp.specs.Trees.{Name, NameClause, Statement}
-use Rattle.tptp.specs.Symbols.{Occurrence, ofVariable, ofSymbol, clauseOccurrences, declares, names, firstOfName, signatureOf, variablesOf, orZero, letterOfName, clauseOver, problemOf}
-use Rattle.tptp.specs.SheetText.{sheetText}
+use Rattle.tptp.specs.Trees.{Statement}
+use Rattle.tptp.specs.Symbols.{Occurrence, ofVariable, ofSymbol, clauseOccurrences, declares, names, firstOfName, signatureOf, variablesOf, orZero, letterOfName, clauseOver}
 use Rattle.tptp.specs.Tptp.{File, readFile, clausesOfFile, Fault, faultIf, occurrenceFaults, statementFaults, faultsFrom, foreignFault, faults, sheetIn, tptpText}
 use Rattle.tptp.specs.Claims.Order.{firstFault, declaredBy, signatureBy, firstFaultFrom}
 use Rattle.tptp.specs.Claims.Deciding.{sheetOf, firstOfStatements, lastFault, declaredIn, firstOfOccurrences}
@@ -117,7 +116,7 @@ letter-so-far U W x h =
     ap orZero (ap (placeThat (same x)) (r .1) ∙ placeThat-append (same x) (firstOfName (λ y. y) U) (r .0) (p .0) (p .1) ∙ sym (p .1))
 
 -- a name stands in a list that it ends
-here : (x : List ℕ) (U : List (List ℕ)) → any (same x) (U ++ (x ∷ [])) ≡ true
+pub here : (x : List ℕ) (U : List (List ℕ)) → any (same x) (U ++ (x ∷ [])) ≡ true
 here x U = any-append (same x) U (x ∷ []) ∙ or-right (any (same x) U) (any (same x) (x ∷ [])) (or-left (same x x) false (same-refl x))
 
 -- an occurrence has the same faults where more symbols and variables are known

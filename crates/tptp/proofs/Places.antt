@@ -1,31 +1,31 @@
 -- Places of 15.
-use Prim.Native.Nat.{ℕ, zero, suc, _+_}
-use mathlib.Core.Path.{_≡_, refl, sym, ap, _∙_, subst}
+use Prim.Native.Nat.{ℕ, suc}
+use mathlib.Core.Path.{_≡_, refl, sym, ap, _∙_}
 use mathlib.Core.Logic.{_⊎_, inl, inr}
-use mathlib.Core.Bool.{Bool, true, false, cond, not, _&&_, _||_, true≢false, false≢true}
+use mathlib.Core.Bool.{Bool, true, false, cond, not, _||_, false≢true}
 use mathlib.Core.Option.{Option, none, some, Option·some-injective}
 use mathlib.Core.List.{List, [], _∷_, _++_}
 use native.Mathlib.Omega.{arith}
 use lib.Dec.{eqb, ltb, leb}
 use lib.ListN.{length}
 use Rattle.theory.specs.Lists.{all, concatMap}
-use Rattle.theory.specs.Bytes.{bytes}
 use Rattle.theory.specs.Syntax.{Signature, symbolAt}
 use Rattle.theory.specs.Grammar as words
 use Rattle.theory.specs.Problem.{isName, withinLimits}
-use Rattle.theory.specs.Refusals.{Answer, answer, refused}
-use Rattle.theory.proofs.Tests.{and-left, and-right, and-join, eqb-of-≡}
+use Rattle.theory.specs.Refusals.{Refusal, Answer, answer, refused, needing}
+use Rattle.theory.proofs.Tests.{and-left, and-join, eqb-of-≡}
 use Rattle.theory.proofs.Lists.{all-concatMap, all-every}
 use Rattle.theory.proofs.Lists as lists
-use Rattle.tptp.specs.Places.{refusedAt, placeOf}
-use Rattle.tptp.specs.Tokens.{TokenKind, lowerWord, falsum, leftParen, rightParen, comma, fullStop, equalSign, TptpToken, is, tokens}
-use Rattle.tptp.specs.Grammar.{Side, first, second, DueToken, statement, opening, name, nameComma, role, roleComma, clause, literal, literalEnd, term, wordEnd, termEnd, equality, closing, stop, dueAfterToken, mayEnd}
+use Rattle.tptp.specs.Places.{refusedAt}
+use Rattle.tptp.specs.Tokens.{fullStop, TptpToken, is, tokensFrom, tokens}
+use Rattle.tptp.specs.Grammar.{DueToken, statement, dueAfterToken, mayEnd}
 use Rattle.tptp.specs.Trees.{Statement, statementOf}
 use Rattle.tptp.specs.Symbols.{Occurrence, ofVariable, ofSymbol, clauseOccurrences, signatureOf, variablesOf, letterOfName, symbolOfName, clauseOver, problemOf}
-use Rattle.tptp.specs.SheetText.{sheetText}
-use Rattle.tptp.specs.Tptp.{File, foreignAt, withStatement, fileFrom, readFile, clausesOfFile, Fault, faultIf, sameSymbolKind, placeInKind, occurrenceFaults, statementFaults, faultsFrom, foreignFault, faults, sheetIn, tptpText}
+use Rattle.theory.specs.SheetText.{sheetText}
+use Rattle.tptp.specs.Tptp.{File, foreignAt, withStatement, fileFrom, readFile, clausesOfFile, Fault, faultIf, sameSymbolKind, placeInKind, occurrenceFaults, faultsFrom, foreignFault, faults, sheetIn, tptpText}
 use Rattle.tptp.specs.Claims.Places.{dueAfterTokens, Misplaced, AtToken, AtEnd}
 use Rattle.tptp.specs.Claims.Places as claims
+use Rattle.tptp.proofs.Finishing.{finish, finishes}
 
 -- the file from a token on, by what the token leaves due
 abbrev pub going : ℕ → TptpToken → List TptpToken → List TptpToken → Option DueToken → File
@@ -39,7 +39,7 @@ all-step : (d e : DueToken) (t : TptpToken) (ts : List TptpToken) → dueAfterTo
 all-step d e t ts h = ap (λ (o : Option DueToken). elim o as (λ _. Option DueToken) [ some e ↦ dueAfterTokens e ts | none ↦ none ]) h
 
 -- one more token after others
-all-append : (a c : List TptpToken) (d e : DueToken) → dueAfterTokens d a ≡ some e → dueAfterTokens d (a ++ c) ≡ dueAfterTokens e c
+pub all-append : (a c : List TptpToken) (d e : DueToken) → dueAfterTokens d a ≡ some e → dueAfterTokens d (a ++ c) ≡ dueAfterTokens e c
 all-append [] c d e h = ap (λ (d : DueToken). dueAfterTokens d c) (Option·some-injective d e h)
 all-append (t ∷ a) c d e h = go (dueAfterToken d t) refl h (λ f k. all-append a c f e k)
   where
@@ -109,64 +109,6 @@ first-misplaced (t ∷ ts) d = go (dueAfterToken d t) refl (λ f. first-misplace
     go none q ih = inr ([], t, ts, d, refl, refl, q)
     go (some f) q ih = more f q (ih f)
 
--- a token for completing
-abbrev tok : TokenKind → TptpToken
-tok k = record { kind = k; name = bytes "a"; place = 0 }
-
--- the end of a clause and its statement, after a literal
-abbrev closeClause : Bool → List TptpToken
-closeClause true = tok rightParen ∷ tok rightParen ∷ tok fullStop ∷ []
-closeClause false = tok rightParen ∷ tok fullStop ∷ []
-
--- the end of n argument lists before it
-abbrev closeLists : ℕ → Bool → List TptpToken
-closeLists zero b = closeClause b
-closeLists (suc n) b = tok rightParen ∷ closeLists n b
-
-literal-closed : (b : Bool) → dueAfterTokens (literalEnd b) (closeClause b) ≡ some statement
-unfolding dueAfterToken
-literal-closed true = refl
-literal-closed false = refl
-
-term-closed : (n : ℕ) (b : Bool) (s : Side) → dueAfterTokens (termEnd b s n) (closeLists n b) ≡ some statement
-unfolding dueAfterToken
-term-closed zero true (first true) = refl
-term-closed zero true (first false) = refl
-term-closed zero true second = refl
-term-closed zero false (first true) = refl
-term-closed zero false (first false) = refl
-term-closed zero false second = refl
-term-closed (suc n) b s = term-closed n b s
-
-word-closed : (n : ℕ) (b : Bool) (s : Side) → dueAfterTokens (wordEnd b s n) (closeLists n b) ≡ some statement
-unfolding dueAfterToken
-word-closed zero true (first true) = refl
-word-closed zero true (first false) = refl
-word-closed zero true second = refl
-word-closed zero false (first true) = refl
-word-closed zero false (first false) = refl
-word-closed zero false second = refl
-word-closed (suc n) b s = term-closed n b s
-
-complete : (d : DueToken) → (c : List TptpToken) × (dueAfterTokens d c ≡ some statement)
-unfolding dueAfterToken
-complete statement = ([], refl)
-complete opening = (tok leftParen ∷ tok lowerWord ∷ tok comma ∷ tok lowerWord ∷ tok comma ∷ tok falsum ∷ closeClause false, refl)
-complete name = (tok lowerWord ∷ tok comma ∷ tok lowerWord ∷ tok comma ∷ tok falsum ∷ closeClause false, refl)
-complete nameComma = (tok comma ∷ tok lowerWord ∷ tok comma ∷ tok falsum ∷ closeClause false, refl)
-complete role = (tok lowerWord ∷ tok comma ∷ tok falsum ∷ closeClause false, refl)
-complete roleComma = (tok comma ∷ tok falsum ∷ closeClause false, refl)
-complete clause = (tok falsum ∷ closeClause false, refl)
-complete (literal b) = (tok falsum ∷ closeClause b, literal-closed b)
-complete (literalEnd b) = (closeClause b, literal-closed b)
-complete (term b s n) = (tok lowerWord ∷ closeLists n b, word-closed n b s)
-complete (wordEnd b s n) = (closeLists n b, word-closed n b s)
-complete (termEnd b s n) = (closeLists n b, term-closed n b s)
-complete (equality b true) = (tok equalSign ∷ tok lowerWord ∷ closeLists 0 b, word-closed 0 b second)
-complete (equality b false) = (tok equalSign ∷ tok lowerWord ∷ closeLists 0 b, word-closed 0 b second)
-complete closing = (tok rightParen ∷ tok fullStop ∷ [], refl)
-complete stop = (tok fullStop ∷ [], refl)
-
 -- the faults of a file in a text of n bytes
 abbrev faultsOf : ℕ → File → List Fault
 faultsOf n f =
@@ -206,17 +148,25 @@ faults-not15 g i (s ∷ ss) =
     (if-not15 (not (withinLimits (words.clauseWords c) c)) 17 (s .stop) refl)))
     (faults-not15 g (suc i) ss)
 
-numberOf : {A : Type 0} → Answer A → ℕ
+abbrev numberOf : {A : Type 0} → Answer A → ℕ
 numberOf (answer a) = 0
 numberOf (refused r) = r .number
 
 -- the first fault is the 15 exactly where statements have none
-no-earlier : (text sheet : List ℕ) (room p : ℕ) (xs ys : List Fault) → all not15 xs ≡ true → sheetIn text (xs ++ ys) sheet room ≡ refusedAt text 15 p → xs ≡ []
-unfolding numberOf
-no-earlier text sheet room p [] ys h e = refl
-no-earlier text sheet room p (x ∷ xs) ys h e =
-    let q : x .number ≡ 15 = ap numberOf e in
-    absurd (false≢true (ap not (sym (eqb-of-≡ (x .number) 15 q)) ∙ and-left (not15 x) (all not15 xs) h))
+no-earlier : (text sheet : List ℕ) (room : ℕ) (xs ys : List Fault) → all not15 xs ≡ true → numberOf (sheetIn text (xs ++ ys) sheet room) ≡ 15 → xs ≡ []
+no-earlier text sheet room [] ys h e = refl
+no-earlier text sheet room (x ∷ xs) ys h e = absurd (false≢true (ap not (sym (eqb-of-≡ (x .number) 15 e)) ∙ and-left (not15 x) (all not15 xs) h))
+
+-- where statements have none, a 15 is that of the text
+then-foreign : (text sheet : List ℕ) (room : ℕ) (o : Option ℕ) (b : Bool) (n : ℕ) → numberOf (sheetIn text (foreignFault o ++ faultIf b 17 n) sheet room) ≡ 15
+    → (p : ℕ) × (o ≡ some p) × (sheetIn text (foreignFault o ++ faultIf b 17 n) sheet room ≡ refusedAt text 15 p)
+then-foreign text sheet room (some p) b n e = (p, refl, refl)
+then-foreign text sheet room none true n e = absurd (omega (arith, e))
+then-foreign text sheet room none false n e = absurd (go (leb (length sheet) room) e)
+  where
+    go : (q : Bool) → numberOf (cond q (answer sheet) (refused (needing 11 (length sheet)))) ≡ 15 → ⊥
+    go true e = omega (arith, e)
+    go false e = omega (arith, e)
 
 faults-of : (text : List ℕ) → faults text ≡ faultsOf (length text) (readFile text)
 unfolding faults
@@ -226,6 +176,21 @@ first-15 : (text sheet : List ℕ) (room n p : ℕ) (f : File) → faultsFrom (s
 first-15 text sheet room n p f h k =
     let last : List Fault = faultIf (ltb 16384 (length (sheetText (problemOf (clausesOfFile f))))) 17 n in
     ap (λ (l : List Fault). sheetIn text (l ++ (foreignFault (f .foreign) ++ last)) sheet room) h ∙ ap (λ (o : Option ℕ). sheetIn text (foreignFault o ++ last) sheet room) k
+
+-- an answer 15 is the 15 of the text
+pub at-foreign : (text : List ℕ) (room : ℕ) (r : Refusal) → tptpText text room ≡ refused r → r .number ≡ 15 → (p : ℕ) × (readFile text .foreign ≡ some p) × (tptpText text room ≡ refusedAt text 15 p)
+unfolding tptpText
+at-foreign text room r h k =
+    let f : File = readFile text in
+    let s : List ℕ = sheetText (problemOf (clausesOfFile f)) in
+    let xs : List Fault = faultsFrom (signatureOf (clausesOfFile f)) 0 (f .statements) in
+    let last : Bool = ltb 16384 (length s) in
+    let ys : List Fault = foreignFault (f .foreign) ++ faultIf last 17 (length text) in
+    let number : numberOf (sheetIn text (xs ++ ys) s room) ≡ 15 = ap (λ (l : List Fault). numberOf (sheetIn text l s room)) (sym (faults-of text)) ∙ ap numberOf h ∙ k in
+    let z : xs ≡ [] = no-earlier text s room xs ys (faults-not15 (signatureOf (clausesOfFile f)) 0 (f .statements)) number in
+    let e : sheetIn text (xs ++ ys) s room ≡ sheetIn text ys s room = ap (λ (l : List Fault). sheetIn text (l ++ ys) s room) z in
+    let q = then-foreign text s room (f .foreign) last (length text) (sym (ap numberOf e) ∙ number) in
+    (q .0, q .1, ap (λ (l : List Fault). sheetIn text l s room) (faults-of text) ∙ e ∙ q .2)
 
 pub stays : (text : List ℕ) (a b : List TptpToken) (t : TptpToken) → tokens text ≡ a ++ (t ∷ b) → Misplaced a t → readFile text .foreign ≡ some (t .place)
 unfolding readFile
@@ -239,7 +204,7 @@ same-file text text′ a b b′ t e e′ m =
     ∙ stays-from (length text) (length text′) a b b′ t [] statement (m .0) (m .1) (m .2) .0
     ∙ sym (ap (λ (ts : List TptpToken). fileFrom (length text′) ts [] statement) e′)
 
-answer-stays : (text text′ : List ℕ) (room room′ : ℕ) (a b b′ : List TptpToken) (t : TptpToken) → tokens text ≡ a ++ (t ∷ b) → tokens text′ ≡ a ++ (t ∷ b′) → Misplaced a t
+pub answer-stays : (text text′ : List ℕ) (room room′ : ℕ) (a b b′ : List TptpToken) (t : TptpToken) → tokens text ≡ a ++ (t ∷ b) → tokens text′ ≡ a ++ (t ∷ b′) → Misplaced a t
     → tptpText text room ≡ refusedAt text 15 (t .place) → tptpText text′ room′ ≡ refusedAt text′ 15 (t .place)
 unfolding tptpText
 answer-stays text text′ room room′ a b b′ t e e′ m h =
@@ -248,8 +213,8 @@ answer-stays text text′ room room′ a b b′ t e e′ m h =
     let s : List ℕ = sheetText (problemOf (clausesOfFile f)) in
     let s′ : List ℕ = sheetText (problemOf (clausesOfFile f′)) in
     let none-before : faultsFrom (signatureOf (clausesOfFile f)) 0 (f .statements) ≡ [] =
-    no-earlier text s room (t .place) (faultsFrom (signatureOf (clausesOfFile f)) 0 (f .statements)) (foreignFault (f .foreign) ++ faultIf (ltb 16384 (length s)) 17 (length text))
-    (faults-not15 (signatureOf (clausesOfFile f)) 0 (f .statements)) (ap (λ (l : List Fault). sheetIn text l s room) (sym (faults-of text)) ∙ h) in
+    no-earlier text s room (faultsFrom (signatureOf (clausesOfFile f)) 0 (f .statements)) (foreignFault (f .foreign) ++ faultIf (ltb 16384 (length s)) 17 (length text))
+    (faults-not15 (signatureOf (clausesOfFile f)) 0 (f .statements)) (ap (λ (l : List Fault). numberOf (sheetIn text l s room)) (sym (faults-of text)) ∙ ap numberOf h) in
     ap (λ (l : List Fault). sheetIn text′ l s′ room′) (faults-of text′)
     ∙ first-15 text′ s′ room′ (length text′) (t .place) f′ (ap (λ (f : File). faultsFrom (signatureOf (clausesOfFile f)) 0 (f .statements)) (sym (same-file text text′ a b b′ t e e′ m)) ∙ none-before)
     (stays text′ a b′ t e′ m)
@@ -258,7 +223,7 @@ pub ends : (text : List ℕ) (e : DueToken) → dueAfterTokens statement (tokens
 unfolding readFile
 ends text e h = ends-from (length text) (tokens text) [] statement e h
 
-where-it-is : (text : List ℕ) (p : ℕ) → readFile text .foreign ≡ some p → AtToken text p ⊎ AtEnd text p
+pub where-it-is : (text : List ℕ) (p : ℕ) → readFile text .foreign ≡ some p → AtToken text p ⊎ AtEnd text p
 where-it-is text p h = go (first-misplaced (tokens text) statement)
   where
     at-end : (e : DueToken) (b : Bool) → mayEnd e ≡ b → dueAfterTokens statement (tokens text) ≡ some e → cond b none (some (length text)) ≡ some p → AtEnd text p
@@ -281,5 +246,5 @@ places =
       answer-stays = answer-stays;
       missing = λ text d h k. ends text d h ∙ ap (λ (b : Bool). cond b none (some (length text))) k;
       finished = λ text d h k. ends text d h ∙ ap (λ (b : Bool). cond b none (some (length text))) k;
-      completed = λ a d h. (complete d .0, all-append a (complete d .0) statement d h ∙ complete d .1);
+      completed = λ a d h. (tokensFrom (finish d) 0 0, all-append a (tokensFrom (finish d) 0 0) statement d h ∙ finishes d 0);
     }

@@ -286,7 +286,7 @@ layout p o r us c = go (c .0) (c .2) (c .3)
         ∙ sym (append-assoc clauses (sign rightParen ∷ sign fullStop ∷ []) (following ls)) in
         (made false l ks ∷ ls, ap header (h ∙ shape))
 
-cnf-shown : (t : TptpToken) → isCnf t ≡ true → item t ≡ lower (record { bytes = bytes "cnf"; place = t .place })
+pub cnf-shown : (t : TptpToken) → isCnf t ≡ true → item t ≡ lower (record { bytes = bytes "cnf"; place = t .place })
 cnf-shown t h =
     shows lowerWord t (and-left (is lowerWord t) (same (t .name) (bytes "cnf")) h)
     ∙ ap (λ (w : List ℕ). lower (record { bytes = w; place = t .place })) (same-true (t .name) (bytes "cnf") (and-right (is lowerWord t) (same (t .name) (bytes "cnf")) h))
@@ -355,6 +355,9 @@ rest (t ∷ ts) d h = go (dueAfterToken d t) refl h (λ e k. rest ts e k)
     go none q h ih = let z : _≡_ {A = ℕ} 0 1 = cc in absurd (omega arith)
     go (some e) q h ih = step d e t (map item ts) (chosen d e t q) (ih e h)
 
+pub shown-statements : (ts : List TptpToken) → dueAfterTokens statement ts ≡ some statement → (ls : List Layout) × (map item ts ≡ concatMap statementItems ls)
+shown-statements ts h = rest ts statement h
+
 -- only where a statement is due the text may end
 may-end : (d : DueToken) → mayEnd d ≡ true → d ≡ statement
 may-end statement h = refl
@@ -385,7 +388,7 @@ written text h = go (first-misplaced (tokens text) statement)
         → (ls : List Layout) × (map item (tokens text) ≡ concatMap statementItems ls)
     go (inl r) =
         let m : mayEnd (r .0) ≡ true = ended (r .0) (mayEnd (r .0)) refl (sym (ends text (r .0) (r .1)) ∙ h) in
-        rest (tokens text) statement (r .1 ∙ ap {B = Option DueToken} some (may-end (r .0) m))
+        shown-statements (tokens text) (r .1 ∙ ap {B = Option DueToken} some (may-end (r .0) m))
     go (inr r) =
         let q : _≡_ {A = Option ℕ} (some (r .1 .place)) none = sym (stays text (r .0) (r .2) (r .1) (r .4) (r .3, r .5, r .6)) ∙ h in
         let z : _≡_ {A = ℕ} 0 1 = cc in

@@ -1,28 +1,29 @@
 -- A symbol's entry and place do not change when more clauses come: faults of 16 and 17 can be told by the symbols so far.
-use Prim.Native.Nat.{ℕ, zero, suc, _+_, _≤_, _<_}
+use Prim.Native.Nat.{ℕ, zero, suc, _+_, _<_}
 use mathlib.Core.Path.{_≡_, refl, sym, ap, _∙_, subst}
 use mathlib.Core.Logic.{_⊎_, inl, inr}
 use mathlib.Core.Bool.{Bool, true, false, cond, not, _&&_, _||_, false≢true}
-use mathlib.Core.Option.{Option, none, some}
-use mathlib.Core.List.{List, [], _∷_, _++_, append-assoc}
+use mathlib.Core.Option.{Option, some}
+use mathlib.Core.List.{List, [], _∷_, _++_}
 use native.Mathlib.Omega.{arith}
 use lib.Dec.{eqb, ltb, leb}
-use lib.ListN.{length, getD, length-append, List·getD-append}
-use Rattle.theory.specs.Lists.{any, all, same, select, concatMap}
-use Rattle.theory.specs.Syntax.{Kind, function, predicate, isFunction, isPredicate, Symbol, Signature, noSymbol, symbolAt}
+use lib.ListN.{length, length-append, List·getD-append}
+use Rattle.theory.specs.Lists.{all, same, select, concatMap}
+use Rattle.theory.specs.Syntax.{Kind, function, predicate, isFunction, isPredicate, Symbol, Signature, noSymbol, symbolAt, functions, predicates}
 use Rattle.theory.specs.Problem.{isName, isNamed, placeOfName, withinLimits}
-use Rattle.theory.proofs.Tests.{true-or-false, both-false, and-left, and-right, or-left, or-right, or-false-join, or-false-left, or-false-right}
-use Rattle.theory.proofs.Lists.{any-append, same-refl, same-true, concatMap-append}
+use Rattle.theory.proofs.Tests.{true-or-false, and-left, and-right, or-false-join, or-false-right}
+use Rattle.theory.proofs.Lists.{any-append, same-refl, same-true}
 use Rattle.theory.proofs.Finding.{any→placeThat, any→placeThat-none, placeThat-append}
-use Rattle.theory.proofs.Names.{NamesDiffer, named-place}
+use Rattle.theory.proofs.Names.{named-place}
 use Rattle.theory.specs.Syntax as sheet
 use Rattle.theory.specs.Grammar as words
-use Rattle.tptp.specs.Trees.{Name, NameTerm, nameVariable, nameApply, NameTerms, noTerms, termAnd, NameAtom, nameHolds, nameEqual, NameLiteral, never, plain, tilded, unequal, NameClause}
-use Rattle.tptp.specs.Symbols.{Occurrence, ofVariable, ofSymbol, termOccurrences, termsOccurrences, atomOccurrences, literalOccurrences, clauseOccurrences, variablesOf, termOver, termsOver, atomOver, literalAsWritten, clauseOver, declares, declared, firstOfName, functionsOf, predicatesOf, signatureOf, orZero, symbolOfName}
+use Rattle.theory.specs.WellFormed.{NamesDiffer}
+use Rattle.tptp.specs.Trees.{NameTerm, nameVariable, nameApply, NameTerms, noTerms, termAnd, NameAtom, nameHolds, nameEqual, NameLiteral, never, plain, tilded, unequal, NameClause}
+use Rattle.tptp.specs.Symbols.{Occurrence, ofVariable, ofSymbol, termOccurrences, termsOccurrences, atomOccurrences, literalOccurrences, clauseOccurrences, variablesOf, termOver, termsOver, atomOver, literalAsWritten, clauseOver, declares, firstOfName, orZero, symbolOfName}
 use Rattle.tptp.specs.Tptp.{placeInKind, occurrenceFaults, faultIf, sameSymbolKind, Fault}
 use Rattle.tptp.specs.Claims.Order.{signatureBy}
-use Rattle.tptp.proofs.SheetWords.{place-of-name}
-use Rattle.tptp.proofs.SheetRead.{select-all, select-none, function-only, predicate-only}
+use Rattle.theory.proofs.SheetWords.{place-of-name}
+use Rattle.theory.proofs.SheetRead.{select-all, select-none, function-only, predicate-only}
 use Rattle.tptp.proofs.Models.{first-has}
 use Rattle.tptp.proofs.Skeletons.{blankAtom, skeleton, limits-same}
 use Rattle.tptp.proofs.Fresh.{select-passes, Fresh, select-unnamed, first-fresh, parts-fresh, fresh-differ}
@@ -61,14 +62,14 @@ at-right [] ys j = let e : 0 + j ≡ j = omega arith in ap (symbolAt ys) e
 at-right (x ∷ xs) ys j = let e : suc (length xs) + j ≡ suc (length xs + j) = omega arith in ap (symbolAt (x ∷ (xs ++ ys))) e ∙ at-right xs ys j
 
 -- functions before predicates have the same elements
-parts-member : (fs : List Symbol) (i : ℕ) → i < length fs → (j : ℕ) × (j < length (functionsOf fs ++ predicatesOf fs)) × (symbolAt (functionsOf fs ++ predicatesOf fs) j ≡ symbolAt fs i)
+parts-member : (fs : List Symbol) (i : ℕ) → i < length fs → (j : ℕ) × (j < length (functions fs ++ predicates fs)) × (symbolAt (functions fs ++ predicates fs) j ≡ symbolAt fs i)
 parts-member fs i lt = go (symbolAt fs i .kind) refl
   where
     F : List Symbol
-    F = functionsOf fs
+    F = functions fs
 
     P : List Symbol
-    P = predicatesOf fs
+    P = predicates fs
 
     n : length (F ++ P) ≡ length F + length P
     n = length-append F P
@@ -92,10 +93,10 @@ entry-at g d w j lt e = ap (λ (u : List ℕ). entry g u) e ∙ ap (λ (o : Opti
 -- in a list of first symbols A and in a longer one A ++ Z: the same entry
 module _ (A Z : List Symbol) (fresh : Fresh (A ++ Z)) (freshA : Fresh A) (w : List ℕ) (named : isNamed w A ≡ true) where
   abbrev small : Signature
-  small = functionsOf A ++ predicatesOf A
+  small = functions A ++ predicates A
 
   abbrev large : Signature
-  large = functionsOf (A ++ Z) ++ predicatesOf (A ++ Z)
+  large = functions (A ++ Z) ++ predicates (A ++ Z)
 
   pub same-entry : entry large w ≡ entry small w
   same-entry =
@@ -140,19 +141,19 @@ module _ (A Z : List Symbol) (fresh : Fresh (A ++ Z)) (freshA : Fresh A) (w : Li
           ap orZero (any→placeThat-none (λ (f : Symbol). same w (f .name)) (F ++ G) both ∙ sym (any→placeThat-none (λ (f : Symbol). same w (f .name)) F h))
 
 -- functions and predicates of a signature so made
-functions-back : (fs : List Symbol) → functionsOf (functionsOf fs ++ predicatesOf fs) ≡ functionsOf fs
+pub functions-back : (fs : List Symbol) → functions (functions fs ++ predicates fs) ≡ functions fs
 functions-back fs =
-    select-all (λ (f : Symbol). isFunction (f .kind)) (functionsOf fs) (predicatesOf fs) (select-passes (λ (f : Symbol). isFunction (f .kind)) fs)
-    (lists.all-imply (λ (f : Symbol). isPredicate (f .kind)) (λ (f : Symbol). not (isFunction (f .kind))) (predicatesOf fs) predicate-only (select-passes (λ (f : Symbol). isPredicate (f .kind)) fs))
+    select-all (λ (f : Symbol). isFunction (f .kind)) (functions fs) (predicates fs) (select-passes (λ (f : Symbol). isFunction (f .kind)) fs)
+    (lists.all-imply (λ (f : Symbol). isPredicate (f .kind)) (λ (f : Symbol). not (isFunction (f .kind))) (predicates fs) predicate-only (select-passes (λ (f : Symbol). isPredicate (f .kind)) fs))
 
-predicates-back : (fs : List Symbol) → predicatesOf (functionsOf fs ++ predicatesOf fs) ≡ predicatesOf fs
+pub predicates-back : (fs : List Symbol) → predicates (functions fs ++ predicates fs) ≡ predicates fs
 predicates-back fs =
-    select-none (λ (f : Symbol). isPredicate (f .kind)) (functionsOf fs) (predicatesOf fs)
-    (lists.all-imply (λ (f : Symbol). isFunction (f .kind)) (λ (f : Symbol). not (isPredicate (f .kind))) (functionsOf fs) function-only (select-passes (λ (f : Symbol). isFunction (f .kind)) fs))
+    select-none (λ (f : Symbol). isPredicate (f .kind)) (functions fs) (predicates fs)
+    (lists.all-imply (λ (f : Symbol). isFunction (f .kind)) (λ (f : Symbol). not (isPredicate (f .kind))) (functions fs) function-only (select-passes (λ (f : Symbol). isFunction (f .kind)) fs))
     (select-passes (λ (f : Symbol). isPredicate (f .kind)) fs)
 
 same-place : (A Z : List Symbol) → Fresh (A ++ Z) → Fresh A → (w : List ℕ) → isNamed w A ≡ true → (k : Kind)
-    → placeInKind (functionsOf (A ++ Z) ++ predicatesOf (A ++ Z)) k w ≡ placeInKind (functionsOf A ++ predicatesOf A) k w
+    → placeInKind (functions (A ++ Z) ++ predicates (A ++ Z)) k w ≡ placeInKind (functions A ++ predicates A) k w
 same-place A Z fr frA w h function =
     ap (λ (l : List Symbol). orZero (placeOfName w l)) (functions-back (A ++ Z)) ∙ kept-place A Z fr frA w h (λ (f : Symbol). isFunction (f .kind))
     ∙ ap (λ (l : List Symbol). orZero (placeOfName w l)) (sym (functions-back A))
@@ -182,8 +183,8 @@ module _ (X Y : List Symbol) where
   fresh-whole : Fresh (A₁ ++ Z₁)
   fresh-whole = subst Fresh whole (first-fresh (X ++ Y))
 
-  made : all-of-it ≡ functionsOf (A₁ ++ Z₁) ++ predicatesOf (A₁ ++ Z₁)
-  made = ap (λ (fs : List Symbol). functionsOf fs ++ predicatesOf fs) whole
+  made : all-of-it ≡ functions (A₁ ++ Z₁) ++ predicates (A₁ ++ Z₁)
+  made = ap (λ (fs : List Symbol). functions fs ++ predicates fs) whole
 
   module _ (w : List ℕ) (h : isNamed w X ≡ true) where
     named-first : isNamed w A₁ ≡ true
@@ -204,15 +205,15 @@ module _ (X Y : List Symbol) where
         let a = parts-member A₁ (r .0) (s .0) in
         let e : entry now w ≡ symbolAt A₁ (r .0) = entry-at now (fresh-differ now (parts-fresh A₁ (first-fresh X))) w (a .0) (a .1) (s .1 ∙ ap (λ (f : Symbol). f .name) (sym (a .2))) ∙ a .2 in
         let m = select-member (λ (f : Symbol). isFunction (f .kind)) A₁ (r .0) (s .0) (ap (λ (f : Symbol). isFunction (f .kind)) (sym e) ∙ fn) in
-        let F : List Symbol = functionsOf A₁ in
+        let F : List Symbol = functions A₁ in
         let inF : isNamed w F ≡ true =
         lists.any-at (λ (f : Symbol). same w (f .name)) noSymbol F (m .0) (m .1) (ap (same w) (ap (λ (f : Symbol). f .name) (m .2) ∙ sym (s .1)) ∙ same-refl w) in
         let p = any→placeThat (λ (f : Symbol). same w (f .name)) F inF in
-        let inNow : placeOfName w now ≡ some (p .0) = placeThat-append (λ (f : Symbol). same w (f .name)) F (predicatesOf A₁) (p .0) (p .1) in
-        let longer : placeOfName w (functionsOf (A₁ ++ Z₁)) ≡ some (p .0) =
-        ap (placeOfName w) (select-append (λ (f : Symbol). isFunction (f .kind)) A₁ Z₁) ∙ placeThat-append (λ (f : Symbol). same w (f .name)) F (functionsOf Z₁) (p .0) (p .1) in
+        let inNow : placeOfName w now ≡ some (p .0) = placeThat-append (λ (f : Symbol). same w (f .name)) F (predicates A₁) (p .0) (p .1) in
+        let longer : placeOfName w (functions (A₁ ++ Z₁)) ≡ some (p .0) =
+        ap (placeOfName w) (select-append (λ (f : Symbol). isFunction (f .kind)) A₁ Z₁) ∙ placeThat-append (λ (f : Symbol). same w (f .name)) F (functions Z₁) (p .0) (p .1) in
         let inAll : placeOfName w all-of-it ≡ some (p .0) =
-        ap (placeOfName w) made ∙ placeThat-append (λ (f : Symbol). same w (f .name)) (functionsOf (A₁ ++ Z₁)) (predicatesOf (A₁ ++ Z₁)) (p .0) longer in
+        ap (placeOfName w) made ∙ placeThat-append (λ (f : Symbol). same w (f .name)) (functions (A₁ ++ Z₁)) (predicates (A₁ ++ Z₁)) (p .0) longer in
         ap orZero (inAll ∙ sym inNow)
 
   -- so an occurrence has the same faults

@@ -72,7 +72,7 @@ whole-statement n (u ∷ a) b t before d e f g h k m = go (dueAfterToken d u) re
         ∙ ap (λ (l : List TptpToken). withStatement (statementOf (l ++ (t ∷ []))) (fileFrom n b [] f)) (append-assoc before (u ∷ []) a)
 
 -- a token has the kind that it shows
-kind-shown : (k : TokenKind) (n : Name) → tokenOf (itemOf k n) .kind ≡ k
+pub kind-shown : (k : TokenKind) (n : Name) → tokenOf (itemOf k n) .kind ≡ k
 kind-shown lowerWord n = refl
 kind-shown upperWord n = refl
 kind-shown digits n = refl
@@ -205,7 +205,7 @@ module _ (l : Layout) where
       ∙ body-read (l .wrapped)
 
   -- a statement that is written is the next statement of the file
-  one-read : (n : ℕ) (ts b : List TptpToken) → map item ts ≡ statementItems l → (s : Statement) × (s .clause ≡ writtenClause l) × (fileFrom n (ts ++ b) [] statement ≡ withStatement s (fileFrom n b [] statement))
+  pub one-read : (n : ℕ) (ts b : List TptpToken) → map item ts ≡ statementItems l → (s : Statement) × (s .clause ≡ writtenClause l) × (fileFrom n (ts ++ b) [] statement ≡ withStatement s (fileFrom n b [] statement))
   one-read n ts b e = go (map-split front (sign fullStop ∷ []) ts (e ∙ front-stop))
     where
       follows : dueAfterTokens statement ts ≡ some statement

@@ -1,39 +1,39 @@
 -- A TPTP text without faults is left as a sheet that is read as the problem of its clauses.
-use Prim.Native.Nat.{ℕ, zero, suc, _+_, _≤_, _<_}
-use mathlib.Core.Path.{_≡_, refl, sym, ap, _∙_, subst}
+use Prim.Native.Nat.{ℕ, suc, _+_, _≤_, _<_}
+use mathlib.Core.Path.{_≡_, refl, sym, ap, _∙_}
 use mathlib.Core.Logic.{_⊎_, inl, inr, _↔_}
-use mathlib.Core.Bool.{Bool, true, false, cond, not, _&&_, _||_, Bool·beq, false≢true}
-use mathlib.Core.Option.{Option, none, some}
+use mathlib.Core.Bool.{Bool, true, false, cond, not, _&&_, _||_, false≢true}
+use mathlib.Core.Option.{Option}
 use mathlib.Core.List.{List, [], _∷_, _++_, map}
 use native.Mathlib.Omega.{arith}
 use lib.Dec.{eqb, ltb, leb}
 use lib.ListN.{length, length-map}
-use Rattle.theory.specs.Lists.{any, all, same, select, concatMap}
-use Rattle.theory.specs.Syntax.{Kind, function, predicate, isFunction, isPredicate, Symbol, Signature, noSymbol, symbolAt, functionOf, predicateOf}
+use Rattle.theory.specs.Lists.{all, same, concatMap}
+use Rattle.theory.specs.Syntax.{Kind, function, predicate, isFunction, isPredicate, Symbol, Signature, noSymbol, symbolAt, functionOf, predicateOf, functions, predicates}
 use Rattle.theory.specs.Syntax as sheet
 use Rattle.theory.specs.Grammar as words
 use Rattle.theory.specs.Problem.{isName, isNamed, placeOfName, withinLimits, Problem, readProblem}
-use Rattle.theory.proofs.Tests.{true-or-false, not-true, eqb-true, ltb-true, ltb-false, ltb-of-<, leb-true, leb-false, leb-of-≤, and-left, and-right, and-join, or-false-left, or-false-right, beq-true, beq-not, false-of-not}
+use Rattle.theory.proofs.Tests.{true-or-false, ltb-true, ltb-false, ltb-of-<, leb-false, leb-of-≤, and-left, and-right, and-join, or-false-left, or-false-right, beq-true, beq-not, false-of-not}
 use Rattle.theory.proofs.Lists.{all-append, all-map, all-concatMap, all-and, all-imply, all-at}
 use Rattle.theory.proofs.Finding.{any→placeThat}
-use Rattle.theory.proofs.Names.{NamesDiffer, named-place}
-use Rattle.theory.proofs.Parsing.{symbolOk, isLetter, clauseAccepted, WellFormed}
+use Rattle.theory.proofs.Names.{named-place}
 use Rattle.theory.specs.Cells.{interpretation, isModel}
 use Rattle.theory.specs.CaseText.{Case, readCase}
 use Rattle.theory.specs.Operations.{judgeAnswer}
 use Rattle.theory.specs.Refusals as base
-use Rattle.theory.specs.Refusals.{Answer, answer, refused}
+use Rattle.theory.specs.Refusals.{answer, refused}
+use Rattle.theory.specs.WellFormed.{symbolOk, isKnownLetter, clauseAccepted, WellFormed, NamesDiffer}
 use Rattle.theory.proofs.Answers.{bind-step, answer-inj}
 use Rattle.theory.proofs.CaseText.{read-exactly}
-use Rattle.tptp.specs.Trees.{Name, NameTerm, nameVariable, nameApply, NameTerms, noTerms, termAnd, NameAtom, nameHolds, nameEqual, NameLiteral, never, plain, tilded, unequal, NameClause, Statement}
-use Rattle.tptp.specs.Symbols.{Occurrence, ofVariable, ofSymbol, termCount, termOccurrences, termsOccurrences, atomOccurrences, literalOccurrences, clauseOccurrences, declares, declared, firstOfName, functionsOf, predicatesOf, signatureOf, variablesOf, orZero, letterOfName, symbolOfName, termOver, termsOver, atomOver, literalAsWritten, clauseOver, problemOf}
-use Rattle.tptp.specs.SheetText.{sheetText}
-use Rattle.tptp.specs.Tptp.{File, readFile, clausesOfFile, Fault, faultIf, sameSymbolKind, placeInKind, occurrenceFaults, statementFaults, faultsFrom, foreignFault, faults, sheetIn, tptpText}
+use Rattle.tptp.specs.Trees.{Name, NameTerm, nameVariable, nameApply, NameTerms, noTerms, termAnd, NameAtom, nameHolds, nameEqual, never, plain, tilded, unequal, NameClause, Statement}
+use Rattle.tptp.specs.Symbols.{Occurrence, ofVariable, ofSymbol, termCount, termOccurrences, termsOccurrences, atomOccurrences, clauseOccurrences, declares, declared, firstOfName, signatureOf, variablesOf, orZero, letterOfName, symbolOfName, termOver, termsOver, atomOver, literalAsWritten, clauseOver, problemOf}
+use Rattle.theory.specs.SheetText.{sheetText}
+use Rattle.tptp.specs.Tptp.{File, readFile, clausesOfFile, Fault, faultIf, sameSymbolKind, placeInKind, occurrenceFaults, faultsFrom, foreignFault, faults, sheetIn, tptpText}
 use Rattle.tptp.specs.Truth.{AllNamesValid}
 use Rattle.tptp.specs.Claims.Models.{meaning}
 use Rattle.tptp.specs.Claims.Models as claims
-use Rattle.tptp.proofs.SheetWords.{place-of-name}
-use Rattle.tptp.proofs.SheetRead.{select-all, select-none, function-only, predicate-only, sheet-read}
+use Rattle.theory.proofs.SheetWords.{place-of-name}
+use Rattle.theory.proofs.SheetRead.{select-all, select-none, function-only, predicate-only, sheet-read}
 use Rattle.tptp.proofs.Models.{first-has, same-models}
 use Rattle.tptp.proofs.Fresh.{select-keeps, first-keeps, select-passes, Fresh, select-fresh, first-fresh, parts-fresh, fresh-differ, parts-have, self-named}
 
@@ -58,10 +58,10 @@ count-over : (g : Signature) (xs : List (List ℕ)) (ts : NameTerms) → sheet.c
 count-over g xs noTerms = refl
 count-over g xs (termAnd t ts) = ap suc (count-over g xs ts)
 
-both-ok : (p : Bool) (us : List words.Word) (q : Bool) (vs : List words.Word) → (p && all isLetter us) ≡ true → (q && all isLetter vs) ≡ true → ((p && q) && all isLetter (us ++ vs)) ≡ true
+both-ok : (p : Bool) (us : List words.Word) (q : Bool) (vs : List words.Word) → (p && all isKnownLetter us) ≡ true → (q && all isKnownLetter vs) ≡ true → ((p && q) && all isKnownLetter (us ++ vs)) ≡ true
 both-ok p us q vs a b =
-    and-join (p && q) (all isLetter (us ++ vs)) (and-join p q (and-left p (all isLetter us) a) (and-left q (all isLetter vs) b))
-    (all-append isLetter us vs ∙ and-join (all isLetter us) (all isLetter vs) (and-right p (all isLetter us) a) (and-right q (all isLetter vs) b))
+    and-join (p && q) (all isKnownLetter (us ++ vs)) (and-join p q (and-left p (all isKnownLetter us) a) (and-left q (all isKnownLetter vs) b))
+    (all-append isKnownLetter us vs ∙ and-join (all isKnownLetter us) (all isKnownLetter vs) (and-right p (all isKnownLetter us) a) (and-right q (all isKnownLetter vs) b))
 
 module _ (g : Signature) where
   -- an occurrence without faults
@@ -133,7 +133,7 @@ module _ (g : Signature) where
       )
 
   -- a symbol that is named stands in the signature as it occurs
-  abbrev named : Symbol → Bool
+  abbrev pub named : Symbol → Bool
   named f = isNamed (f .name) g
 
   abbrev standing : List (List ℕ) → Occurrence → Bool
@@ -184,18 +184,18 @@ module _ (g : Signature) where
     st = standing xs
 
     mutual
-      term-ok : (t : NameTerm) → all st (termOccurrences t) ≡ true → (sheet.termOk g (termOver g xs t) && all isLetter (words.termWords (termOver g xs t))) ≡ true
+      term-ok : (t : NameTerm) → all st (termOccurrences t) ≡ true → (sheet.termOk g (termOver g xs t) && all isKnownLetter (words.termWords (termOver g xs t))) ≡ true
       term-ok (nameVariable x) h = and-join (ltb (letterOfName xs (x .bytes)) 8) true (and-left (st (ofVariable x)) true h) refl
       term-ok (nameApply f ts) h =
-          let ih : (sheet.termsOk g (termsOver g xs ts) && all isLetter (words.termsWords (termsOver g xs ts))) ≡ true = terms-ok ts (and-right (st (ofSymbol f function (termCount ts))) (all st (termsOccurrences ts)) h) in
+          let ih : (sheet.termsOk g (termsOver g xs ts) && all isKnownLetter (words.termsWords (termsOver g xs ts))) ≡ true = terms-ok ts (and-right (st (ofSymbol f function (termCount ts))) (all st (termsOccurrences ts)) h) in
           let d : functionOf g (symbolOfName g (f .bytes)) (sheet.count (termsOver g xs ts)) ≡ true =
           function-standing xs f (termCount ts) (sheet.count (termsOver g xs ts)) (count-over g xs ts) (and-left (st (ofSymbol f function (termCount ts))) (all st (termsOccurrences ts)) h) in
-          and-join (functionOf g (symbolOfName g (f .bytes)) (sheet.count (termsOver g xs ts)) && sheet.termsOk g (termsOver g xs ts)) (all isLetter (words.termsWords (termsOver g xs ts)))
+          and-join (functionOf g (symbolOfName g (f .bytes)) (sheet.count (termsOver g xs ts)) && sheet.termsOk g (termsOver g xs ts)) (all isKnownLetter (words.termsWords (termsOver g xs ts)))
           (and-join (functionOf g (symbolOfName g (f .bytes)) (sheet.count (termsOver g xs ts))) (sheet.termsOk g (termsOver g xs ts)) d
-          (and-left (sheet.termsOk g (termsOver g xs ts)) (all isLetter (words.termsWords (termsOver g xs ts))) ih))
-          (and-right (sheet.termsOk g (termsOver g xs ts)) (all isLetter (words.termsWords (termsOver g xs ts))) ih)
+          (and-left (sheet.termsOk g (termsOver g xs ts)) (all isKnownLetter (words.termsWords (termsOver g xs ts))) ih))
+          (and-right (sheet.termsOk g (termsOver g xs ts)) (all isKnownLetter (words.termsWords (termsOver g xs ts))) ih)
 
-      terms-ok : (ts : NameTerms) → all st (termsOccurrences ts) ≡ true → (sheet.termsOk g (termsOver g xs ts) && all isLetter (words.termsWords (termsOver g xs ts))) ≡ true
+      terms-ok : (ts : NameTerms) → all st (termsOccurrences ts) ≡ true → (sheet.termsOk g (termsOver g xs ts) && all isKnownLetter (words.termsWords (termsOver g xs ts))) ≡ true
       terms-ok noTerms h = refl
       terms-ok (termAnd t ts) h =
           let k : (all st (termOccurrences t) && all st (termsOccurrences ts)) ≡ true = sym (all-append st (termOccurrences t) (termsOccurrences ts)) ∙ h in
@@ -204,28 +204,28 @@ module _ (g : Signature) where
           both-ok (sheet.termOk g (termOver g xs t)) (words.termWords (termOver g xs t)) (sheet.termsOk g (termsOver g xs ts)) (words.termsWords (termsOver g xs ts)) a b
 
     pair-ok : (t u : NameTerm) → all st (termOccurrences t ++ termOccurrences u) ≡ true
-        → ((sheet.termOk g (termOver g xs t) && sheet.termOk g (termOver g xs u)) && all isLetter (words.termWords (termOver g xs t) ++ words.termWords (termOver g xs u))) ≡ true
+        → ((sheet.termOk g (termOver g xs t) && sheet.termOk g (termOver g xs u)) && all isKnownLetter (words.termWords (termOver g xs t) ++ words.termWords (termOver g xs u))) ≡ true
     pair-ok t u h =
         let k : (all st (termOccurrences t) && all st (termOccurrences u)) ≡ true = sym (all-append st (termOccurrences t) (termOccurrences u)) ∙ h in
         both-ok (sheet.termOk g (termOver g xs t)) (words.termWords (termOver g xs t)) (sheet.termOk g (termOver g xs u)) (words.termWords (termOver g xs u))
         (term-ok t (and-left (all st (termOccurrences t)) (all st (termOccurrences u)) k)) (term-ok u (and-right (all st (termOccurrences t)) (all st (termOccurrences u)) k))
 
-    atom-ok : (a : NameAtom) → all st (atomOccurrences a) ≡ true → (sheet.atomOk g (atomOver g xs a) && all isLetter (words.atomWords (atomOver g xs a))) ≡ true
+    atom-ok : (a : NameAtom) → all st (atomOccurrences a) ≡ true → (sheet.atomOk g (atomOver g xs a) && all isKnownLetter (words.atomWords (atomOver g xs a))) ≡ true
     atom-ok (nameEqual t u) h = pair-ok t u h
     atom-ok (nameHolds p ts) h =
-        let ih : (sheet.termsOk g (termsOver g xs ts) && all isLetter (words.termsWords (termsOver g xs ts))) ≡ true = terms-ok ts (and-right (st (ofSymbol p predicate (termCount ts))) (all st (termsOccurrences ts)) h) in
+        let ih : (sheet.termsOk g (termsOver g xs ts) && all isKnownLetter (words.termsWords (termsOver g xs ts))) ≡ true = terms-ok ts (and-right (st (ofSymbol p predicate (termCount ts))) (all st (termsOccurrences ts)) h) in
         let d : predicateOf g (symbolOfName g (p .bytes)) (sheet.count (termsOver g xs ts)) ≡ true =
         predicate-standing xs p (termCount ts) (sheet.count (termsOver g xs ts)) (count-over g xs ts) (and-left (st (ofSymbol p predicate (termCount ts))) (all st (termsOccurrences ts)) h) in
-        and-join (predicateOf g (symbolOfName g (p .bytes)) (sheet.count (termsOver g xs ts)) && sheet.termsOk g (termsOver g xs ts)) (all isLetter (words.termsWords (termsOver g xs ts)))
+        and-join (predicateOf g (symbolOfName g (p .bytes)) (sheet.count (termsOver g xs ts)) && sheet.termsOk g (termsOver g xs ts)) (all isKnownLetter (words.termsWords (termsOver g xs ts)))
         (and-join (predicateOf g (symbolOfName g (p .bytes)) (sheet.count (termsOver g xs ts))) (sheet.termsOk g (termsOver g xs ts)) d
-        (and-left (sheet.termsOk g (termsOver g xs ts)) (all isLetter (words.termsWords (termsOver g xs ts))) ih))
-        (and-right (sheet.termsOk g (termsOver g xs ts)) (all isLetter (words.termsWords (termsOver g xs ts))) ih)
+        (and-left (sheet.termsOk g (termsOver g xs ts)) (all isKnownLetter (words.termsWords (termsOver g xs ts))) ih))
+        (and-right (sheet.termsOk g (termsOver g xs ts)) (all isKnownLetter (words.termsWords (termsOver g xs ts))) ih)
 
     -- a clause's literals one after the other
     abbrev fine : sheet.Clause → Bool
-    fine c = sheet.clauseOk g c && all isLetter (words.clauseWords c)
+    fine c = sheet.clauseOk g c && all isKnownLetter (words.clauseWords c)
 
-    one-fine : (b : Bool) (a : sheet.Atom) (c : sheet.Clause) → (sheet.atomOk g a && all isLetter (words.atomWords a)) ≡ true → fine c ≡ true → fine (record { sign = b; atom = a } ∷ c) ≡ true
+    one-fine : (b : Bool) (a : sheet.Atom) (c : sheet.Clause) → (sheet.atomOk g a && all isKnownLetter (words.atomWords a)) ≡ true → fine c ≡ true → fine (record { sign = b; atom = a } ∷ c) ≡ true
     one-fine b a c h k = both-ok (sheet.atomOk g a) (words.atomWords a) (sheet.clauseOk g c) (words.clauseWords c) h k
 
     literals-ok : (c : NameClause) → all st (clauseOccurrences c) ≡ true → fine (concatMap (literalAsWritten g xs) c) ≡ true
@@ -242,18 +242,26 @@ module _ (g : Signature) where
         let k : (all st os && all st (clauseOccurrences c)) ≡ true = sym (all-append st os (clauseOccurrences c)) ∙ h in
         one-fine false (sheet.equal (termOver g xs t) (termOver g xs u)) (concatMap (literalAsWritten g xs) c) (pair-ok t u (and-left (all st os) (all st (clauseOccurrences c)) k)) (literals-ok c (and-right (all st os) (all st (clauseOccurrences c)) k))
 
-  clause-accepted : (c : NameClause) → cleanClause c ≡ true → all named (concatMap declares (clauseOccurrences c)) ≡ true → clauseAccepted g (clauseOver g c) ≡ true
+  -- a clause whose occurrences have no faults is over the signature, and has letters A to H
+  pub clause-fine : (c : NameClause) → clean (variablesOf c) (clauseOccurrences c) ≡ true → all named (concatMap declares (clauseOccurrences c)) ≡ true
+      → (sheet.clauseOk g (clauseOver g c) && all isKnownLetter (words.clauseWords (clauseOver g c))) ≡ true
   unfolding clauseOver
+  clause-fine c h k =
+      let xs : List (List ℕ) = variablesOf c in
+      let os : List Occurrence = clauseOccurrences c in
+      literals-ok xs c (all-standing xs os (and-left (all (sound xs) os) (all limited (concatMap declares os)) h) k)
+
+  clause-accepted : (c : NameClause) → cleanClause c ≡ true → all named (concatMap declares (clauseOccurrences c)) ≡ true → clauseAccepted g (clauseOver g c) ≡ true
   clause-accepted c h k =
       let xs : List (List ℕ) = variablesOf c in
       let os : List Occurrence = clauseOccurrences c in
       let d : sheet.Clause = clauseOver g c in
       let cl : clean xs os ≡ true = and-left (clean xs os) (withinLimits (words.clauseWords d) d) h in
-      let f : fine xs d ≡ true = literals-ok xs c (all-standing xs os (and-left (all (sound xs) os) (all limited (concatMap declares os)) cl) k) in
-      and-join (sheet.clauseOk g d && withinLimits (words.clauseWords d) d) (all isLetter (words.clauseWords d))
-      (and-join (sheet.clauseOk g d) (withinLimits (words.clauseWords d) d) (and-left (sheet.clauseOk g d) (all isLetter (words.clauseWords d)) f)
+      let f : (sheet.clauseOk g d && all isKnownLetter (words.clauseWords d)) ≡ true = clause-fine c cl k in
+      and-join (sheet.clauseOk g d && withinLimits (words.clauseWords d) d) (all isKnownLetter (words.clauseWords d))
+      (and-join (sheet.clauseOk g d) (withinLimits (words.clauseWords d) d) (and-left (sheet.clauseOk g d) (all isKnownLetter (words.clauseWords d)) f)
       (and-right (clean xs os) (withinLimits (words.clauseWords d) d) h))
-      (and-right (sheet.clauseOk g d) (all isLetter (words.clauseWords d)) f)
+      (and-right (sheet.clauseOk g d) (all isKnownLetter (words.clauseWords d)) f)
 
 -- at most 12 symbols, where each has a place below 12
 few : (F : List Symbol) → NamesDiffer F → all (λ (f : Symbol). ltb (orZero (placeOfName (f .name) F)) 12) F ≡ true → length F ≤ 12
@@ -273,10 +281,10 @@ module _ (cs : List NameClause) where
   fs = firstOfName (λ (f : Symbol). f .name) (declared cs)
 
   abbrev F : List Symbol
-  F = functionsOf fs
+  F = functions fs
 
   abbrev P : List Symbol
-  P = predicatesOf fs
+  P = predicates fs
 
   abbrev g : Signature
   g = F ++ P
@@ -287,12 +295,12 @@ module _ (cs : List NameClause) where
   all-predicates : all (λ (f : Symbol). isPredicate (f .kind)) P ≡ true
   all-predicates = select-passes (λ (f : Symbol). isPredicate (f .kind)) fs
 
-  functions-again : functionsOf g ≡ F
+  functions-again : functions g ≡ F
   functions-again =
       select-all (λ (f : Symbol). isFunction (f .kind)) F P all-functions
       (all-imply (λ (f : Symbol). isPredicate (f .kind)) (λ (f : Symbol). not (isFunction (f .kind))) P predicate-only all-predicates)
 
-  predicates-again : predicatesOf g ≡ P
+  predicates-again : predicates g ≡ P
   predicates-again =
       select-none (λ (f : Symbol). isPredicate (f .kind)) F P
       (all-imply (λ (f : Symbol). isFunction (f .kind)) (λ (f : Symbol). not (isPredicate (f .kind))) F function-only all-functions) all-predicates
@@ -326,13 +334,13 @@ module _ (cs : List NameClause) where
     function-place : (f : Symbol) → (isFunction (f .kind) && limited g f) ≡ true → ltb (orZero (placeOfName (f .name) F)) 12 ≡ true
     function-place f h =
         ap (λ (l : List Symbol). ltb (orZero (placeOfName (f .name) l)) 12) (sym functions-again)
-        ∙ ap (λ (b : Bool). ltb (orZero (placeOfName (f .name) (cond b (functionsOf g) (predicatesOf g)))) 12) (sym (and-left (isFunction (f .kind)) (limited g f) h))
+        ∙ ap (λ (b : Bool). ltb (orZero (placeOfName (f .name) (cond b (functions g) (predicates g)))) 12) (sym (and-left (isFunction (f .kind)) (limited g f) h))
         ∙ and-right (symbolOk f) (ltb (placeInKind g (f .kind) (f .name)) 12) (and-right (isFunction (f .kind)) (limited g f) h)
 
     predicate-place : (f : Symbol) → (isPredicate (f .kind) && limited g f) ≡ true → ltb (orZero (placeOfName (f .name) P)) 12 ≡ true
     predicate-place f h =
         ap (λ (l : List Symbol). ltb (orZero (placeOfName (f .name) l)) 12) (sym predicates-again)
-        ∙ ap (λ (b : Bool). ltb (orZero (placeOfName (f .name) (cond b (functionsOf g) (predicatesOf g)))) 12) (sym (false-of-not (isFunction (f .kind)) (predicate-only f (and-left (isPredicate (f .kind)) (limited g f) h))))
+        ∙ ap (λ (b : Bool). ltb (orZero (placeOfName (f .name) (cond b (functions g) (predicates g)))) 12) (sym (false-of-not (isFunction (f .kind)) (predicate-only f (and-left (isPredicate (f .kind)) (limited g f) h))))
         ∙ and-right (symbolOk f) (ltb (placeInKind g (f .kind) (f .name)) 12) (and-right (isPredicate (f .kind)) (limited g f) h)
 
     well-formed : WellFormed (record { symbols = g; clauses = map (clauseOver g) cs })
@@ -370,7 +378,8 @@ taken-parts text room s t [] e = (refl, go (leb (length s) room) e)
     go true e = cc
     go false e = let z : _≡_ {A = ℕ} 0 1 = cc in absurd (omega arith)
 
-problem-formed : (ss : List Statement) → faultsFrom (signatureOf (map (λ (s : Statement). s .clause) ss)) 0 ss ≡ [] → WellFormed (problemOf (map (λ (s : Statement). s .clause) ss))
+-- the clauses of statements without faults are a well-formed problem
+pub problem-formed : (ss : List Statement) → faultsFrom (signatureOf (map (λ (s : Statement). s .clause) ss)) 0 ss ≡ [] → WellFormed (problemOf (map (λ (s : Statement). s .clause) ss))
 unfolding signatureOf problemOf
 problem-formed ss e =
     let cs : List NameClause = map (λ (s : Statement). s .clause) ss in

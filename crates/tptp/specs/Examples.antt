@@ -2,18 +2,18 @@
 use Prim.Native.Nat.{ℕ}
 use Prim.Native.String.{String}
 use mathlib.Core.Path.{_≡_, refl}
-use mathlib.Core.List.{List, [], _∷_, _++_}
+use mathlib.Core.List.{List, _++_}
 use Rattle.theory.specs.Lists.{concatMap, upTo}
 use Rattle.theory.specs.Bytes.{bytes, decimal}
 use Rattle.theory.specs.Flattening.{merged, liftedTerms, flatten, variableCount}
 use Rattle.theory.specs.Problem.{isName, withinLimits}
 use Rattle.theory.specs.Refusals.{Answer, answer, refused, needing}
-use Rattle.tptp.specs.Places.{placeOf, refusedAt}
+use Rattle.tptp.specs.Places.{placeOf}
 use Rattle.tptp.specs.Tokens.{pieceOf, tokens}
 use Rattle.tptp.specs.Grammar.{dueAfterToken}
 use Rattle.tptp.specs.Trees.{statementOf}
 use Rattle.tptp.specs.Symbols.{signatureOf, variablesOf, clauseOver, problemOf}
-use Rattle.tptp.specs.SheetText.{sheetText}
+use Rattle.theory.specs.SheetText.{sheetText}
 use Rattle.tptp.specs.Tptp.{readFile, faults, tptpText}
 
 -- the answer in an output of three hundred bytes

@@ -4,7 +4,7 @@ use mathlib.Core.Bool.{Bool, true, false, cond}
 use mathlib.Core.List.{List, [], _∷_}
 use lib.Dec.{eqb}
 use Rattle.theory.specs.Bytes.{LF}
-use Rattle.theory.specs.Refusals.{Place, Answer, refused}
+use Rattle.theory.specs.Refusals.{Place, Answer, refused, atPlace}
 
 -- line and column after n more bytes of a text, from line l and column c on: only LF ends a line
 abbrev pub placeFrom : List ℕ → ℕ → ℕ → ℕ → Place
@@ -19,4 +19,4 @@ placeOf text n = placeFrom text n 1 1
 
 -- refusal number m at the byte with n bytes before it
 abbrev pub refusedAt : {A : Type 0} → List ℕ → ℕ → ℕ → Answer A
-refusedAt text m n = refused (record { number = m; place = placeOf text n; needed = 0 })
+refusedAt text m n = refused (atPlace m (placeOf text n))

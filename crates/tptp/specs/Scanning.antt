@@ -1,14 +1,19 @@
--- What code can tell of a variable or symbol by looking ahead: its arguments, and whether it is a function or a predicate. No tree is made and no list is kept.
+-- The words of a clause told token by token, by looking ahead: a literal's sign and =, each variable, each symbol with its arguments and whether it is a function or a predicate.
+-- No tree is made and no list is kept.
 use Prim.Native.Nat.{ℕ, zero, suc}
-use mathlib.Core.Bool.{Bool, true, false, cond, _||_}
-use mathlib.Core.Option.{Option, none, some}
-use mathlib.Core.List.{List, [], _∷_, _++_}
+use mathlib.Core.Bool.{Bool, true, false, not}
+use mathlib.Core.Option.{none, some}
+use mathlib.Core.List.{List, [], _∷_, _++_, map}
 use lib.Dec.{eqb}
-use Rattle.theory.specs.Syntax.{function, predicate}
-use Rattle.tptp.specs.Tokens.{TokenKind, lowerWord, upperWord, leftParen, rightParen, comma, equalSign, unequalSign, kindNumber, TptpToken}
-use Rattle.tptp.specs.Grammar.{Side, first, second, DueToken, statement, opening, name, nameComma, role, roleComma, clause, literal, literalEnd, term, wordEnd, termEnd, equality, closing, stop, dueAfterToken}
+use Rattle.theory.specs.Lists.{concatMap}
+use Rattle.theory.specs.Syntax.{Kind, function, predicate, Signature}
+use Rattle.theory.specs.Grammar.{Word, equals, symbol, letter}
+use Rattle.theory.specs.Grammar as words
+use Rattle.tptp.specs.Tokens.{TokenKind, lowerWord, upperWord, leftParen, rightParen, comma, fullStop, equalSign, unequalSign, kindNumber, TptpToken, is}
+use Rattle.tptp.specs.Grammar.{first, second, DueToken, statement, opening, name, nameComma, role, roleComma, clause, literal, literalEnd, term, wordEnd, termEnd, equality, closing, stop, dueAfterToken}
+use Rattle.tptp.specs.Trees.{NameAtom, nameHolds, nameEqual, NameLiteral, never, plain, tilded, unequal, NameClause}
 use Rattle.tptp.specs.Written.{Item, lower, upper, sign}
-use Rattle.tptp.specs.Symbols.{Occurrence, ofVariable, ofSymbol}
+use Rattle.tptp.specs.Symbols.{Occurrence, ofVariable, ofSymbol, literalOccurrences, letterOfName, symbolOfName}
 
 -- a token that shows the item
 abbrev pub tokenOf : Item → TptpToken
@@ -39,25 +44,37 @@ arityAhead (lower x ∷ us) = 0
 arityAhead (upper x ∷ us) = 0
 arityAhead (sign k ∷ us) = elim (sameTokenKind leftParen k) [ true ↦ suc (commas us 0) | false ↦ 0 ]
 
--- = or != follows, when the n open lists have ended
-abbrev pub relates : List Item → ℕ → Bool
-relates [] zero = false
-relates [] (suc n) = false
-relates (lower x ∷ us) zero = false
-relates (upper x ∷ us) zero = false
-relates (lower x ∷ us) (suc n) = relates us (suc n)
-relates (upper x ∷ us) (suc n) = relates us (suc n)
-relates (sign k ∷ us) zero = elim (sameTokenKind leftParen k) [ true ↦ relates us 1 | false ↦ sameTokenKind equalSign k || sameTokenKind unequalSign k ]
-relates (sign k ∷ us) (suc n) = elim (sameTokenKind leftParen k) [ true ↦ relates us (suc (suc n)) | false ↦ elim (sameTokenKind rightParen k) [ true ↦ relates us n | false ↦ relates us (suc n) ] ]
+-- what stands between a literal's two terms: = (true) or != (false); or the literal has no second term
+pub data Relation : Type 0 where
+  unrelated : Relation
+  related : Bool → Relation
 
--- where a word stands: as an atom or a literal's first term, as another term, or in no clause
+-- the relation that a sign is
+abbrev pub relationOf : TokenKind → Relation
+relationOf k = elim (sameTokenKind equalSign k) [ true ↦ related true | false ↦ elim (sameTokenKind unequalSign k) [ true ↦ related false | false ↦ unrelated ] ]
+
+-- the relation that follows, when the n open lists have ended
+abbrev pub relationAhead : List Item → ℕ → Relation
+relationAhead [] zero = unrelated
+relationAhead [] (suc n) = unrelated
+relationAhead (lower x ∷ us) zero = unrelated
+relationAhead (upper x ∷ us) zero = unrelated
+relationAhead (lower x ∷ us) (suc n) = relationAhead us (suc n)
+relationAhead (upper x ∷ us) (suc n) = relationAhead us (suc n)
+relationAhead (sign k ∷ us) zero = elim (sameTokenKind leftParen k) [ true ↦ relationAhead us 1 | false ↦ relationOf k ]
+relationAhead (sign k ∷ us) (suc n) =
+    elim (sameTokenKind leftParen k) [ true ↦ relationAhead us (suc (suc n)) | false ↦ elim (sameTokenKind rightParen k) [ true ↦ relationAhead us n | false ↦ relationAhead us (suc n) ] ]
+
+-- where a word stands: as an atom or a literal's first term, ~ standing before it or not; as another term; or in no clause
 pub data Spot : Type 0 where
-  atomStart inTerm elsewhere : Spot
+  atomStart : Bool → Spot
+  inTerm elsewhere : Spot
 
+-- where a token stands, if this is due
 abbrev pub spot : DueToken → Spot
-spot clause = atomStart
-spot (literal b) = atomStart
-spot (term b (first c) zero) = atomStart
+spot clause = atomStart false
+spot (literal b) = atomStart false
+spot (term b (first c) zero) = atomStart c
 spot (term b second zero) = inTerm
 spot (term b s (suc n)) = inTerm
 spot statement = elsewhere
@@ -73,19 +90,69 @@ spot (equality b c) = elsewhere
 spot closing = elsewhere
 spot stop = elsewhere
 
--- the variable or symbol that stands there, if there is one, before these items
-abbrev pub occurrenceAt : Spot → Item → List Item → List Occurrence
-occurrenceAt elsewhere (lower n) us = []
-occurrenceAt elsewhere (upper n) us = []
-occurrenceAt elsewhere (sign k) us = []
-occurrenceAt inTerm (lower n) us = ofSymbol n function (arityAhead us) ∷ []
-occurrenceAt inTerm (upper n) us = ofVariable n ∷ []
-occurrenceAt inTerm (sign k) us = []
-occurrenceAt atomStart (lower n) us = ofSymbol n (cond (relates us 0) function predicate) (arityAhead us) ∷ []
-occurrenceAt atomStart (upper n) us = ofVariable n ∷ []
-occurrenceAt atomStart (sign k) us = []
+-- a word of the sheet's clause before names are numbered: a sign or =, or what a variable or symbol becomes
+pub data Entry : Type 0 where
+  mark : Word → Entry
+  occurs : Occurrence → Entry
 
--- the variables and symbols from here on, where d is due
-abbrev pub scan : List Item → DueToken → List Occurrence
-scan [] d = []
-scan (i ∷ us) d = occurrenceAt (spot d) i us ++ (elim (dueAfterToken d (tokenOf i)) [ some e ↦ scan us e | none ↦ [] ])
+-- a literal's sign, and = before the terms of an equality; the Bool tells whether ~ stands before it
+abbrev pub marks : Bool → Relation → List Entry
+marks c unrelated = mark (words.sign (not c)) ∷ []
+marks c (related true) = mark (words.sign (not c)) ∷ mark equals ∷ []
+marks c (related false) = mark (words.sign false) ∷ mark equals ∷ []
+
+-- a word that = or != follows is a function, else a predicate
+abbrev pub kindBefore : Relation → Kind
+kindBefore unrelated = predicate
+kindBefore (related b) = function
+
+-- what an item adds, before these items
+abbrev pub entriesAt : Spot → Item → List Item → List Entry
+entriesAt elsewhere (lower n) us = []
+entriesAt elsewhere (upper n) us = []
+entriesAt elsewhere (sign k) us = []
+entriesAt inTerm (lower n) us = occurs (ofSymbol n function (arityAhead us)) ∷ []
+entriesAt inTerm (upper n) us = occurs (ofVariable n) ∷ []
+entriesAt inTerm (sign k) us = []
+entriesAt (atomStart c) (lower n) us = marks c (relationAhead us 0) ++ (occurs (ofSymbol n (kindBefore (relationAhead us 0)) (arityAhead us)) ∷ [])
+entriesAt (atomStart c) (upper n) us = marks c (relationAhead us 0) ++ (occurs (ofVariable n) ∷ [])
+entriesAt (atomStart c) (sign k) us = []
+
+-- the entries from here on up to the statement's full stop, where d is due
+abbrev pub entries : List Item → DueToken → List Entry
+entries [] d = []
+entries (i ∷ us) d =
+    entriesAt (spot d) i us
+    ++ (elim (is fullStop (tokenOf i)) as (λ _. List Entry) [ true ↦ [] | false ↦ elim (dueAfterToken d (tokenOf i)) as (λ _. List Entry) [ some e ↦ entries us e | none ↦ [] ] ])
+
+-- the signs and = of a literal
+abbrev pub atomMarks : NameAtom → List Word
+atomMarks (nameHolds p ts) = []
+atomMarks (nameEqual t u) = equals ∷ []
+
+abbrev pub literalMarks : NameLiteral → List Word
+literalMarks never = []
+literalMarks (plain a) = words.sign true ∷ atomMarks a
+literalMarks (tilded a) = words.sign false ∷ atomMarks a
+literalMarks (unequal t u) = words.sign false ∷ equals ∷ []
+
+-- the entries of a clause as its tree has them
+abbrev pub literalEntries : NameLiteral → List Entry
+literalEntries l = map mark (literalMarks l) ++ map occurs (literalOccurrences l)
+
+abbrev pub clauseEntries : NameClause → List Entry
+clauseEntries c = concatMap literalEntries c
+
+-- the variables and symbols among entries
+abbrev pub occurrenceIn : Entry → List Occurrence
+occurrenceIn (mark w) = []
+occurrenceIn (occurs o) = o ∷ []
+
+-- the word that an entry becomes over a signature, the variables xs becoming letters
+abbrev pub occurrenceWord : Signature → List (List ℕ) → Occurrence → Word
+occurrenceWord g xs (ofVariable x) = letter (letterOfName xs (x .bytes))
+occurrenceWord g xs (ofSymbol f k n) = symbol (symbolOfName g (f .bytes))
+
+abbrev pub entryWord : Signature → List (List ℕ) → Entry → Word
+entryWord g xs (mark w) = w
+entryWord g xs (occurs o) = occurrenceWord g xs o

@@ -1,13 +1,13 @@
 -- The symbols and variables of TPTP clauses in order of first appearance, and the problem (document 01: a sheet) that the clauses become.
 use Prim.Native.Nat.{ℕ, suc}
-use mathlib.Core.Bool.{Bool, true, false, cond, not}
+use mathlib.Core.Bool.{true, false, not}
 use mathlib.Core.Option.{Option, none, some}
 use mathlib.Core.List.{List, [], _∷_, _++_, map}
 use Rattle.theory.specs.Lists.{same, select, concatMap, placeThat}
-use Rattle.theory.specs.Syntax.{function, predicate, isFunction, isPredicate, Symbol, Signature}
+use Rattle.theory.specs.Syntax.{function, predicate, Symbol, Signature, functions, predicates}
 use Rattle.theory.specs.Syntax as sheet
 use Rattle.theory.specs.Problem.{Problem, placeOfName}
-use Rattle.tptp.specs.Trees.{Name, NameTerm, nameVariable, nameApply, NameTerms, noTerms, termAnd, NameAtom, nameHolds, nameEqual, NameLiteral, never, plain, tilded, unequal, NameClause, Statement}
+use Rattle.tptp.specs.Trees.{Name, NameTerm, nameVariable, nameApply, NameTerms, noTerms, termAnd, NameAtom, nameHolds, nameEqual, NameLiteral, never, plain, tilded, unequal, NameClause}
 
 -- what stands at a place of a clause: a variable, or a symbol of a kind with so many arguments
 pub data Occurrence : Type 0 where
@@ -58,13 +58,6 @@ abbrev pub firstOfName : {A : Type 0} → (A → List ℕ) → List A → List A
 firstOfName name [] = []
 firstOfName name (x ∷ xs) = x ∷ select (λ y. not (same (name x) (name y))) (firstOfName name xs)
 
--- the functions and the predicates of a list
-abbrev pub functionsOf : List Symbol → List Symbol
-functionsOf fs = select (λ (f : Symbol). isFunction (f .kind)) fs
-
-abbrev pub predicatesOf : List Symbol → List Symbol
-predicatesOf fs = select (λ (f : Symbol). isPredicate (f .kind)) fs
-
 -- the symbols that the occurrences of the clauses would declare
 abbrev pub declared : List NameClause → List Symbol
 declared cs = concatMap (λ (c : NameClause). concatMap declares (clauseOccurrences c)) cs
@@ -73,7 +66,7 @@ declared cs = concatMap (λ (c : NameClause). concatMap declares (clauseOccurren
 unfoldable pub signatureOf : List NameClause → Signature
 signatureOf cs =
     let fs = firstOfName (λ (f : Symbol). f .name) (declared cs) in
-    functionsOf fs ++ predicatesOf fs
+    functions fs ++ predicates fs
 
 -- the variables of a clause in order of first appearance: the first becomes A, the next B
 unfoldable pub variablesOf : NameClause → List (List ℕ)

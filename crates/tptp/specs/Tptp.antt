@@ -1,21 +1,21 @@
 -- TPTP clauses in: the statements of a text, the first fault, and the sheet that is left in the output.
-use Prim.Native.Nat.{ℕ, zero, suc}
-use mathlib.Core.Bool.{Bool, true, false, cond, not, _&&_, _||_, Bool·beq}
+use Prim.Native.Nat.{ℕ, suc}
+use mathlib.Core.Bool.{Bool, true, false, cond, not, _||_, Bool·beq}
 use mathlib.Core.Option.{Option, none, some}
 use mathlib.Core.List.{List, [], _∷_, _++_, map}
 use lib.Dec.{eqb, leb, ltb}
 use lib.ListN.{length}
 use Rattle.theory.specs.Lists.{concatMap}
-use Rattle.theory.specs.Syntax.{Kind, isFunction, Symbol, Signature, symbolAt}
+use Rattle.theory.specs.Syntax.{Kind, isFunction, Signature, symbolAt, functions, predicates}
 use Rattle.theory.specs.Grammar.{clauseWords}
-use Rattle.theory.specs.Problem.{maxBytes, maxSymbols, maxClauses, maxArity, isName, withinLimits, placeOfName, Problem}
+use Rattle.theory.specs.Problem.{maxBytes, maxSymbols, maxClauses, maxArity, isName, withinLimits, placeOfName}
 use Rattle.theory.specs.Refusals.{Answer, answer, refused, needing}
 use Rattle.tptp.specs.Places.{refusedAt}
 use Rattle.tptp.specs.Tokens.{fullStop, TptpToken, is, tokens}
 use Rattle.tptp.specs.Grammar.{DueToken, statement, dueAfterToken, mayEnd}
-use Rattle.tptp.specs.Trees.{Name, NameClause, Statement, statementOf}
-use Rattle.tptp.specs.Symbols.{Occurrence, ofVariable, ofSymbol, clauseOccurrences, functionsOf, predicatesOf, signatureOf, variablesOf, orZero, letterOfName, symbolOfName, clauseOver, problemOf}
-use Rattle.tptp.specs.SheetText.{sheetText}
+use Rattle.tptp.specs.Trees.{NameClause, Statement, statementOf}
+use Rattle.tptp.specs.Symbols.{Occurrence, ofVariable, ofSymbol, clauseOccurrences, signatureOf, variablesOf, orZero, letterOfName, symbolOfName, clauseOver, problemOf}
+use Rattle.theory.specs.SheetText.{sheetText}
 
 -- the statements of a text up to the first 15, and the place of that 15
 pub record File : Type 0 where
@@ -67,7 +67,7 @@ sameSymbolKind k l = Bool·beq (isFunction k) (isFunction l)
 
 -- the place of a name among the symbols of its kind
 abbrev pub placeInKind : Signature → Kind → List ℕ → ℕ
-placeInKind g k w = orZero (placeOfName w (cond (isFunction k) (functionsOf g) (predicatesOf g)))
+placeInKind g k w = orZero (placeOfName w (cond (isFunction k) (functions g) (predicates g)))
 
 -- the faults of an occurrence: 16, not the kind and arity of its name's first appearance; 17, a limit of the sheet
 abbrev pub occurrenceFaults : Signature → List (List ℕ) → Occurrence → List Fault

@@ -24,6 +24,8 @@ pub fn refusal(r: Refusal) {
     tell(r.number as u64);
     say(b" line");
     tell(r.line as u64);
+    say(b" column");
+    tell(r.column as u64);
     say(b" needed");
     tell(r.needed as u64);
 }

@@ -44,4 +44,5 @@ fn main() {
     run_file(b"write", Operation::Write);
     run_file(b"read_back", Operation::ReadBack);
     run_file(b"find", Operation::Find);
+    run_file(b"from_tptp", Operation::FromTptp);
 }

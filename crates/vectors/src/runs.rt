@@ -24,6 +24,7 @@ pub enum Operation {
     Write,
     ReadBack,
     Find,
+    FromTptp,
 }
 
 fn read(sheet: &[u8]) {
@@ -43,7 +44,7 @@ fn judge(sheet: &[u8], case: &[u8]) {
     say(b"\n");
 }
 
-// What Write and Read back answer and leave.
+// What Write, Read back and From TPTP answer and leave.
 fn text(answer: WriteAnswer, output: &[u8]) {
     match answer {
         WriteAnswer::Written(n) => {
@@ -100,6 +101,11 @@ fn find(sheet: &[u8], low: u64, high: u64, work: &mut [u32], output: &mut [u8]) 
     search(answer, work, output);
 }
 
+fn from_tptp(clauses: &[u8], output: &mut [u8]) {
+    let answer = nesskettle::from_tptp(clauses, output);
+    text(answer, output);
+}
+
 fn name(operation: Operation) {
     match operation {
         Operation::Read => say(b"read"),
@@ -107,6 +113,7 @@ fn name(operation: Operation) {
         Operation::Write => say(b"write"),
         Operation::ReadBack => say(b"read_back"),
         Operation::Find => say(b"find"),
+        Operation::FromTptp => say(b"from_tptp"),
     }
 }
 
@@ -126,6 +133,7 @@ fn answer(
         Operation::Write => write(sheet, x.low, output),
         Operation::ReadBack => read_back(sheet, x.low, beside, output),
         Operation::Find => find(sheet, x.low, x.high, work, output),
+        Operation::FromTptp => from_tptp(sheet, output),
     }
 }
 

@@ -1,31 +1,18 @@
 -- Write's answers, check by check.
 use Prim.Native.Nat.{ℕ, _≤_, _<_}
-use mathlib.Core.Path.{_≡_, refl, sym, ap, _∙_}
+use mathlib.Core.Path.{_≡_, refl, sym, _∙_}
 use mathlib.Core.Bool.{Bool, true, false}
 use mathlib.Core.List.{List}
 use lib.Dec.{leb}
 use lib.ListN.{length}
-use Rattle.theory.specs.Refusals.{Answer, answer, refused, unplaced, needing, check, _>>=_}
+use Rattle.theory.specs.Refusals.{answer, refused, unplaced, needing, check, _>>=_}
 use Rattle.theory.specs.Refusals as theory
 use Rattle.theory.specs.Problem.{Problem, readProblem}
-use Rattle.theory.specs.Operations.{maxInstances, isSize, lengthAnswer, outputAfter, over, contentOf, writtenText}
+use Rattle.theory.specs.Operations.{maxInstances, isSize, contentOf, writtenText}
 use Rattle.theory.proofs.Tests.{leb-of-≤, leb-of-<}
 use Rattle.theory.proofs.Answers.{bind-step, bind-refused, check-of-true, check-of-false}
 use Rattle.answers.specs.declared.Refusal.{Refusal}
-use Rattle.answers.specs.declared.WriteAnswer.{WriteAnswer}
-use Rattle.answers.specs.declared.WriteAnswer.the-variants.{Written, Refused}
-use Rattle.answers.specs.Answers.{refusalIn}
-use Rattle.answers.specs.Calls.{WritingCall}
 use Rattle.writing.specs.Texts.{instancesAt, clausesText, textWithin, textAt}
-
-pub refuses : (a : Answer (List ℕ)) (q : theory.Refusal) (r : Refusal) (out : List ℕ) → a ≡ refused q → refusalIn r ≡ q → WritingCall a (Refused r) out out
-refuses a q r out e h = record { answer = ap refused h ∙ sym (ap lengthAnswer e); left = sym (ap (λ (b : Answer (List ℕ)). outputAfter b out) e) }
-
-pub writes : (a : Answer (List ℕ)) (t : List ℕ) (n : ℕ) (out out′ : List ℕ) → a ≡ answer t → n ≡ length t → out′ ≡ over t out → WritingCall a (Written n) out out′
-writes a t n out out′ e h o = record { answer = ap answer h ∙ sym (ap lengthAnswer e); left = o ∙ sym (ap (λ (b : Answer (List ℕ)). outputAfter b out) e) }
-
-pub answers-as : (a b : Answer (List ℕ)) (r : WriteAnswer) (out out′ : List ℕ) → a ≡ b → WritingCall b r out out′ → WritingCall a r out out′
-answers-as a b r out out′ e h = record { answer = h .answer ∙ sym (ap lengthAnswer e); left = h .left ∙ sym (ap (λ (b : Answer (List ℕ)). outputAfter b out) e) }
 
 module _ (p : Problem) (s room : ℕ) where
   -- 11

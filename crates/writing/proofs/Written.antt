@@ -11,7 +11,8 @@ use Rattle.theory.specs.Problem as theory
 use Rattle.theory.specs.Operations.{over}
 use Rattle.text.specs.Put.{put, put-run}
 use Rattle.stream.specs.Consuming.{texts}
-use Rattle.stream.proofs.Texts.{decimal-within, length-header}
+use Rattle.text.proofs.Decimal.{decimal-within}
+use Rattle.stream.proofs.Texts.{length-header}
 use Rattle.writing.specs.Texts.{clausesAt, clausesText}
 
 -- what is put from the start on

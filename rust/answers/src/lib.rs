@@ -1,4 +1,4 @@
-//! The answers of the five operations: read, judge, write, read back, find.
+//! The answers of the operations: read, judge, write, read back, find, and from TPTP.
 //!
 //! Each call answers a result or a [`Refusal`]. A refusal has the number that the specification gives it.
 
@@ -36,11 +36,17 @@ pub enum Reason {
     BadSetting = 13,
     /// 14: a function cell with no result or several.
     NotOneResult = 14,
+    /// 15: text outside the part of TPTP that is read.
+    NotTptp = 15,
+    /// 16: a symbol with two arities, or that is a function and a predicate.
+    SymbolClash = 16,
+    /// 17: what is read does not go into a sheet: a name, a ninth variable, or a limit.
+    BeyondSheets = 17,
 }
 
 impl Reason {
     /// Every reason, in order of its number.
-    pub const ALL: [Reason; 14] = [
+    pub const ALL: [Reason; 17] = [
         Reason::SheetTooLong,
         Reason::Layout,
         Reason::OverLimit,
@@ -55,6 +61,9 @@ impl Reason {
         Reason::BadCase,
         Reason::BadSetting,
         Reason::NotOneResult,
+        Reason::NotTptp,
+        Reason::SymbolClash,
+        Reason::BeyondSheets,
     ];
 
     /// The specification's number of this reason.
@@ -101,6 +110,13 @@ impl fmt::Display for Reason {
                 "the setting is not one 0 or 1 for each propositional variable"
             }
             Reason::NotOneResult => "the setting gives a function no result or several for some arguments",
+            Reason::NotTptp => "this does not belong to the TPTP clauses that are read, or the text ends too early",
+            Reason::SymbolClash => "this symbol stands earlier with another number of arguments, or as the other kind",
+            Reason::BeyondSheets => {
+                "this does not go into a sheet (12 functions and 12 predicates with names of 1 to 12 lower-case letters, \
+                 digits and underscores and at most 3 arguments; 64 clauses of at most 8 variables, 16 literals, 64 \
+                 words and, once flattened, 10 variables; 16,384 bytes)"
+            }
         })
     }
 }
@@ -109,8 +125,11 @@ impl fmt::Display for Reason {
 #[derive(Clone, Copy, Debug, PartialEq, Eq)]
 pub struct Refusal {
     pub reason: Reason,
-    /// The faulty line, from 1 (of the case for [`Reason::BadCase`], else of the sheet); 0 where none is named.
+    /// The faulty line, from 1 (of the case for [`Reason::BadCase`], of the TPTP text for 15 to 17, else of the sheet);
+    /// 0 where none is named.
     pub line: u64,
+    /// The faulty byte of that line, from 1; 0 where none is named.
+    pub column: u64,
     /// The length that would have done, for [`Reason::WorkTooShort`] and [`Reason::OutputTooShort`]; else 0.
     pub needed: u64,
 }
@@ -120,6 +139,9 @@ impl fmt::Display for Refusal {
         write!(f, "refused {}", self.reason.number())?;
         if self.line > 0 {
             write!(f, ", line {}", self.line)?;
+        }
+        if self.column > 0 {
+            write!(f, ", column {}", self.column)?;
         }
         write!(f, ": {}", self.reason)?;
         match self.reason {
@@ -152,7 +174,7 @@ pub enum Search {
 /// A result or a refusal.
 pub type Answer<T> = Result<T, Refusal>;
 
-/// The five operations of one implementation, to run the same work on several.
+/// The operations of one implementation, to run the same work on several.
 #[allow(clippy::type_complexity)]
 #[derive(Clone, Copy)]
 pub struct Operations {
@@ -162,6 +184,7 @@ pub struct Operations {
     pub write: fn(&[u8], u64, &mut [u8]) -> Answer<usize>,
     pub read_back: fn(&[u8], u64, &[u8], &mut [u8]) -> Answer<usize>,
     pub find: fn(&[u8], u64, u64, &mut [u32], &mut [u8]) -> Answer<Search>,
+    pub from_tptp: fn(&[u8], &mut [u8]) -> Answer<usize>,
 }
 
 #[cfg(test)]
@@ -175,7 +198,7 @@ mod tests {
             assert_eq!(Reason::from_number(reason.number()), Some(reason));
         }
         assert_eq!(Reason::from_number(0), None);
-        assert_eq!(Reason::from_number(15), None);
+        assert_eq!(Reason::from_number(18), None);
     }
 
     #[test]
@@ -183,6 +206,7 @@ mod tests {
         let layout = Refusal {
             reason: Reason::NotAClause,
             line: 7,
+            column: 0,
             needed: 0,
         };
         assert_eq!(
@@ -192,11 +216,21 @@ mod tests {
         let short = Refusal {
             reason: Reason::OutputTooShort,
             line: 0,
+            column: 0,
             needed: 22,
         };
         assert_eq!(
             short.to_string(),
             "refused 11: the output is too short, 22 bytes are needed"
         );
+        let clash = Refusal {
+            reason: Reason::SymbolClash,
+            line: 2,
+            column: 15,
+            needed: 0,
+        };
+        assert!(clash
+            .to_string()
+            .starts_with("refused 16, line 2, column 15: this symbol"));
     }
 }

@@ -12,6 +12,7 @@ mod program;
 mod search;
 mod sheet;
 mod syntax;
+mod tptp;
 pub mod vectors;
 
 pub use nesskettle_answers::{Counts, Operations, Reason, Refusal, Search};
@@ -35,6 +36,7 @@ pub const OPERATIONS: Operations = Operations {
     write,
     read_back,
     find,
+    from_tptp,
 };
 
 /// Reads a sheet: its counts.
@@ -126,6 +128,11 @@ pub fn find_within(
     }))
 }
 
+/// Reads TPTP clauses into a sheet and writes it; the sheet's length.
+pub fn from_tptp(text: &[u8], out: &mut [u8]) -> Result<usize, Refusal> {
+    put(&tptp::sheet(text)?, out)
+}
+
 /// The needed lengths of a search: work numbers and output bytes at the size, for a sheet that is not refused.
 pub fn needed(sheet: &[u8], size: u64) -> Result<(u64, u64), Refusal> {
     let problem = Problem::read(sheet)?;
@@ -180,6 +187,7 @@ fn at_line(reason: Reason, line: u64) -> Refusal {
     Refusal {
         reason,
         line,
+        column: 0,
         needed: 0,
     }
 }
@@ -188,6 +196,7 @@ fn short(reason: Reason, needed: u64) -> Refusal {
     Refusal {
         reason,
         line: 0,
+        column: 0,
         needed,
     }
 }

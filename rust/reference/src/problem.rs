@@ -5,15 +5,16 @@ use crate::lines::Lines;
 use crate::syntax::{self, Clause, Symbol, Word};
 use crate::{at_line, Reason, Refusal};
 
-const MAX_BYTES: usize = 16_384;
-const MAX_SYMBOLS: usize = 12;
-const MAX_CLAUSES: usize = 64;
-const MAX_ARITY: usize = 3;
+pub const MAX_BYTES: usize = 16_384;
+pub const MAX_SYMBOLS: usize = 12;
+pub const MAX_CLAUSES: usize = 64;
+pub const MAX_ARITY: usize = 3;
 const MAX_NAME: usize = 12;
-const MAX_WORDS: usize = 64;
-const MAX_LITERALS: usize = 16;
-const MAX_VARIABLES: usize = 10;
-const LETTERS: std::ops::RangeInclusive<u8> = b'A'..=b'H';
+pub const MAX_WORDS: usize = 64;
+pub const MAX_LITERALS: usize = 16;
+/// After flattening.
+pub const MAX_VARIABLES: usize = 10;
+pub const LETTERS: std::ops::RangeInclusive<u8> = b'A'..=b'H';
 
 /// An accepted sheet.
 pub struct Problem {
@@ -147,7 +148,8 @@ fn count(lines: &mut Lines, key: &[u8], limit: usize) -> Result<usize, Reason> {
     Ok(count)
 }
 
-fn well_formed(name: &[u8]) -> bool {
+/// 1 to 12 bytes: a lower-case letter, then lower-case letters, digits and underscores.
+pub fn well_formed(name: &[u8]) -> bool {
     let follows = |b: &u8| b.is_ascii_lowercase() || b.is_ascii_digit() || *b == b'_';
     match name {
         [first, rest @ ..] => name.len() <= MAX_NAME && first.is_ascii_lowercase() && rest.iter().all(follows),

@@ -44,10 +44,15 @@ fn vector(line: &str) -> Vector {
     let mut rest = rest.as_bytes();
     let inputs = fields(&mut rest);
     rest = rest.strip_prefix(b"-> ").expect("an arrow before the answer");
+    let mut answer = fields(&mut rest);
+    if answer.has("refused") {
+        // left out where the operation names no column
+        answer.0.entry("column".to_string()).or_insert(b"0".to_vec());
+    }
     Vector {
         operation: operation.to_string(),
         inputs,
-        answer: fields(&mut rest),
+        answer,
     }
 }
 
@@ -99,10 +104,10 @@ fn hex(digit: u8) -> u8 {
     (digit as char).to_digit(16).expect("a hexadecimal digit") as u8
 }
 
-/// Runs one vector of the five operations; the difference in words if there is one.
+/// Runs one vector of the operations; the difference in words if there is one.
 pub fn run(operations: &Operations, vector: &Vector) -> Result<(), String> {
     let given = &vector.inputs;
-    let sheet = given.bytes("sheet");
+    let sheet = if given.has("sheet") { given.bytes("sheet") } else { &[] };
     let mut out = patterned_bytes(if given.has("output") { given.number("output") } else { 0 });
     let mut work = patterned_numbers(if given.has("work") { given.number("work") } else { 0 });
     let answered = match vector.operation.as_str() {
@@ -117,6 +122,7 @@ pub fn run(operations: &Operations, vector: &Vector) -> Result<(), String> {
         "read-back" => (operations.read_back)(sheet, given.number("size"), given.bytes("setting"), &mut out)
             .map(|n| format!("length={n}")),
         "find" => (operations.find)(sheet, given.number("low"), given.number("high"), &mut work, &mut out).map(found),
+        "from-tptp" => (operations.from_tptp)(given.bytes("text"), &mut out).map(|n| format!("length={n}")),
         other => panic!("no operation {other}"),
     };
     let refused = answered.is_err();
@@ -143,6 +149,7 @@ fn expected(answer: &Fields) -> String {
     let keys = [
         "refused",
         "line",
+        "column",
         "needed",
         "functions",
         "predicates",
@@ -166,9 +173,10 @@ fn found(search: Search) -> String {
 
 fn refusal(refusal: Refusal) -> String {
     format!(
-        "refused={} line={} needed={}",
+        "refused={} line={} column={} needed={}",
         refusal.reason.number(),
         refusal.line,
+        refusal.column,
         refusal.needed
     )
 }

@@ -1,5 +1,6 @@
 //! Lent buffers in which every byte and number that was touched shows.
 
+use crate::random::Random;
 use nesskettle_reference::vectors::{patterned_bytes, patterned_numbers};
 
 /// How much stands before and after the lent part.
@@ -43,5 +44,17 @@ impl<T: Clone + PartialEq> Lent<T> {
         self.all[..GUARD] == self.before[..GUARD]
             && self.all[GUARD..end] == *front
             && self.all[end..] == self.before[end..]
+    }
+}
+
+/// A length around the needed one: one short, exact, longer, or nothing of the kind.
+pub fn length_around(random: &mut Random, needed: u64) -> usize {
+    let needed = needed as usize;
+    match random.below(8) {
+        0 => needed.saturating_sub(1),
+        1 => needed + random.below(100),
+        2 => random.between(0, needed),
+        3 => 0,
+        _ => needed,
     }
 }

@@ -14,10 +14,26 @@ pub fn damaged(random: &mut Random, text: &[u8]) -> Vec<u8> {
     text
 }
 
+/// The text after one to three damages to its bytes and lines, with these bytes.
+pub fn damaged_bytes(random: &mut Random, text: &[u8], bytes: &[u8]) -> Vec<u8> {
+    let mut text = text.to_vec();
+    for _ in 0..random.between(1, 3).min(random.between(1, 3)) {
+        match random.below(7) {
+            0 | 1 => change_byte(random, &mut text, bytes),
+            2 => insert_byte(random, &mut text, bytes),
+            3 => remove_byte(random, &mut text),
+            4 => shorten(random, &mut text),
+            5 => change_lines(random, &mut text),
+            _ => swap_bytes(random, &mut text),
+        }
+    }
+    text
+}
+
 fn damage(random: &mut Random, text: &mut Vec<u8>) {
     match random.below(10) {
-        0 => change_byte(random, text),
-        1 => insert_byte(random, text),
+        0 => change_byte(random, text, BYTES),
+        1 => insert_byte(random, text, BYTES),
         2 => remove_byte(random, text),
         3 => shorten(random, text),
         4 => text.extend((0..random.between(1, 9)).map(|_| *random.pick(BYTES))),
@@ -29,20 +45,20 @@ fn damage(random: &mut Random, text: &mut Vec<u8>) {
     }
 }
 
-fn change_byte(random: &mut Random, text: &mut [u8]) {
+fn change_byte(random: &mut Random, text: &mut [u8], bytes: &[u8]) {
     if !text.is_empty() {
         let at = random.below(text.len());
         text[at] = if random.once_in(3) {
             random.number() as u8
         } else {
-            *random.pick(BYTES)
+            *random.pick(bytes)
         };
     }
 }
 
-fn insert_byte(random: &mut Random, text: &mut Vec<u8>) {
+fn insert_byte(random: &mut Random, text: &mut Vec<u8>, bytes: &[u8]) {
     let at = random.between(0, text.len());
-    text.insert(at, *random.pick(BYTES));
+    text.insert(at, *random.pick(bytes));
 }
 
 fn remove_byte(random: &mut Random, text: &mut Vec<u8>) {

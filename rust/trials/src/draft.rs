@@ -220,6 +220,24 @@ impl Draft {
         text.into_bytes()
     }
 
+    /// The draft with its symbols in order of first appearance in its clauses, those that no clause has left out, and
+    /// with the letters of each clause A, B, .. in that order.
+    pub fn in_order_of_appearance(&self) -> Draft {
+        let appearing = |symbols: &[Symbol]| {
+            let mut seen: Vec<Symbol> = Vec::new();
+            for word in self.clauses.iter().flatten() {
+                let symbol = symbols.iter().find(|s| s.name == *word);
+                seen.extend(symbol.filter(|s| seen.iter().all(|t| t.name != s.name)).cloned());
+            }
+            seen
+        };
+        Draft {
+            functions: appearing(&self.functions),
+            predicates: appearing(&self.predicates),
+            clauses: self.clauses.iter().map(|words| relettered(words)).collect(),
+        }
+    }
+
     /// The bytes of a random case.
     pub fn case(&self, random: &mut Random, size: usize) -> Vec<u8> {
         let mut text = format!("case=1\nsize={size}\n");
@@ -247,6 +265,22 @@ impl Draft {
         }
         setting
     }
+}
+
+/// The words with the letters A, B, .. in order of first appearance.
+fn relettered(words: &[String]) -> Vec<String> {
+    let is_letter = |word: &String| LETTERS.contains(&word.as_str());
+    let mut seen: Vec<&String> = Vec::new();
+    for word in words.iter().filter(|word| is_letter(word)) {
+        if !seen.contains(&word) {
+            seen.push(word);
+        }
+    }
+    let place = |word: &String| seen.iter().position(|s| *s == word);
+    let words = words.iter();
+    words
+        .map(|word| place(word).map_or(word.clone(), |i| LETTERS[i].to_string()))
+        .collect()
 }
 
 /// A well-formed name, sometimes that of a key, sometimes as long as can be.

@@ -5,3 +5,5 @@ pub mod damage;
 pub mod draft;
 pub mod problems;
 pub mod random;
+pub mod tally;
+pub mod tptp;

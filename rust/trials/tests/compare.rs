@@ -5,42 +5,18 @@
 
 use nesskettle::raw::{self, FindAnswer, JudgeAnswer, ReadAnswer, WriteAnswer};
 use nesskettle_reference::{self as reference, Refusal, Search};
-use nesskettle_trials::buffers::Lent;
+use nesskettle_trials::buffers::{length_around, Lent};
 use nesskettle_trials::damage::damaged;
 use nesskettle_trials::draft::{long_sheet, Draft, Style, BROAD, LIMITS, LONG_CLAUSES, SMALL};
 use nesskettle_trials::problems::{self, MILLION};
 use nesskettle_trials::random::Random;
-use std::collections::BTreeMap;
+use nesskettle_trials::tally::Tally;
 
 /// Generated searches that need more choices than this are left out.
 const CHOICES: u64 = 2_000;
 
 /// Sizes that no call takes, those that a narrower number would take among them.
 const BAD_SIZES: [u64; 6] = [0, 9, 10, 258, (1 << 32) + 2, u64::MAX];
-
-/// How often each outcome came up.
-#[derive(Default)]
-struct Tally(BTreeMap<String, usize>);
-
-impl Tally {
-    fn add(&mut self, outcome: &str, reason: u32) {
-        let key = if reason > 0 {
-            format!("{reason}")
-        } else {
-            outcome.to_string()
-        };
-        *self.0.entry(key).or_default() += 1;
-    }
-
-    /// Each of these came up, at least so often.
-    fn covers(&self, least: usize, outcomes: &[&str]) {
-        println!("{:?}", self.0);
-        for &outcome in outcomes {
-            let times = self.0.get(outcome).copied().unwrap_or(0);
-            assert!(times >= least, "{outcome} came up {times} times only: {:?}", self.0);
-        }
-    }
-}
 
 fn text(bytes: &[u8]) -> String {
     String::from_utf8_lossy(bytes).into_owned()
@@ -149,7 +125,9 @@ fn check_read_back(tally: &mut Tally, sheet: &[u8], size: u64, setting: &[u8], o
 /// The answer of a call that writes a text, and the text.
 fn expected_text(answer: Result<usize, Refusal>, output: &[u8]) -> (WriteAnswer, &[u8]) {
     match answer {
-        Err(Refusal { reason, line, needed }) => (
+        Err(Refusal {
+            reason, line, needed, ..
+        }) => (
             WriteAnswer {
                 outcome: 0,
                 reason: reason.number(),
@@ -193,7 +171,9 @@ fn check_find_within(
         settled: 0,
     };
     let (expected, front, zeros) = match reference::find_within(sheet, low, high, &mut scratch, &mut should, choices) {
-        Err(Refusal { reason, line, needed }) => (
+        Err(Refusal {
+            reason, line, needed, ..
+        }) => (
             FindAnswer {
                 reason: reason.number(),
                 line,
@@ -287,18 +267,6 @@ fn size_of(random: &mut Random, sheet: &[u8], instances: u64) -> u64 {
         size -= 1;
     }
     size
-}
-
-/// A length around the needed one: one short, exact, longer, or nothing of the kind.
-fn length_around(random: &mut Random, needed: u64) -> usize {
-    let needed = needed as usize;
-    match random.below(8) {
-        0 => needed.saturating_sub(1),
-        1 => needed + random.below(100),
-        2 => random.between(0, needed),
-        3 => 0,
-        _ => needed,
-    }
 }
 
 #[test]

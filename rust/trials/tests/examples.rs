@@ -10,6 +10,7 @@ fn refused<T>(reason: Reason, line: u64) -> Result<T, Refusal> {
     Err(Refusal {
         reason,
         line,
+        column: 0,
         needed: 0,
     })
 }

@@ -1,6 +1,7 @@
-//! Every call does with 192 kB of stack, also on the deepest terms that a clause of 64 words has.
+//! Every call does with 192 kB of stack, also on the deepest terms that a clause of 64 words has, and on TPTP terms of any
+//! depth.
 
-use nesskettle::{find, judge, read, read_back, write, Reason};
+use nesskettle::{find, from_tptp, judge, read, read_back, write, Reason};
 use nesskettle_reference::sheet_of;
 
 const STACK: usize = 192 * 1024;
@@ -25,9 +26,18 @@ fn the_deepest_terms_are_refused() {
         let mut work = vec![0; 1000];
         assert_eq!(read(&sheet).unwrap_err().reason, Reason::ClauseTooLarge);
         assert_eq!(judge(&sheet, b"").unwrap_err().reason, Reason::ClauseTooLarge);
-        assert_eq!(write(&sheet, 2, &mut output).unwrap_err().reason, Reason::ClauseTooLarge);
-        assert_eq!(read_back(&sheet, 2, b"", &mut output).unwrap_err().reason, Reason::ClauseTooLarge);
-        assert_eq!(find(&sheet, 1, 2, &mut work, &mut output).unwrap_err().reason, Reason::ClauseTooLarge);
+        assert_eq!(
+            write(&sheet, 2, &mut output).unwrap_err().reason,
+            Reason::ClauseTooLarge
+        );
+        assert_eq!(
+            read_back(&sheet, 2, b"", &mut output).unwrap_err().reason,
+            Reason::ClauseTooLarge
+        );
+        assert_eq!(
+            find(&sheet, 1, 2, &mut work, &mut output).unwrap_err().reason,
+            Reason::ClauseTooLarge
+        );
     });
 }
 
@@ -41,5 +51,32 @@ fn the_deepest_terms_are_taken() {
         assert!(write(&sheet, 2, &mut output).is_ok());
         assert!(read_back(&sheet, 1, &[1, 1], &mut output).is_ok());
         assert!(find(&sheet, 1, 2, &mut work, &mut output).is_ok());
+    });
+}
+
+#[test]
+fn deep_tptp_terms_are_refused() {
+    let text = format!("cnf(deep,axiom,p({}X{})).", "f(".repeat(20_000), ")".repeat(20_000));
+    on_a_small_stack(move || {
+        let mut output = vec![0; 1000];
+        let refusal = from_tptp(text.as_bytes(), &mut output).unwrap_err();
+        // 20,003 words, told at the full stop
+        assert_eq!(
+            (refusal.reason, refusal.column),
+            (Reason::BeyondSheets, text.len() as u64)
+        );
+        let unfinished = &text.as_bytes()[..text.len() - 10];
+        assert_eq!(from_tptp(unfinished, &mut output).unwrap_err().reason, Reason::NotTptp);
+    });
+}
+
+#[test]
+fn the_deepest_tptp_terms_are_taken() {
+    let text = format!("cnf(deep,axiom,p({}X{})).", "f(".repeat(9), ")".repeat(9));
+    let sheet = nested(9);
+    on_a_small_stack(move || {
+        let mut output = vec![0; 1000];
+        assert_eq!(from_tptp(text.as_bytes(), &mut output), Ok(sheet.len()));
+        assert_eq!(output[..sheet.len()], sheet);
     });
 }

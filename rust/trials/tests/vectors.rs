@@ -6,7 +6,7 @@ use std::path::Path;
 use std::process::{Command, Stdio};
 
 #[test]
-fn the_five_operations_answer_as_stored() {
+fn the_operations_answer_as_stored() {
     for (line, vector) in (1..).zip(vectors::stored()) {
         if vector.operation != "program" {
             vectors::run(&nesskettle::OPERATIONS, &vector).unwrap_or_else(|e| panic!("vector {line}: {e}"));

@@ -15,7 +15,7 @@ use Rattle.theory.specs.Refusals.{answer, refused, needing}
 use Rattle.tptp.specs.Places.{refusedAt}
 use Rattle.tptp.specs.Trees.{Statement}
 use Rattle.tptp.specs.Symbols.{Occurrence, clauseOccurrences, declares, names, firstOfName, clauseOver, problemOf}
-use Rattle.tptp.specs.SheetText.{sheetText}
+use Rattle.theory.specs.SheetText.{sheetText}
 use Rattle.tptp.specs.Tptp.{readFile, clausesOfFile, Fault, faultIf, occurrenceFaults, statementFaults, foreignFault, faults, tptpText}
 use Rattle.tptp.specs.Claims.Order.{firstFault, declaredBy, signatureBy, firstFaultFrom}
 

@@ -4,10 +4,10 @@ use mathlib.Core.Path.{_≡_}
 use mathlib.Core.Option.{Option, none, some}
 use mathlib.Core.List.{List, [], _∷_, _++_, map}
 use Rattle.theory.specs.Lists.{concatMap}
-use Rattle.theory.specs.Syntax.{Symbol, Signature}
+use Rattle.theory.specs.Syntax.{Symbol, Signature, functions, predicates}
 use Rattle.theory.specs.Least.{orElse}
 use Rattle.tptp.specs.Trees.{NameClause, Statement}
-use Rattle.tptp.specs.Symbols.{declares, clauseOccurrences, firstOfName, functionsOf, predicatesOf, signatureOf}
+use Rattle.tptp.specs.Symbols.{declares, clauseOccurrences, firstOfName, signatureOf}
 use Rattle.tptp.specs.Tptp.{Fault, statementFaults, faultsFrom}
 
 -- the first of a list
@@ -21,7 +21,7 @@ declaredBy c = concatMap declares (clauseOccurrences c)
 
 -- the signature of symbols in order of first appearance
 abbrev pub signatureBy : List Symbol → Signature
-signatureBy xs = functionsOf (firstOfName (λ (f : Symbol). f .name) xs) ++ predicatesOf (firstOfName (λ (f : Symbol). f .name) xs)
+signatureBy xs = functions (firstOfName (λ (f : Symbol). f .name) xs) ++ predicates (firstOfName (λ (f : Symbol). f .name) xs)
 
 -- the first fault of statements, i others and the symbols xs being before them; what comes later is not looked at
 abbrev pub firstFaultFrom : List Symbol → ℕ → List Statement → Option Fault

@@ -7,7 +7,8 @@ use Rattle.theory.specs.Refusals.{unplaced}
 use Rattle.theory.specs.Operations.{maxInstances}
 use Rattle.problem.specs.Problems.{problemIn}
 use Rattle.writing.specs.Texts.{instancesAt, textWithin, textAt}
-use Rattle.writing.proofs.Refusing.{refuses, answers-as, too-many, not-too-many}
+use Rattle.answers.proofs.Answering.{refuses, answers-as}
+use Rattle.writing.proofs.Refusing.{too-many, not-too-many}
 use Rattle.writing.proofs.write_at.Statement.{statement}
 use Rattle.writing.proofs.write_at.Tie as tie
 

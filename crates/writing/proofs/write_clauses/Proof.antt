@@ -9,7 +9,8 @@ use Rattle.syntax.proofs.Sizes.{checked-size, refused-size, size-within}
 use Rattle.problem.specs.Problems.{problemIn}
 use Rattle.problem.proofs.SheetRead.{sheet-accepted, sheet-refused}
 use Rattle.writing.specs.Texts.{textAt}
-use Rattle.writing.proofs.Refusing.{refuses, answers-as, sheet-refusal, size-refusal, sized-text}
+use Rattle.answers.proofs.Answering.{refuses, answers-as}
+use Rattle.writing.proofs.Refusing.{sheet-refusal, size-refusal, sized-text}
 use Rattle.writing.proofs.write_clauses.Statement.{statement}
 use Rattle.writing.proofs.write_clauses.Tie as tie
 

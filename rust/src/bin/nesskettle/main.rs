@@ -1,4 +1,4 @@
-//! The command `nesskettle`: the five operations for people.
+//! The command `nesskettle`: the operations for people.
 //!
 //! It reads files, lends buffers and prints; every answer is the library's.
 
@@ -8,7 +8,7 @@ mod report;
 mod room;
 mod tables;
 
-use options::Command;
+use options::{Command, Sheet};
 use report::{Failure, File};
 use std::io::Write;
 use std::process::ExitCode;
@@ -33,22 +33,39 @@ fn run(command: Command) -> Result<u8, Failure> {
     match command {
         Command::Help => print(options::HELP.as_bytes()),
         Command::Version => print(concat!("nesskettle ", env!("CARGO_PKG_VERSION"), "\n").as_bytes()),
-        Command::Check { sheet } => check(&File::read(&sheet)?),
-        Command::Judge { sheet, case } => judge(&File::read(&sheet)?, &File::read(&case)?),
-        Command::Clauses { sheet, size } => clauses(&File::read(&sheet)?, size),
+        Command::Tptp { file } => print(&from_tptp(File::read(&file)?)?.bytes),
+        Command::Check { sheet } => check(&read_sheet(&sheet)?),
+        Command::Judge { sheet, case } => judge(&read_sheet(&sheet)?, &File::read(&case)?),
+        Command::Clauses { sheet, size } => clauses(&read_sheet(&sheet)?, size),
         Command::ReadBack {
             sheet,
             size,
             setting,
             tables,
-        } => read_back(&File::read(&sheet)?, size, &File::read(&setting)?, tables),
+        } => read_back(&read_sheet(&sheet)?, size, &File::read(&setting)?, tables),
         Command::Find {
             sheet,
             low,
             high,
             tables,
-        } => find::find(&File::read(&sheet)?, low, high, tables),
+        } => find::find(&read_sheet(&sheet)?, low, high, tables),
     }
+}
+
+fn read_sheet(sheet: &Sheet) -> Result<File, Failure> {
+    let file = File::read(&sheet.path)?;
+    if sheet.is_tptp {
+        from_tptp(file)
+    } else {
+        Ok(file)
+    }
+}
+
+/// The sheet that a file of TPTP clauses is read into. No call refuses it for a line of its own, so that the file's lines
+/// are not needed any more.
+fn from_tptp(file: File) -> Result<File, Failure> {
+    let sheet = room::text(|output| nesskettle::from_tptp(&file.bytes, output)).map_err(|r| file.refused(r))?;
+    Ok(File { bytes: sheet, ..file })
 }
 
 fn check(sheet: &File) -> Result<u8, Failure> {

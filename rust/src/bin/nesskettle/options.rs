@@ -16,9 +16,15 @@ nesskettle: a finite model finder. Every answer is the proved library's.
       prints the case that a setting of the propositional variables stands for
   nesskettle check SHEET
       is it a sheet? prints how many functions, predicates and clauses it has
+  nesskettle tptp FILE
+      prints the sheet that a file of TPTP clauses is read into
   nesskettle --help, nesskettle --version
 
-SHEET, CASE and SETTING are files; one of them may be -, standard input.
+SHEET, CASE, SETTING and FILE are files; one of them may be -, standard input.
+
+A SHEET may be a file of TPTP clauses instead, cnf(name, role, clause). with
+comments: one whose name ends in .p or .tptp, or any file with --tptp. A case
+has the symbols in the order in which they first appear in the clauses.
 
 A SETTING file holds one digit, 0 or 1, for each propositional variable, in
 order. Spaces, tabs and line ends between the digits do not count.
@@ -29,35 +35,45 @@ table has 1 where it holds and . where it does not.
 
 Where standard error is a terminal, find tells there which size it is at.
 
-A refused sheet or case is told with the refusal's number, what is wrong, the
-line's number and the line.
+A refused sheet, case or TPTP file is told with the refusal's number, what is
+wrong, the line's number and the line; a TPTP file with a mark under the column.
 
 Exit status: 0 found, yes, or printed; 1 none or no; 2 refused or called wrongly.
 ";
+
+/// A file that has a sheet, or TPTP clauses that are read into one.
+#[derive(Debug, PartialEq, Eq)]
+pub struct Sheet {
+    pub path: String,
+    pub is_tptp: bool,
+}
 
 #[derive(Debug, PartialEq, Eq)]
 pub enum Command {
     Help,
     Version,
+    Tptp {
+        file: String,
+    },
     Check {
-        sheet: String,
+        sheet: Sheet,
     },
     Judge {
-        sheet: String,
+        sheet: Sheet,
         case: String,
     },
     Clauses {
-        sheet: String,
+        sheet: Sheet,
         size: u64,
     },
     ReadBack {
-        sheet: String,
+        sheet: Sheet,
         size: u64,
         setting: String,
         tables: bool,
     },
     Find {
-        sheet: String,
+        sheet: Sheet,
         low: u64,
         high: u64,
         tables: bool,
@@ -73,29 +89,44 @@ pub fn parse(arguments: impl Iterator<Item = String>) -> Result<Command, Failure
     if rest.flag("--version") {
         return Ok(Command::Version);
     }
+    let tptp = rest.flag("--tptp");
     if rest.0.is_empty() {
         return Err(wrong("no command was given"));
     }
+    let sheet_in = |path: String| Sheet {
+        is_tptp: tptp || path.ends_with(".p") || path.ends_with(".tptp"),
+        path,
+    };
     match rest.0.remove(0).as_str() {
+        "tptp" => {
+            let [file] = rest.files("FILE")?;
+            Ok(Command::Tptp { file })
+        }
         "check" => {
             let [sheet] = rest.files("SHEET")?;
-            Ok(Command::Check { sheet })
+            Ok(Command::Check { sheet: sheet_in(sheet) })
         }
         "judge" => {
             let [sheet, case] = rest.files("SHEET CASE")?;
-            Ok(Command::Judge { sheet, case })
+            Ok(Command::Judge {
+                sheet: sheet_in(sheet),
+                case,
+            })
         }
         "clauses" => {
             let size = rest.size()?;
             let [sheet] = rest.files("SHEET")?;
-            Ok(Command::Clauses { sheet, size })
+            Ok(Command::Clauses {
+                sheet: sheet_in(sheet),
+                size,
+            })
         }
         "read-back" => {
             let size = rest.size()?;
             let tables = rest.flag("--tables");
             let [sheet, setting] = rest.files("SHEET SETTING")?;
             Ok(Command::ReadBack {
-                sheet,
+                sheet: sheet_in(sheet),
                 size,
                 setting,
                 tables,
@@ -107,7 +138,7 @@ pub fn parse(arguments: impl Iterator<Item = String>) -> Result<Command, Failure
             let tables = rest.flag("--tables");
             let [sheet] = rest.files("SHEET")?;
             Ok(Command::Find {
-                sheet,
+                sheet: sheet_in(sheet),
                 low,
                 high,
                 tables,

@@ -4,6 +4,9 @@ use nesskettle::{Reason, Refusal};
 use std::fmt;
 use std::io::Read;
 
+/// How many bytes of a line are shown.
+const SHOWN: usize = 120;
+
 /// Why there is no answer, for people.
 #[derive(Debug)]
 pub struct Failure(pub String);
@@ -16,7 +19,7 @@ impl fmt::Display for Failure {
 
 /// A file's bytes, and what to call it.
 pub struct File {
-    name: String,
+    pub name: String,
     pub bytes: Vec<u8>,
 }
 
@@ -38,35 +41,46 @@ impl File {
         })
     }
 
-    /// The refusal in words, with this file's line if one is named.
+    /// The refusal in words, with this file's line if one is named, and a mark below if a column is.
     pub fn refused(&self, refusal: Refusal) -> Failure {
         if refusal.line == 0 {
             return Failure(refusal.to_string());
         }
-        Failure(format!(
-            "{refusal}\n  {}:{}: {}",
-            self.name,
-            refusal.line,
-            self.line(refusal.line)
-        ))
+        let place = format!("  {}:{}: ", self.name, refusal.line);
+        let (before, after) = self.line(refusal.line, refusal.column);
+        let mut told = format!("{refusal}\n{place}{before}{after}");
+        if refusal.column > 0 {
+            let left = place.chars().count() + before.chars().count();
+            told += &format!("\n{}^", " ".repeat(left));
+        }
+        Failure(told)
     }
 
-    /// The line with this number, shortened, with bytes escaped that are not printed.
-    fn line(&self, number: u64) -> String {
-        const SHOWN: usize = 120;
-        match self.bytes.split_inclusive(|&b| b == b'\n').nth(number as usize - 1) {
-            None => "(the text ends before this line)".to_string(),
-            Some(line) => {
-                let text = line.strip_suffix(b"\n").unwrap_or(line);
-                let more = if text.len() > SHOWN { " .." } else { "" };
-                let feed = if text.len() == line.len() {
-                    " (no line feed)"
-                } else {
-                    ""
-                };
-                format!("{}{more}{feed}", text[..text.len().min(SHOWN)].escape_ascii())
-            }
-        }
+    /// The line with this number, shortened, in two parts: what stands before the column, and the rest.
+    fn line(&self, number: u64, column: u64) -> (String, String) {
+        let Some(line) = self.bytes.split_inclusive(|&b| b == b'\n').nth(number as usize - 1) else {
+            return (String::new(), "(the text ends before this line)".to_string());
+        };
+        let text = line.strip_suffix(b"\n").unwrap_or(line);
+        let at = (column as usize).saturating_sub(1);
+        // where the column is far out, the part around it is shown
+        let start = if at < SHOWN { 0 } else { at - SHOWN / 2 };
+        let end = text.len().min(start + SHOWN);
+        let less = if start > 0 { ".. " } else { "" };
+        let unended = text.len() == line.len();
+        let more = if end < text.len() {
+            " .."
+        } else if unended && column == 0 {
+            " (no line feed)"
+        } else if unended && at == end {
+            " (the text ends here)"
+        } else {
+            ""
+        };
+        (
+            less.to_string() + &printable(&text[start..at]),
+            printable(&text[at..end]) + more,
+        )
     }
 
     /// The digits of a setting file as numbers; blanks between them do not count.
@@ -82,6 +96,15 @@ impl File {
         };
         written.map(digit).collect()
     }
+}
+
+/// The bytes, those escaped that are not printed.
+fn printable(bytes: &[u8]) -> String {
+    let shown = |&byte: &u8| match byte {
+        b' '..=b'~' => char::from(byte).to_string(),
+        _ => byte.escape_ascii().to_string(),
+    };
+    bytes.iter().map(shown).collect()
 }
 
 /// A refusal of Judge: 12 speaks of the case, the others of the sheet.

@@ -22,6 +22,7 @@ fn main() {
     write(&bench);
     read_back(&bench);
     find(&bench);
+    from_tptp(&bench);
 }
 
 struct Bench {
@@ -189,4 +190,36 @@ fn find(bench: &Bench) {
             assert_eq!((o.find)(sheet, size, size, &mut work, &mut output), expected);
         });
     }
+}
+
+fn from_tptp(bench: &Bench) {
+    // as a clinic writes them
+    let clause = |i: usize| {
+        format!(
+            "cnf(rule_{i}, axiom, ~more(X, Y) | ~more(Y, Z) | more(X, Z)\n    | shown(left, X) | ~shown(right, cap(Y)) | \
+             stop(f(X, Y), Z)\n    | X != both | Y != cap(Z) | more(both, X) | patchy(left, Y) | ~patchy(right, Z)). % rule {i} of the \
+             protocol for both eyes\n"
+        )
+    };
+    let clauses: String = (1..=64).map(clause).collect();
+    assert!(reference::from_tptp(clauses.as_bytes(), &mut [0; 16_384]).is_ok());
+    tptp_row(bench, "64 ordinary clauses", clauses, 20);
+    let line = "   \t % a comment to the line's end, of any bytes\r\n/* and another, * which ends\nhere */\n\n";
+    tptp_row(bench, "comments and blanks", line.repeat(1_000_000 / line.len()), 2);
+    // the number of arguments of a symbol is told where they end: at worst the whole term is looked through for each
+    for depth in [60, 1_000, 5_000, 10_000] {
+        let nested = format!("{}X{}", "f(".repeat(depth), ")".repeat(depth));
+        let text = format!("cnf(deep, axiom, p({nested})).\n");
+        tptp_row(bench, &format!("terms nested {depth} deep"), text, 1);
+    }
+}
+
+fn tptp_row(bench: &Bench, name: &str, text: String, times: u32) {
+    let kilobytes = text.len() as f64 / 1e3;
+    let mut output = vec![0; 16_384];
+    let expected = reference::from_tptp(text.as_bytes(), &mut output);
+    let name = format!("TPTP, {name}, {kilobytes:.0} kB");
+    bench.row(&name, times, Some((kilobytes / 1e3, "MB")), |o| {
+        assert_eq!((o.from_tptp)(text.as_bytes(), &mut output), expected);
+    });
 }

@@ -1,6 +1,6 @@
 -- `put_table` meets its contract: the name, then the values.
 use native.Mathlib.Omega.{arith}
-use Rattle.cases.proofs.NamesLent.{lent-length}
+use Rattle.syntax.proofs.NamesLent.{lent-length}
 use Rattle.cases.proofs.TablesWritten.{line-length, least-small, table-written}
 use borrow.Author.Needs.{needs}
 use Rattle.cases.proofs.writing.put_table.Statement.{statement}

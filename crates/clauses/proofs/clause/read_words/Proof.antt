@@ -4,7 +4,6 @@ use mathlib.Core.Path.{sym, subst}
 use mathlib.Core.List.{List}
 use Prim.Native.Nat.{ℕ}
 use Rattle.syntax.specs.Signatures.{signatureIn}
-use Rattle.clauses.specs.declared.clause.Words.{Words}
 use Rattle.clauses.specs.Clauses.{WordsRead}
 use Rattle.clauses.proofs.Going.{nothing, all-words}
 use Rattle.clauses.proofs.clause.read_words.Statement.{statement}

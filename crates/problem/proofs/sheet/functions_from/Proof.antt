@@ -4,8 +4,7 @@ use mathlib.Core.List.{[]}
 use native.Mathlib.Omega.{arith}
 use lib.ListN.{length, drop}
 use Rattle.theory.specs.Bytes.{bytes}
-use Rattle.theory.specs.Syntax.{function}
-use Rattle.theory.specs.Least.{functions}
+use Rattle.theory.specs.Syntax.{function, functions}
 use Rattle.syntax.specs.Signatures.{signatureIn}
 use Rattle.clauses.proofs.Held.{count-signatureIn}
 use Rattle.problem.specs.Sections.{sectionFrom, SectionRead}

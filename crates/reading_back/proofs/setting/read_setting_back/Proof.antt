@@ -6,7 +6,8 @@ use mathlib.Core.List.{List}
 use lib.ListN.{length}
 use Rattle.theory.specs.Refusals.{Answer, atLine, unplaced}
 use Rattle.theory.specs.Operations.{lengthAnswer, outputAfter}
-use Rattle.reading_back.proofs.Answered.{refused-so, sheet-refusal, sheet-within, size-refusal, size-taken, setting-left}
+use Rattle.answers.proofs.Answering.{refuses}
+use Rattle.reading_back.proofs.Answered.{sheet-refusal, sheet-within, size-refusal, size-taken, setting-left}
 use Rattle.reading_back.proofs.setting.read_setting_back.Statement.{statement}
 use Rattle.reading_back.proofs.setting.read_setting_back.Tie as tie
 
@@ -20,8 +21,8 @@ returns : tie.Need-returns
 returns c =
     let a = c .before .before .before .before .before .before .before .args in
     let r = c .before .before .before .read-problem in
-    refused-so (c .at-line .result) (atLine (r .result .fault) (r .result .line)) _ (a .output .now) (c .at-line .ensures)
-    (sheet-refusal (a .sheet .now) (r .result) (r .ensures .0) (a .size) (a .setting .now) (length (a .output .now)) (c .before .if1 .taken))
+    refuses _ (atLine (r .result .fault) (r .result .line)) (c .at-line .result) (a .output .now)
+    (sheet-refusal (a .sheet .now) (r .result) (r .ensures .0) (a .size) (a .setting .now) (length (a .output .now)) (c .before .if1 .taken)) (c .at-line .ensures)
 
 checked-requires : tie.Need-checked-requires
 checked-requires c κs = search needs
@@ -53,8 +54,8 @@ returns-2 c =
     let a = c .before .before .before .before .before .before .before .before .before .before .before .args in
     let r = c .before .before .before .before .before .before .before .read-problem in
     let k = c .before .before .before .checked in
-    refused-so (c .at-line2 .result) (unplaced 8) _ (a .output .now) (c .at-line2 .ensures)
-    (size-refusal (a .sheet .now) (r .result) (r .ensures .0) (c .before .before .before .before .before .if1 .left) (a .size) (k .result) (k .ensures) (a .setting .now) (length (a .output .now)) (c .before .enum-told .given .1))
+    refuses _ (unplaced 8) (c .at-line2 .result) (a .output .now)
+    (size-refusal (a .sheet .now) (r .result) (r .ensures .0) (c .before .before .before .before .before .if1 .left) (a .size) (k .result) (k .ensures) (a .setting .now) (length (a .output .now)) (c .before .enum-told .given .1)) (c .at-line2 .ensures)
 
 same-length : tie.Need-same-length
 same-length c = search needs

@@ -16,7 +16,8 @@ use Rattle.valuations.proofs.Bits.{is-counted, is-binary}
 use Rattle.reading_back.specs.Bits.{WritableBits}
 use Rattle.reading_back.proofs.Bits.{setting-held}
 use Rattle.reading_back.proofs.Written.{text-length}
-use Rattle.reading_back.proofs.Answered.{refused-so, written-so, no-valuation, not-functional, no-room, text-said}
+use Rattle.answers.proofs.Answering.{refuses, writes}
+use Rattle.reading_back.proofs.Answered.{no-valuation, not-functional, no-room, text-said}
 use Rattle.reading_back.proofs.setting.write_setting.Statement.{statement}
 use Rattle.reading_back.proofs.setting.write_setting.Tie as tie
 
@@ -37,7 +38,7 @@ returns c =
     let n = c .before .before .before .numbering-of in
     let v = c .before .before .is-valuation in
     let is = v .ensures (a .size .0) g (n .ensures (a .sheet .now)) in
-    refused-so (c .at-line .result) (unplaced 13) _ (a .output .now) (c .at-line .ensures) (no-valuation (a .size .0) g (a .setting .now) (length (a .output .now)) (sym is ∙ not-true (v .result) (c .before .if1 .taken)))
+    refuses _ (unplaced 13) (c .at-line .result) (a .output .now) (no-valuation (a .size .0) g (a .setting .now) (length (a .output .now)) (sym is ∙ not-true (v .result) (c .before .if1 .taken))) (c .at-line .ensures)
 
 is-functional-requires : tie.Need-is-functional-requires
 is-functional-requires c κs =
@@ -63,8 +64,8 @@ returns-2 c =
     let is = v .ensures (a .size .0) g (n .ensures (a .sheet .now)) in
     let valuation = sym is ∙ not-false (v .result) (c .before .before .before .if1 .left) in
     let f = c .before .before .is-functional in
-    refused-so (c .at-line2 .result) (unplaced 14) _ (a .output .now) (c .at-line2 .ensures)
-    (not-functional (a .size .0) g (a .setting .now) (length (a .output .now)) valuation (sym (f .ensures (a .sheet .now)) ∙ not-true (f .result) (c .before .if2 .taken)))
+    refuses _ (unplaced 14) (c .at-line2 .result) (a .output .now)
+    (not-functional (a .size .0) g (a .setting .now) (length (a .output .now)) valuation (sym (f .ensures (a .sheet .now)) ∙ not-true (f .result) (c .before .if2 .taken))) (c .at-line2 .ensures)
 
 case-length-requires : tie.Need-case-length-requires
 case-length-requires c κs =
@@ -87,8 +88,8 @@ returns-3 c =
     let functional = sym (f .ensures (a .sheet .now)) ∙ not-false (f .result) (c .before .before .before .if2 .left) in
     let l = c .before .before .case-length .ensures (a .sheet .now) (s .pre .0) in
     let told : refusalIn (c .needing .result) ≡ needing 11 (c .before .before .case-length .result) = c .needing .ensures in
-    refused-so (c .needing .result) (needing 11 (caseLength (a .size .0) g)) _ (a .output .now) (told ∙ ap (needing 11) l)
-    (no-room (a .size .0) g (a .setting .now) (length (a .output .now)) valuation functional (omega (arith, c .before .if3 .taken, l)))
+    refuses _ (needing 11 (caseLength (a .size .0) g)) (c .needing .result) (a .output .now)
+    (no-room (a .size .0) g (a .setting .now) (length (a .output .now)) valuation functional (omega (arith, c .before .if3 .taken, l))) (told ∙ ap (needing 11) l)
 
 slice-aggregate-write-case : tie.Need-slice-aggregate-write-case
 slice-aggregate-write-case c = search needs
@@ -143,10 +144,10 @@ returns-4 c =
       functional = functional;
     } in
     let p = c .before .before .write-case in
-    written-so (p .result) (caseText (a .size .0) g (readBack (a .size .0) g (a .setting .now))) _ (a .output .now) (p .last .1 .1 .1 .1 .1 .1 .0)
+    writes _ (caseText (a .size .0) g (readBack (a .size .0) g (a .setting .now))) (p .result) (a .output .now) (p .last .1 .1 .1 .1 .1 .1 .0)
+    (text-said (a .size .0) g (a .setting .now) (length (a .output .now)) valuation functional (omega (arith, c .before .before .before .before .before .if3 .left, l)))
     (p .ensures .1 ∙ sym (text-length (a .sheet .now) (a .signature) (n .result) (a .size .0) (a .setting .now) w))
     (p .ensures .0 ∙ ap (λ (σ : List ℕ). over (caseText (a .size .0) g (readBack (a .size .0) g σ)) (a .output .now)) (setting-held (a .setting .now)))
-    (text-said (a .size .0) g (a .setting .now) (length (a .output .now)) valuation functional (omega (arith, c .before .before .before .before .before .if3 .left, l)))
 
 pub write-setting-spec : {M : Type 1} → statement M
 write-setting-spec =

@@ -5,23 +5,16 @@ use Rattle.sheet_text.proofs.LinesWritten.{line-length}
 use borrow.Author.Needs.{needs}
 use Rattle.sheet_text.proofs.lines.count_line_length.Statement.{statement}
 use Rattle.sheet_text.proofs.lines.count_line_length.Tie as tie
-use Rattle.sheet_text.proofs.lines.count_line_length.Reads as reads
-use Rattle.sheet_text.proofs.lines.count_line_length.Lts as lts
-use Rattle.text.proofs.writing.decimal_length.Reads as decimal-length-reads
 
--- src/lines.rt:20:17
 decimal-length-requires : tie.Need-decimal-length-requires
 decimal-length-requires c κs = search needs
 
--- src/lines.rt:20:5
 add-result : tie.Need-add-result
 add-result c = omega (arith, c .before .before .pre, c .decimal-length .ensures, line-length (c .before .before .args .key .now) (decimal (c .before .before .args .n)))
 
--- src/lines.rt:20:5
 add-result-2 : tie.Need-add-result-2
 add-result-2 c = omega (arith, c .before .before .pre, c .decimal-length .ensures, line-length (c .before .before .args .key .now) (decimal (c .before .before .args .n)))
 
--- src/lines.rt:17:1
 returns : tie.Need-returns
 returns c = omega (arith, c .decimal-length .ensures, line-length (c .before .before .args .key .now) (decimal (c .before .before .args .n)))
 

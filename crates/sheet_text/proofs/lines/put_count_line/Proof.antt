@@ -6,25 +6,18 @@ use Rattle.theory.specs.Bytes.{decimal}
 use Rattle.sheet_text.proofs.LinesWritten.{line-length, line-written}
 use Rattle.sheet_text.proofs.lines.put_count_line.Statement.{statement}
 use Rattle.sheet_text.proofs.lines.put_count_line.Tie as tie
-use Rattle.sheet_text.proofs.lines.put_count_line.Reads as reads
-use Rattle.sheet_text.proofs.lines.put_count_line.Lts as lts
-use Rattle.text.proofs.writing.put_bytes.Reads as put-bytes-reads
-use Rattle.text.proofs.writing.put_number.Reads as put-number-reads
 
--- src/lines.rt:29:9
 put-bytes-requires : tie.Need-put-bytes-requires
 put-bytes-requires c κs =
     let z = c .before .before .before in
     omega (arith, z .pre, line-length (z .args .key .now) (decimal (z .args .n)))
 
--- src/lines.rt:30:9
 put-number-requires : tie.Need-put-number-requires
 put-number-requires c κs =
     let z = c .before .before .before .before .before .before .before in
     let p = c .before .before .before .put-bytes in
     omega (arith, z .pre, p .ensures .1, p .kept .0, line-length (z .args .key .now) (decimal (z .args .n)))
 
--- src/lines.rt:31:5
 slice-write-out : tie.Need-slice-write-out
 slice-write-out c =
     let z = c .before .before .before .before .before .before .before .before .before .before in
@@ -32,7 +25,6 @@ slice-write-out c =
     let q = c .before .before .put-number in
     omega (arith, z .pre, p .ensures .1, p .kept .0, q .ensures .1, q .kept .0, line-length (z .args .key .now) (decimal (z .args .n)))
 
--- src/lines.rt:32:5
 add-result : tie.Need-add-result
 add-result c =
     let z = c .before .before .before .before .before .before .before .before .before .before in
@@ -40,14 +32,12 @@ add-result c =
     let q = c .before .before .put-number in
     omega (arith, z .good, z .pre, p .ensures .1, q .ensures .1, line-length (z .args .key .now) (decimal (z .args .n)))
 
--- src/lines.rt:24:1
 same-length : tie.Need-same-length
 same-length c =
     let p = c .before .before .before .before .before .before .put-bytes in
     let q = c .before .before .put-number in
     simp length-set (q .kept .0 ∙ p .kept .0)
 
--- src/lines.rt:24:1
 returns : tie.Need-returns
 returns c =
     let z = c .before .before .before .before .before .before .before .before .before .before in

@@ -5,53 +5,42 @@ use Rattle.sheet_text.proofs.LinesWritten.{symbol-length, symbol-writte
 use borrow.Author.Needs.{needs}
 use Rattle.sheet_text.proofs.lines.put_symbol.Statement.{statement}
 use Rattle.sheet_text.proofs.lines.put_symbol.Tie as tie
-use Rattle.sheet_text.proofs.lines.put_symbol.Reads as reads
-use Rattle.sheet_text.proofs.lines.put_symbol.Lts as lts
-use Rattle.sheet_text.proofs.lines.put_name.Reads as put-name-reads
 
--- src/lines.rt:61:9
 put-name-requires : tie.Need-put-name-requires
 put-name-requires c κs =
     let z = c .before .before .before in
     (z .pre .0, omega (arith, z .pre .1, symbol-length (z .args .text .now) (z .args .symbol)))
 
--- src/lines.rt:62:5
 slice-write-out : tie.Need-slice-write-out
 slice-write-out c =
     let z = c .before .before .before .before .before .before in
     let p = c .before .before .put-name in
     omega (arith, z .pre .1, p .ensures .1, p .kept .0, symbol-length (z .args .text .now) (z .args .symbol))
 
--- src/lines.rt:63:20
 add-out : tie.Need-add-out
 add-out c = search needs
 
--- src/lines.rt:63:9
 add-out-2 : tie.Need-add-out-2
 add-out-2 c =
     let z = c .before .before .before .before .before .before .before in
     let p = c .before .before .before .put-name in
     omega (arith, z .good, z .pre .1, p .ensures .1, symbol-length (z .args .text .now) (z .args .symbol))
 
--- src/lines.rt:63:5
 slice-write-out-2 : tie.Need-slice-write-out-2
 slice-write-out-2 c =
     let z = c .before .before .before .before .before .before .before in
     let p = c .before .before .before .put-name in
     simp length-set (omega (arith, z .pre .1, p .ensures .1, p .kept .0, symbol-length (z .args .text .now) (z .args .symbol)))
 
--- src/lines.rt:64:5
 add-result : tie.Need-add-result
 add-result c =
     let z = c .before .before .before .before .before .before .before in
     let p = c .before .before .before .put-name in
     omega (arith, z .good, z .pre .1, p .ensures .1, symbol-length (z .args .text .now) (z .args .symbol))
 
--- src/lines.rt:56:1
 same-length : tie.Need-same-length
 same-length c = search needs
 
--- src/lines.rt:56:1
 returns : tie.Need-returns
 returns c =
     let z = c .before .before .before .before .before .before .before in

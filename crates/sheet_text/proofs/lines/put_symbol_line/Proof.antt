@@ -2,30 +2,23 @@
 use native.Mathlib.Omega.{arith}
 use mathlib.Core.Path.{_∙_}
 use lib.ListN.{length-set}
-use Rattle.tptp.specs.SheetText.{symbolText}
+use Rattle.theory.specs.SheetText.{symbolText}
 use Rattle.syntax.specs.Signatures.{symbolIn}
 use Rattle.sheet_text.proofs.LinesWritten.{line-length, line-written}
 use Rattle.sheet_text.proofs.lines.put_symbol_line.Statement.{statement}
 use Rattle.sheet_text.proofs.lines.put_symbol_line.Tie as tie
-use Rattle.sheet_text.proofs.lines.put_symbol_line.Reads as reads
-use Rattle.sheet_text.proofs.lines.put_symbol_line.Lts as lts
-use Rattle.sheet_text.proofs.lines.put_symbol.Reads as put-symbol-reads
-use Rattle.text.proofs.writing.put_bytes.Reads as put-bytes-reads
 
--- src/lines.rt:49:9
 put-bytes-requires : tie.Need-put-bytes-requires
 put-bytes-requires c κs =
     let z = c .before .before .before .before in
     omega (arith, z .pre .1, line-length (z .args .key .now) (symbolText (symbolIn (z .args .text .now) (z .args .symbol))))
 
--- src/lines.rt:50:9
 put-symbol-requires : tie.Need-put-symbol-requires
 put-symbol-requires c κs =
     let z = c .before .before .before .before .before .before .before .before in
     let p = c .before .before .before .put-bytes in
     (z .pre .0, omega (arith, z .pre .1, p .ensures .1, p .kept .0, line-length (z .args .key .now) (symbolText (symbolIn (z .args .text .now) (z .args .symbol)))))
 
--- src/lines.rt:51:5
 slice-write-out : tie.Need-slice-write-out
 slice-write-out c =
     let z = c .before .before .before .before .before .before .before .before .before .before .before in
@@ -33,7 +26,6 @@ slice-write-out c =
     let q = c .before .before .put-symbol in
     omega (arith, z .pre .1, p .ensures .1, p .kept .0, q .ensures .1, q .kept .0, line-length (z .args .key .now) (symbolText (symbolIn (z .args .text .now) (z .args .symbol))))
 
--- src/lines.rt:52:5
 add-result : tie.Need-add-result
 add-result c =
     let z = c .before .before .before .before .before .before .before .before .before .before .before in
@@ -41,14 +33,12 @@ add-result c =
     let q = c .before .before .put-symbol in
     omega (arith, z .good, z .pre .1, p .ensures .1, q .ensures .1, line-length (z .args .key .now) (symbolText (symbolIn (z .args .text .now) (z .args .symbol))))
 
--- src/lines.rt:44:1
 same-length : tie.Need-same-length
 same-length c =
     let p = c .before .before .before .before .before .before .put-bytes in
     let q = c .before .before .put-symbol in
     simp length-set (q .kept .0 ∙ p .kept .0)
 
--- src/lines.rt:44:1
 returns : tie.Need-returns
 returns c =
     let z = c .before .before .before .before .before .before .before .before .before .before .before in

@@ -1,6 +1,6 @@
 -- `after_first_term` tries = and != first.
 use borrow.Author.Needs.{needs}
-use mathlib.Core.Path.{_≡_, refl, sym, ap, _∙_}
+use mathlib.Core.Path.{sym, ap, _∙_}
 use Rattle.statements.proofs.Moves.{joined-some, joined-none}
 use Rattle.tptp.specs.Grammar.{relations, afterLiteral}
 use Rattle.tokens.specs.Pieces.{kindIn}

@@ -1,8 +1,8 @@
 -- `after_literal` tests for | and for the clause's end.
 use borrow.Author.Needs.{needs}
-use mathlib.Core.Path.{_≡_, refl, sym, ap, _∙_}
+use mathlib.Core.Path.{sym, ap, _∙_}
 use mathlib.Core.Bool.{cond}
-use mathlib.Core.Option.{Option, some}
+use mathlib.Core.Option.{some}
 use Rattle.statements.proofs.Moves.{two-first, two-second, two-none}
 use Rattle.tptp.specs.Tokens.{bar, rightParen}
 use Rattle.tptp.specs.Grammar.{DueToken, literal, closing, stop}

@@ -1,6 +1,6 @@
 -- `after_opening` tests both kinds of names.
 use borrow.Author.Needs.{needs}
-use mathlib.Core.Path.{_≡_, refl, sym, ap, _∙_}
+use mathlib.Core.Path.{sym, _∙_}
 use Rattle.statements.proofs.Moves.{two-first, two-second, two-none}
 use Rattle.tptp.specs.Tokens.{lowerWord, digits}
 use Rattle.tptp.specs.Grammar.{nameComma}

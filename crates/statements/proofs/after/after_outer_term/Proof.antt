@@ -1,6 +1,6 @@
 -- `after_outer_term` goes by the side.
 use borrow.Author.Needs.{needs}
-use mathlib.Core.Path.{_≡_, refl, sym, ap, _∙_}
+use mathlib.Core.Path.{sym, ap, _∙_}
 use Rattle.tptp.specs.Grammar.{afterTerm}
 use Rattle.tokens.specs.Pieces.{kindIn}
 use Rattle.statements.specs.Dues.{sideIn, movedBy}

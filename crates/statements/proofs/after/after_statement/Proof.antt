@@ -1,7 +1,7 @@
 -- `after_statement` tests for cnf.
 use borrow.Author.Needs.{needs}
 use borrow.Author.Tests.{not-true, not-false}
-use mathlib.Core.Path.{_≡_, refl, sym, ap, _∙_}
+use mathlib.Core.Path.{sym, _∙_}
 use Rattle.statements.proofs.Moves.{begins-other, begins-cnf, begins-word}
 use Rattle.tokens.specs.Pieces.{kindIn}
 use Rattle.statements.proofs.after.after_statement.Statement.{statement}

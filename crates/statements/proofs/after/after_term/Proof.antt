@@ -1,6 +1,6 @@
 -- `after_term` tells a term in a list from one outside lists.
 use borrow.Author.Needs.{needs}
-use mathlib.Core.Path.{_≡_, refl, sym, ap, _∙_}
+use mathlib.Core.Path.{sym, _∙_}
 use Prim.Native.Nat.{_-_}
 use Rattle.statements.proofs.Moves.{two-first, two-second, two-none, inner-term, outer-term}
 use Rattle.tptp.specs.Tokens.{comma, rightParen}

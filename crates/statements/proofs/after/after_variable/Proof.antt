@@ -1,6 +1,6 @@
 -- `after_variable` goes by the side.
 use borrow.Author.Needs.{needs}
-use mathlib.Core.Path.{_≡_, refl, sym, ap, _∙_}
+use mathlib.Core.Path.{sym, ap, _∙_}
 use Rattle.tptp.specs.Grammar.{afterVariable}
 use Rattle.statements.specs.Dues.{sideIn}
 use Rattle.statements.specs.declared.due.Side.{Side}

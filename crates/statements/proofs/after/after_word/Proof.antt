@@ -1,6 +1,6 @@
 -- `after_word` tests for the arguments' parenthesis.
 use borrow.Author.Needs.{needs}
-use mathlib.Core.Path.{_≡_, refl, sym, ap, _∙_}
+use mathlib.Core.Path.{sym, ap, _∙_}
 use Prim.Native.Nat.{ℕ, suc}
 use mathlib.Core.Option.{some}
 use native.Mathlib.Numerals.{add-one}

@@ -1,6 +1,6 @@
 -- `begins_clause` tests for the clause's parenthesis.
 use borrow.Author.Needs.{needs}
-use mathlib.Core.Path.{_≡_, refl, sym, ap, _∙_}
+use mathlib.Core.Path.{sym, _∙_}
 use mathlib.Core.Bool.{true, false}
 use Rattle.statements.proofs.Moves.{hit, miss}
 use Rattle.tptp.specs.Tokens.{leftParen}

@@ -1,8 +1,8 @@
 -- `begins_literal` tests for $false, ~ and a term.
 use borrow.Author.Needs.{needs}
-use mathlib.Core.Path.{_≡_, refl, sym, ap, _∙_}
+use mathlib.Core.Path.{sym, _∙_}
 use mathlib.Core.Bool.{true, false}
-use mathlib.Core.List.{[], _∷_}
+use mathlib.Core.List.{_∷_}
 use Rattle.statements.proofs.Moves.{hit, miss}
 use Rattle.tptp.specs.Tokens.{falsum, tilde, is}
 use Rattle.tptp.specs.Grammar.{first, literalEnd, term, beginsTerm}

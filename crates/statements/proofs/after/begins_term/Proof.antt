@@ -1,7 +1,7 @@
 -- `begins_term` tests for a word, then for a variable.
 use borrow.Author.Needs.{needs}
-use mathlib.Core.Path.{_≡_, refl, sym, ap, _∙_}
-use mathlib.Core.Option.{Option, some}
+use mathlib.Core.Path.{sym, ap, _∙_}
+use mathlib.Core.Option.{some}
 use Rattle.statements.proofs.Moves.{two-first, two-second, two-none}
 use Rattle.tptp.specs.Tokens.{lowerWord, upperWord}
 use Rattle.tptp.specs.Grammar.{DueToken, wordEnd, afterVariable}

@@ -1,7 +1,7 @@
 -- `only` tests the one kind.
 use borrow.Author.Needs.{needs}
-use mathlib.Core.Path.{_≡_, refl, sym, ap, _∙_}
-use mathlib.Core.List.{[], _∷_}
+use mathlib.Core.Path.{sym, _∙_}
+use mathlib.Core.List.{[]}
 use Rattle.statements.proofs.Moves.{hit, miss}
 use Rattle.tokens.specs.Pieces.{kindIn}
 use Rattle.statements.specs.Dues.{dueTokenIn}

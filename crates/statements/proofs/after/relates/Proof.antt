@@ -1,6 +1,6 @@
 -- `relates` tests for = and, where no ~ stands, for !=.
 use borrow.Author.Needs.{needs}
-use mathlib.Core.Path.{_≡_, refl, sym, ap, _∙_}
+use mathlib.Core.Path.{sym, _∙_}
 use Rattle.statements.proofs.Moves.{two-second, two-none, relates-equal, relates-tilde, relates-plain}
 use Rattle.tptp.specs.Tokens.{equalSign, unequalSign}
 use Rattle.tptp.specs.Grammar.{second, term}

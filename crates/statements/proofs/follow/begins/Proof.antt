@@ -1,7 +1,7 @@
 -- `begins` tests the kind, then the bytes.
 use borrow.Author.Needs.{needs}
 use borrow.Author.Tests.{not-true, not-false}
-use mathlib.Core.Path.{_≡_, refl, sym, ap, _∙_}
+use mathlib.Core.Path.{sym, _∙_}
 use Rattle.statements.proofs.Steps.{cnf-other, cnf-word}
 use Rattle.tokens.specs.NextTokens.{tokenIn}
 use Rattle.statements.proofs.follow.begins.Statement.{statement}

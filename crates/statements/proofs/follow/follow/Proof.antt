@@ -1,7 +1,7 @@
 -- `follow` tests for cnf, then follows the rest.
 use borrow.Author.Needs.{needs}
 use borrow.Author.Tests.{not-true, not-false}
-use mathlib.Core.Path.{_≡_, refl, sym, ap, _∙_}
+use mathlib.Core.Path.{sym, _∙_}
 use Rattle.statements.proofs.Steps.{follow-other, follow-whole, follow-foreign}
 use Rattle.statements.proofs.follow.follow.Statement.{statement}
 use Rattle.statements.proofs.follow.follow.Tie as tie

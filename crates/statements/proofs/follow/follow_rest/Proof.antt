@@ -1,7 +1,6 @@
 -- `follow_rest` goes on token by token.
 use borrow.Author.Needs.{needs}
 use Prim.Native.Nat.{_-_}
-use mathlib.Core.Path.{_≡_, refl, sym, ap, _∙_}
 use native.Mathlib.Omega.{arith}
 use lib.ListN.{length}
 use Rattle.statements.proofs.Steps.{Going, going-starts, going-on}

@@ -1,6 +1,6 @@
 -- `one_more` goes by the next token, then by what is due after it.
 use borrow.Author.Needs.{needs}
-use mathlib.Core.Path.{_≡_, refl, sym, ap, _∙_}
+use mathlib.Core.Path.{sym, ap, _∙_}
 use Rattle.statements.proofs.Steps.{step-ends, step-misplaced, step-stops, step-on}
 use Rattle.statements.specs.Dues.{dueTokenIn, afterIn}
 use Rattle.statements.proofs.follow.one_more.Statement.{statement}

@@ -1,6 +1,7 @@
 -- `header_length` meets its contract.
 use native.Mathlib.Omega.{arith}
-use Rattle.stream.proofs.Texts.{decimal-within, length-header}
+use Rattle.text.proofs.Decimal.{decimal-within}
+use Rattle.stream.proofs.Texts.{length-header}
 use borrow.Author.Needs.{needs}
 use Rattle.stream.proofs.dimacs.header_length.Statement.{statement}
 use Rattle.stream.proofs.dimacs.header_length.Tie as tie

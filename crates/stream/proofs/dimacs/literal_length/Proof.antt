@@ -1,7 +1,8 @@
 -- `literal_length` meets its contract.
 use Prim.Native.Nat.{_+_, _/_}
 use native.Mathlib.Omega.{arith}
-use Rattle.stream.proofs.Texts.{length-spaced, decimal-within}
+use Rattle.text.proofs.Decimal.{decimal-within}
+use Rattle.stream.proofs.Texts.{length-spaced}
 use borrow.Author.Needs.{needs}
 use Rattle.stream.proofs.dimacs.literal_length.Statement.{statement}
 use Rattle.stream.proofs.dimacs.literal_length.Tie as tie

@@ -8,7 +8,8 @@ use Rattle.theory.specs.Refusals.{needing}
 use Rattle.problem.specs.Problems.{problemIn}
 use Rattle.encoding.proofs.Bounds.{clauses-few, texts-few}
 use Rattle.writing.specs.Texts.{clausesText, textWithin}
-use Rattle.writing.proofs.Refusing.{refuses, writes, too-long, within}
+use Rattle.answers.proofs.Answering.{refuses, writes}
+use Rattle.writing.proofs.Refusing.{too-long, within}
 use Rattle.writing.proofs.Written.{needed, needed-small, lines-fit, both-put}
 use Rattle.writing.proofs.clause_text.write_text.Statement.{statement}
 use Rattle.writing.proofs.clause_text.write_text.Tie as tie

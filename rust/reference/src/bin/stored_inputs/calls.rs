@@ -4,6 +4,7 @@ use nesskettle_reference::needed;
 
 #[derive(Clone, Default)]
 pub struct Call {
+    /// Or TPTP clauses.
     pub sheet: Vec<u8>,
     /// A case or a setting.
     pub beside: Vec<u8>,
@@ -64,6 +65,13 @@ pub fn finding(sheet: impl AsRef<[u8]>, low: u64, high: u64, work: u64, output: 
         work,
         output,
         ..reading(sheet)
+    }
+}
+
+pub fn importing(clauses: impl AsRef<[u8]>, output: u64) -> Call {
+    Call {
+        output,
+        ..reading(clauses)
     }
 }
 

@@ -1,6 +1,6 @@
 //! Damaged inputs: each refusal several times, several faults at once, bytes at the edges of what is allowed.
 
-use crate::calls::{file, finding, judging, reading, reading_back, writing, Call};
+use crate::calls::{file, finding, importing, judging, reading, reading_back, writing, Call};
 use crate::examples::{full, two_constants};
 use nesskettle_reference::sheet_of;
 
@@ -22,6 +22,7 @@ pub fn of(operation: &str) -> Vec<Call> {
             .into_iter()
             .map(|s| reading_back(s, 9, good, 10))
             .collect(),
+        "from_tptp" => clauses().iter().map(|text| importing(text, 300)).collect(),
         "find" => one_of_each().into_iter().map(|s| finding(s, 0, 9, 3, 10)).collect(),
         other => panic!("no operation {other}"),
     }
@@ -249,4 +250,63 @@ fn cases() -> Vec<Call> {
         [file("group-6.case"), b"m=1\n".to_vec()].concat(),
     ));
     calls
+}
+
+/// TPTP clauses that are refused: 15, 16 and 17, and which of several comes first.
+fn clauses() -> Vec<String> {
+    let mut texts: Vec<String> = [
+        // 15: a token that cannot stand there
+        "fof(a,axiom,p).",
+        "cnf(A,axiom,p).",
+        "cnf(a,Axiom,p).",
+        "cnf(a,axiom,p.",
+        "cnf(a,axiom,p)",
+        "cnf(a,axiom,p):.",
+        "cnf(a,axiom,p,q).",
+        "cnf(a,axiom,X).",
+        "cnf(a,axiom,p|).",
+        "cnf(a,axiom,~~p).",
+        "cnf(a,axiom,((p))).",
+        "cnf(a,axiom,(p)|q).",
+        "cnf(a,axiom,p()).",
+        "cnf(a,axiom,p(X,)).",
+        "cnf(a,axiom,X(a)).",
+        "cnf(a,axiom,a=b=c).",
+        "cnf(a,axiom,a!==b).",
+        "cnf(a,axiom,~X!=a).",
+        "cnf(a,axiom,~$false).",
+        "cnf(a,axiom,$true).",
+        "cnf(a,axiom,'p').",
+        "cnf(a,axiom,p&q).",
+        "include('a.p').",
+        "cnf(a,axiom,p).\ncnf(b,axiom,p).\n.",
+        // missing text
+        "cnf",
+        "cnf(a,axiom,p).\n/* no end *",
+        "cnf(a,axiom,p(X",
+        // 16: another arity, the other kind
+        "cnf(a,axiom,p(X)).\ncnf(b,axiom,q|p).",
+        "cnf(a,axiom,p(p)).",
+        "cnf(a,axiom,f(X)=X|q(f)).",
+        // 17: names, arity, a ninth variable
+        "cnf(a,axiom,p_Q).",
+        "cnf(a,axiom,abcdefghijklm).",
+        "cnf(a,axiom,p(X,X,X,X)).",
+        "cnf(a,axiom,p(A,B,C)|p(D,E,F)|p(G,H,I)).",
+        // a statement's 15 before its own 16 and 17, after those of earlier ones
+        "cnf(a,axiom,p(X)).\ncnf(b,axiom,p|~~q).",
+        "cnf(a,axiom,p(X)).\ncnf(b,axiom,p).\ncnf(c,axiom,~~q).",
+        "cnf(a,axiom,p(X)|p).\ncnf(b,axiom,p_Q).",
+        "cnf(a,axiom,p_Q(X)|p_Q).",
+    ]
+    .map(String::from)
+    .to_vec();
+    let repeated = |literal: &str, count: usize| format!("cnf(a,axiom,{}).", vec![literal; count].join("|"));
+    texts.push(repeated("p", 17));
+    texts.push(repeated("p(X,X,X)", 13));
+    texts.push(format!("cnf(a,axiom,p({}X{})).", "f(".repeat(10), ")".repeat(10)));
+    texts.push((0..13).map(|i| format!("cnf(a,axiom,p{i}).\n")).collect());
+    texts.push((0..13).map(|i| format!("cnf(a,axiom,X=f{i}).\n")).collect());
+    texts.push("cnf(a,axiom,p).\n".repeat(65));
+    texts
 }

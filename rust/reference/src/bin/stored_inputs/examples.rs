@@ -1,8 +1,8 @@
 //! Good inputs: the specification's examples, the limits from both sides, and sheets whose answer a usual mistake changes.
 
-use crate::calls::{file, finding, judging, reading, reading_back, searching, writing, Call};
+use crate::calls::{file, finding, importing, judging, reading, reading_back, searching, writing, Call};
 use nesskettle_reference::sheet_of;
-use nesskettle_reference::{instances_and_variables, needed, write};
+use nesskettle_reference::{from_tptp, instances_and_variables, needed, write};
 
 pub fn of(operation: &str) -> Vec<Call> {
     match operation {
@@ -11,6 +11,7 @@ pub fn of(operation: &str) -> Vec<Call> {
         "write" => writes(),
         "read_back" => read_backs(),
         "find" => finds(),
+        "from_tptp" => imports(),
         other => panic!("no operation {other}"),
     }
 }
@@ -421,4 +422,42 @@ fn harder_problems() -> Vec<Call> {
         .iter()
         .map(|(name, low, high)| searching(file(&format!("{name}.sheet")), *low, *high));
     calls.collect()
+}
+
+/// TPTP clauses that are taken, most with just the output that they need, one byte less, and more.
+fn imports() -> Vec<Call> {
+    let statements = |clauses: &[&str]| -> String {
+        let statement = |clause: &&str| format!("cnf(a,axiom,{clause}).\n");
+        clauses.iter().map(statement).collect()
+    };
+    let taken = [
+        String::new(),
+        "cnf(a,axiom,p(X)|~q(f(X),b)).".to_string(),
+        "% a comment\n/* and * another */ cnf(a , plain , $false ) .%".to_string(),
+        "cnf(1,x_Y,(p|$false|~p)).\r\n\tcnf(01,axiom,($false)).".to_string(),
+        statements(&["X=Y", "X!=Y", "~X=f(Y)", "f(a)=a|p(f(X))"]),
+        // functions before predicates, each in order of first appearance, and letters by clause
+        statements(&["p(g(X,Y))|q", "r(Y,f(X),b)|q", "a=X|p(X)"]),
+        // names that are words of the format
+        statements(&["cnf|axiom(include)|fof", "sheet=clause|fun(pred)"]),
+        // eight variables, sixteen literals, arity 3, names of twelve bytes
+        statements(&[
+            "q(A,B,C)|q(D,E,F)|q(G,H,H)",
+            &vec!["p"; 16].join("|"),
+            "abcdefghijk1(x_______y_2,X)",
+        ]),
+        // twelve of a kind, sixty-four clauses
+        (0..12).map(|i| statements(&[&format!("p{i}(f{i})")])).collect(),
+        statements(&["p"; 64]),
+        // ten variables after flattening
+        statements(&["p(f(f(f(f(f(f(f(f(f(X))))))))))"]),
+    ];
+    let mut calls = Vec::new();
+    for text in &taken {
+        let refusal = from_tptp(text.as_bytes(), &mut []).expect_err("no sheet is empty");
+        let needed = refusal.needed;
+        assert!(needed > 0, "{refusal} of {text}");
+        calls.extend([needed, needed - 1, needed + 9].map(|output| importing(text, output)));
+    }
+    calls
 }

@@ -2,7 +2,7 @@
 //! (`crates/vectors/stdout`). The answers are the reference's; those to stored vectors are first held against the
 //! vectors' own.
 //!
-//! An input is a line of six numbers, then the bytes of a sheet and those of a case or a setting. The numbers are the
+//! An input is a line of six numbers, then the bytes of a sheet or of TPTP clauses and those of a case or a setting. The numbers are the
 //! lengths of the two, size or low, high, and the lengths of the work and the output that are lent.
 
 mod calls;
@@ -11,7 +11,7 @@ mod examples;
 
 use calls::Call;
 use nesskettle_reference::vectors::{self, patterned_bytes, patterned_numbers};
-use nesskettle_reference::{find, judge, read, read_back, write, Refusal, Search, OPERATIONS};
+use nesskettle_reference::{find, from_tptp, judge, read, read_back, write, Refusal, Search, OPERATIONS};
 use std::path::Path;
 use std::{fs, io};
 
@@ -26,13 +26,16 @@ const MOST_SHEET: usize = 700;
 fn main() -> io::Result<()> {
     let folder = Path::new(env!("CARGO_MANIFEST_DIR")).join("../../crates/vectors");
     let mut printed = Vec::new();
-    for operation in ["read", "judge", "write", "read_back", "find"] {
+    for operation in ["read", "judge", "write", "read_back", "find", "from_tptp"] {
         let mut inputs = examples::of(operation);
         inputs.extend(damaged::of(operation));
         inputs.extend(stored(operation));
         let mut data = Vec::new();
         for (number, call) in (1..).zip(&inputs) {
-            assert!(call.work <= MOST_WORK && call.output <= MOST_OUTPUT);
+            assert!(
+                call.work <= MOST_WORK && call.output <= MOST_OUTPUT,
+                "{operation} {number}"
+            );
             call.put(&mut data);
             printed.extend(format!("{operation} {number}:").bytes());
             printed.extend(answer(operation, call));
@@ -57,7 +60,7 @@ fn stored(operation: &str) -> Vec<Call> {
                 }
             };
             let call = Call {
-                sheet: bytes("sheet"),
+                sheet: [bytes("sheet"), bytes("text")].concat(),
                 beside: [bytes("case"), bytes("setting")].concat(),
                 low: number("low") + number("size"),
                 high: number("high"),
@@ -85,6 +88,7 @@ fn answer(operation: &str, call: &Call) -> Vec<u8> {
         "judge" => return line(judge(sheet, beside).map_or_else(refusal, |yes| format!(" {}", yes_no(yes)))),
         "write" => write(sheet, call.low, &mut output).map(|length| (String::new(), length)),
         "read_back" => read_back(sheet, call.low, beside, &mut output).map(|length| (String::new(), length)),
+        "from_tptp" => from_tptp(sheet, &mut output).map(|length| (String::new(), length)),
         "find" => find(sheet, call.low, call.high, &mut work, &mut output).map(found),
         other => panic!("no operation {other}"),
     };
@@ -140,7 +144,13 @@ fn found(search: Search) -> (String, usize) {
 }
 
 fn refusal(r: Refusal) -> String {
-    format!(" refused {} line {} needed {}", r.reason.number(), r.line, r.needed)
+    format!(
+        " refused {} line {} column {} needed {}",
+        r.reason.number(),
+        r.line,
+        r.column,
+        r.needed
+    )
 }
 
 fn yes_no(yes: bool) -> &'static str {

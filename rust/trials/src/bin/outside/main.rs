@@ -1,5 +1,5 @@
 //! Nesskettle against outside solvers: minisat and picosat on the clauses that Write leaves, cvc5 on the sheet's own
-//! clauses as TPTP text. `tests/outside/run` builds and runs this.
+//! clauses as TPTP text, and on TPTP texts that both read by themselves. `tests/outside/run` builds and runs this.
 //!
 //! Checked for each sheet and size:
 //! - a solver satisfies the clauses exactly if Find finds a model of that size;
@@ -7,23 +7,27 @@
 //! - no model comes before the found one: with the cells before some cell as found, no smaller value of that cell is
 //!   satisfiable, and with all cells as found the clauses are;
 //!
-//! and for each sheet that the smallest size found is cvc5's.
+//! for each sheet that the smallest size found is cvc5's; and for each TPTP text that what Find says of the sheet left is
+//! what cvc5 says of the text: whether there is a model, and its smallest size.
 
 mod dimacs;
 mod sheet;
 mod solvers;
 
 use dimacs::Dimacs;
-use nesskettle::Search;
+use nesskettle::{Reason, Search};
 use nesskettle_trials::draft::{Draft, BROAD, SMALL};
 use nesskettle_trials::problems;
 use nesskettle_trials::random::Random;
+use nesskettle_trials::tptp::clauses::{statements, KNOWN};
+use nesskettle_trials::tptp::layout;
 use sheet::Sheet;
 use solvers::{Outcome, Smallest, Solver, Solvers};
 use std::process::ExitCode;
 
-/// How many sheets are generated.
+/// How many sheets are generated, and how many TPTP texts.
 const GENERATED: usize = 500;
+const GENERATED_TPTP: usize = 500;
 /// The largest size of a generated sheet, and of a named problem.
 const TOP: u64 = 4;
 const NAMED_TOP: u64 = 6;
@@ -50,13 +54,22 @@ fn main() -> ExitCode {
         let style = if round % 4 == 0 { BROAD } else { SMALL };
         trial.sheet(&Draft::random(&mut random, style).sheet(), TOP);
     }
+    for example in TPTP_EXAMPLES {
+        trial.tptp(example);
+    }
+    for round in 0..GENERATED_TPTP {
+        let style = if round % 4 == 0 { BROAD } else { SMALL };
+        let draft = Draft::random(&mut random, style);
+        let statements = statements(&mut random, &draft, KNOWN);
+        trial.tptp(&layout::free(&mut random, &statements));
+    }
     let sizes = (1..=NAMED_TOP as usize).map(|size| format!("{} at {size}", trial.smallest[size]));
     println!(
         "smallest models: {}, none {}",
         sizes.collect::<Vec<_>>().join(", "),
         trial.smallest[0]
     );
-    println!("cvc5 left {} sheets undecided in its time", trial.undecided);
+    println!("cvc5 left {} sheets and texts undecided in its time", trial.undecided);
     println!("{} passed, {} failed", trial.passed, trial.failed);
     ExitCode::from((trial.failed > 0) as u8)
 }
@@ -72,12 +85,18 @@ const EXAMPLES: [&str; 7] = [
     "sheet=1\nfuns=1\nfun=a/0\npreds=1\npred=p/1\nclauses=2\nclause=+ p a\nclause=- p A + = A a\n",
 ];
 
+/// The clinic's rules.
+const TPTP_EXAMPLES: [&[u8]; 2] = [
+    include_bytes!("../../../../../examples/both-eyes.p"),
+    include_bytes!("../../../../../examples/each-eye.p"),
+];
+
 struct Trial {
     solvers: Solvers,
     passed: usize,
     failed: usize,
     undecided: usize,
-    /// How many sheets have their smallest model at each size; at 0 those that have none.
+    /// How many sheets and texts have their smallest model at each size; at 0 those that have none.
     smallest: [usize; 9],
 }
 
@@ -97,8 +116,20 @@ impl Trial {
                 smallest = Some(size);
             }
         }
-        self.smallest_size(&sheet, searched, smallest);
-        self.smallest[smallest.unwrap_or(0) as usize] += 1;
+        self.smallest_size(&sheet, &sheet.tptp(), searched, smallest);
+    }
+
+    /// The checks of one TPTP text, which cvc5 reads by itself. A text that is refused is left out.
+    fn tptp(&mut self, tptp: &[u8]) {
+        let refused = nesskettle::from_tptp(tptp, &mut []).expect_err("no sheet is empty");
+        if refused.reason != Reason::OutputTooShort {
+            return;
+        }
+        let sheet = Sheet::new(&text(|output| nesskettle::from_tptp(tptp, output)));
+        let sizes = (1..=TOP).take_while(|&size| manageable(&sheet.bytes, size));
+        let searched = sizes.last().unwrap_or(0);
+        let smallest = (1..=searched).find(|&size| find(&sheet.bytes, size, size).is_some());
+        self.smallest_size(&sheet, tptp, searched, smallest);
     }
 
     /// The checks at one size; whether a model was found.
@@ -149,8 +180,9 @@ impl Trial {
         )
     }
 
-    /// cvc5's smallest model against the sizes that were searched, from 1 on.
-    fn smallest_size(&mut self, sheet: &Sheet, searched: u64, smallest: Option<u64>) {
+    /// cvc5's smallest model of the TPTP text against the sizes of the sheet that were searched, from 1 on.
+    fn smallest_size(&mut self, sheet: &Sheet, tptp: &[u8], searched: u64, smallest: Option<u64>) {
+        self.smallest[smallest.unwrap_or(0) as usize] += 1;
         if searched == 0 {
             return;
         }
@@ -161,15 +193,17 @@ impl Trial {
             searched,
             "Find over all sizes and size by size",
         );
-        let agrees = match self.solvers.smallest_model(&sheet.tptp()) {
+        let agrees = match self.solvers.smallest_model(tptp) {
             Smallest::Undecided => {
                 self.undecided += 1;
                 return;
             }
+            Smallest::Unread => false,
             Smallest::Size(n) if n <= searched => smallest == Some(n),
             Smallest::Size(_) | Smallest::None => smallest.is_none(),
         };
-        self.check(agrees, sheet, searched, "cvc5's smallest model");
+        let what = format!("cvc5's smallest model of\n{}", tptp.escape_ascii());
+        self.check(agrees, sheet, searched, &what);
     }
 
     fn check(&mut self, holds: bool, sheet: &Sheet, size: u64, what: &str) {
@@ -219,9 +253,7 @@ fn find(sheet: &[u8], low: u64, high: u64) -> Option<Vec<u8>> {
         match nesskettle::find(sheet, low, high, &mut work, &mut output) {
             Ok(Search::Found { length, .. }) => return Some(output[..length].to_vec()),
             Ok(Search::None { .. }) => return None,
-            Err(refusal) if refusal.reason == nesskettle::Reason::WorkTooShort => {
-                work = vec![0; refusal.needed as usize]
-            }
+            Err(refusal) if refusal.reason == Reason::WorkTooShort => work = vec![0; refusal.needed as usize],
             Err(refusal) if refusal.needed > 0 => output = vec![0; refusal.needed as usize],
             Err(refusal) => panic!("{refusal}"),
         }

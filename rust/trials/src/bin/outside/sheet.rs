@@ -91,12 +91,11 @@ impl Sheet {
     }
 
     /// The clauses in the language of TPTP.
-    pub fn tptp(&self) -> String {
+    pub fn tptp(&self) -> Vec<u8> {
         let arities = self.symbols.iter().map(|s| (s.name.as_str(), s.arity)).collect();
         let clauses = self.clauses.iter().zip(1..);
-        clauses
-            .map(|(words, n)| format!("cnf(c{n}, axiom, {}).\n", tptp_clause(words, &arities)))
-            .collect()
+        let statement = |(words, n): (&String, usize)| format!("cnf(c{n}, axiom, {}).\n", tptp_clause(words, &arities));
+        clauses.map(statement).collect::<String>().into_bytes()
     }
 }
 

@@ -36,6 +36,8 @@ pub enum Smallest {
     Size(u64),
     None,
     Undecided,
+    /// It does not take the text.
+    Unread,
 }
 
 /// Where the files stand.
@@ -77,7 +79,7 @@ impl Solvers {
         }
     }
 
-    pub fn smallest_model(&self, tptp: &str) -> Smallest {
+    pub fn smallest_model(&self, tptp: &[u8]) -> Smallest {
         let file = self.folder.join("clauses.p");
         std::fs::write(&file, tptp).expect("the clauses can be written");
         let limit = format!("--tlimit={CVC5_MILLISECONDS}");
@@ -116,6 +118,9 @@ fn numbers(text: &str) -> Vec<i32> {
 
 /// cvc5 states the size of its model in a comment.
 fn smallest(told: &str) -> Smallest {
+    if told.contains("Parse Error") {
+        return Smallest::Unread;
+    }
     if told.contains("SZS status Unsatisfiable") {
         return Smallest::None;
     }

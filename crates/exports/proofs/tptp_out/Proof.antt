@@ -1,0 +1,26 @@
+-- `tptp_out` lays the answer out, arm by arm.
+use borrow.Author.Needs.{needs}
+use mathlib.Core.Path.{sym, ap}
+use Rattle.answers.specs.Answers.{lengthIn}
+use Rattle.exports.specs.Layouts.{tptpOut}
+use Rattle.exports.proofs.tptp_out.Statement.{statement}
+use Rattle.exports.proofs.tptp_out.Tie as tie
+
+enum-known-answer : tie.Need-enum-known-answer
+enum-known-answer c = search needs
+
+enum-known-answer-2 : tie.Need-enum-known-answer-2
+enum-known-answer-2 c = search needs
+
+cast-t6 : tie.Need-cast-t6
+cast-t6 c = search needs
+
+returns : tie.Need-returns
+returns c = sym (ap (λ a. tptpOut (lengthIn a)) (c .before .answer .given .1))
+
+returns-2 : tie.Need-returns-2
+returns-2 c = sym (ap (λ a. tptpOut (lengthIn a)) (c .before .before .answer2 .given .1))
+
+pub tptp-out-spec : {M : Type 1} → statement M
+tptp-out-spec =
+    tie.close (tie.spec enum-known-answer enum-known-answer-2 cast-t6 returns returns-2)

@@ -1,0 +1,10 @@
+pub mod EntryLists
+pub mod Coding
+pub mod CodingLoop
+pub mod NotingLoop
+pub mod Standing
+pub mod LineTexts
+pub mod Checking
+pub mod SheetLines
+pub mod Surveying
+pub mod Imported

@@ -1,0 +1,20 @@
+-- `named_word` goes by the kind.
+use mathlib.Core.Path.{sym, _∙_}
+use borrow.Author.Needs.{needs}
+use Rattle.scanning.proofs.entries.named_word.Statement.{statement}
+use Rattle.scanning.proofs.entries.named_word.Tie as tie
+
+is-requires : tie.Need-is-requires
+is-requires c κs = search needs
+
+returns : tie.Need-returns
+returns c = rw (sym (c .before .is .ensures) ∙ c .if1 .taken)
+
+arity-ahead-requires : tie.Need-arity-ahead-requires
+arity-ahead-requires c κs = search needs
+
+returns-2 : tie.Need-returns-2
+returns-2 c = rw (sym (c .before .before .is .ensures) ∙ c .before .if1 .left, c .arity-ahead .ensures)
+
+pub named-word-spec : {M : Type 1} → statement M
+named-word-spec = tie.close (tie.spec is-requires returns arity-ahead-requires returns-2)
