@@ -10,10 +10,9 @@
  *
  * Sheets, cases, settings and TPTP texts are bytes; nothing is ended by a zero byte.
  *
- * Answers. `outcome` 0 is NK_REFUSED in every answer. Then `reason` is the number of the refusal and `line` the faulty
- * line, counted from 1, or 0 where the refusal names none; `column`, where an answer has one, is the faulty byte of that
- * line, counted from 1, or 0 where none is named. `reason`, `line` and `column` are 0 in results, and a field that an
- * outcome does not speak of is 0.
+ * Answers. `outcome` 0 is NK_REFUSED in every answer. Then `reason` is the number of the refusal, `line` the faulty
+ * line, counted from 1, and `column` the faulty byte of that line, counted in bytes from 1; both are 0 where the refusal
+ * names no line. `reason`, `line` and `column` are 0 in results, and a field that an outcome does not speak of is 0.
  *
  * A refused call changes nothing: every lent byte and number is as it was.
  */
@@ -42,10 +41,23 @@ enum {
 /*
  * Refusals. Checks run in this order within each call, sheet numbers first; of a sheet's faulty lines the first is
  * named, and on one line the lower number wins.
+ *
+ * 2 to 7, 12 and 15 to 17 name a line and a column, the others name none. The column is
+ *
+ *   for 2 and 12   the first byte with which the line can no longer be as laid out, whatever follows it; one past the
+ *                  line's end where more bytes would have made it so (a line cut short, no line feed); 1 where the line
+ *                  is missing or stands after the end;
+ *   for 3 to 5     the start of the first faulty number (a count, or the digit of an arity), name or word; an empty word
+ *                  starts right after the space before it;
+ *   for 6          the start of the first word that cannot stand after those before it; one past the line's end where
+ *                  more words would have made a clause;
+ *   for 7          the start of the 65th word or the sign of the 17th literal, whichever comes first; 1 where only the
+ *                  variables are too many;
+ *   for 15 to 17   told at nk_from_tptp.
  */
 enum {
-    /* The sheet, in every call that takes one. */
-    NK_SHEET_TOO_LONG = 1,   /* over 16,384 bytes; names no line */
+    /* The sheet, in every call that takes one; all but 1 name line and column. */
+    NK_SHEET_TOO_LONG = 1,   /* over 16,384 bytes */
     NK_LAYOUT = 2,           /* key, line feed, digits or /arity not as laid out, a line missing, bytes after the end */
     NK_OVER_LIMIT = 3,       /* over 12 functions, 12 predicates, 64 clauses, or arity 3 */
     NK_BAD_NAME = 4,         /* a name badly formed or repeated */
@@ -53,12 +65,12 @@ enum {
     NK_NOT_A_CLAUSE = 6,     /* words that are no clause */
     NK_CLAUSE_TOO_LARGE = 7, /* over 64 words, 16 literals or 10 variables after flattening */
 
-    /* The other arguments; only NK_BAD_CASE names a line. */
+    /* The other arguments; only NK_BAD_CASE names line and column. */
     NK_BAD_SIZE = 8,            /* a size that is not 1 to 8, or low above high */
     NK_TOO_MANY_INSTANCES = 9,  /* over 1,000,000 instances at the size, before dropping */
     NK_WORK_TOO_SHORT = 10,     /* `length` says how many numbers are needed */
     NK_OUTPUT_TOO_SHORT = 11,   /* `length` says how many bytes are needed */
-    NK_BAD_CASE = 12,           /* `line` is the first line of the case that is not exactly as laid out */
+    NK_BAD_CASE = 12,           /* at the first line of the case that is not exactly as laid out */
     NK_BAD_SETTING = 13,        /* not one byte for each propositional variable, or a byte over 1 */
     NK_NOT_ONE_RESULT = 14,     /* a function cell with no result or several */
 
@@ -73,6 +85,7 @@ typedef struct {
     uint32_t outcome; /* NK_READ or NK_REFUSED */
     uint32_t reason;
     uint64_t line;
+    uint64_t column;
     uint64_t funs;    /* NK_READ: how many functions, */
     uint64_t preds;   /*          predicates */
     uint64_t clauses; /*          and clauses the sheet has */
@@ -83,13 +96,15 @@ typedef struct {
     uint32_t outcome; /* NK_YES, NK_NO or NK_REFUSED */
     uint32_t reason;
     uint64_t line;
+    uint64_t column;
 } nk_judge_answer;
 
-/* The answer of nk_write and nk_read_back. */
+/* The answer of nk_write, nk_read_back and nk_from_tptp. */
 typedef struct {
     uint32_t outcome; /* NK_WRITTEN or NK_REFUSED */
     uint32_t reason;
     uint64_t line;
+    uint64_t column;
     uint64_t length; /* NK_WRITTEN: the text's length; refused 11: the length that is needed */
 } nk_write_answer;
 
@@ -98,20 +113,12 @@ typedef struct {
     uint32_t outcome; /* NK_FOUND, NK_NONE or NK_REFUSED */
     uint32_t reason;
     uint64_t line;
+    uint64_t column;
     uint64_t size;    /* NK_FOUND: the model's size */
     uint64_t length;  /* NK_FOUND: the case's length; refused 10 or 11: the length that is needed */
     uint32_t settled; /* NK_NONE: 1 exactly if no function has arity above 0 and high is at least the number of
                          constants; else 0 */
 } nk_find_answer;
-
-/* The answer of nk_from_tptp. */
-typedef struct {
-    uint32_t outcome; /* NK_WRITTEN or NK_REFUSED */
-    uint32_t reason;
-    uint64_t line;
-    uint64_t column;
-    uint64_t length; /* NK_WRITTEN: the sheet's length; refused 11: the length that is needed */
-} nk_tptp_answer;
 
 /*
  * Is this a sheet? Answers how many functions, predicates and clauses it has.
@@ -178,8 +185,8 @@ nk_find_answer nk_find(const uint8_t *sheet, size_t sheet_length, uint64_t low, 
  * and variables after flattening; the text's end for missing text, a comment without an end, and the sheet's bytes.
  * Then 11. Every byte of the output is then as it was.
  */
-nk_tptp_answer nk_from_tptp(const uint8_t *text, size_t text_length,
-                            uint8_t *output, size_t output_length);
+nk_write_answer nk_from_tptp(const uint8_t *text, size_t text_length,
+                             uint8_t *output, size_t output_length);
 
 #ifdef __cplusplus
 }

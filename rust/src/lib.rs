@@ -31,7 +31,7 @@ pub fn read(sheet: &[u8]) -> Result<Counts, Refusal> {
     // SAFETY: pointer and length are a slice's.
     let answer = unsafe { raw::nk_read(sheet.as_ptr(), sheet.len()) };
     match answer.outcome {
-        0 => Err(refusal(answer.reason, answer.line, 0)),
+        0 => Err(refusal(answer.reason, answer.line, answer.column, 0)),
         1 => Ok(Counts {
             functions: answer.funs,
             predicates: answer.preds,
@@ -46,7 +46,7 @@ pub fn judge(sheet: &[u8], case: &[u8]) -> Result<bool, Refusal> {
     // SAFETY: pointers and lengths are slices'.
     let answer = unsafe { raw::nk_judge(sheet.as_ptr(), sheet.len(), case.as_ptr(), case.len()) };
     match answer.outcome {
-        0 => Err(refusal(answer.reason, answer.line, 0)),
+        0 => Err(refusal(answer.reason, answer.line, answer.column, 0)),
         1 => Ok(true),
         2 => Ok(false),
         other => unknown_outcome(other),
@@ -96,7 +96,7 @@ pub fn find(sheet: &[u8], low: u64, high: u64, work: &mut [u32], output: &mut [u
         )
     };
     match answer.outcome {
-        0 => Err(refusal(answer.reason, answer.line, answer.length)),
+        0 => Err(refusal(answer.reason, answer.line, answer.column, answer.length)),
         1 => Ok(Search::Found {
             size: answer.size,
             length: answer.length as usize,
@@ -113,32 +113,23 @@ pub fn find(sheet: &[u8], low: u64, high: u64, work: &mut [u32], output: &mut [u
 /// A case is a model of the sheet exactly if every clause of the text is true in it.
 pub fn from_tptp(text: &[u8], output: &mut [u8]) -> Result<usize, Refusal> {
     // SAFETY: pointers and lengths are slices', and the output is lent to this call alone.
-    let answer = unsafe { raw::nk_from_tptp(text.as_ptr(), text.len(), output.as_mut_ptr(), output.len()) };
-    match answer.outcome {
-        0 => Err(Refusal {
-            column: answer.column,
-            ..refusal(answer.reason, answer.line, answer.length)
-        }),
-        1 => Ok(answer.length as usize),
-        other => unknown_outcome(other),
-    }
+    written(unsafe { raw::nk_from_tptp(text.as_ptr(), text.len(), output.as_mut_ptr(), output.len()) })
 }
 
 fn written(answer: raw::WriteAnswer) -> Result<usize, Refusal> {
     match answer.outcome {
-        0 => Err(refusal(answer.reason, answer.line, answer.length)),
+        0 => Err(refusal(answer.reason, answer.line, answer.column, answer.length)),
         1 => Ok(answer.length as usize),
         other => unknown_outcome(other),
     }
 }
 
-/// A refusal that names no column.
-fn refusal(number: u32, line: u64, needed: u64) -> Refusal {
+fn refusal(number: u32, line: u64, column: u64, needed: u64) -> Refusal {
     let reason = Reason::from_number(number).unwrap_or_else(|| panic!("the library answered reason {number}"));
     Refusal {
         reason,
         line,
-        column: 0,
+        column,
         needed,
     }
 }

@@ -7,6 +7,7 @@ pub struct ReadAnswer {
     pub outcome: u32,
     pub reason: u32,
     pub line: u64,
+    pub column: u64,
     pub funs: u64,
     pub preds: u64,
     pub clauses: u64,
@@ -19,15 +20,17 @@ pub struct JudgeAnswer {
     pub outcome: u32,
     pub reason: u32,
     pub line: u64,
+    pub column: u64,
 }
 
-/// The answer of [`nk_write`] and [`nk_read_back`].
+/// The answer of [`nk_write`], [`nk_read_back`] and [`nk_from_tptp`].
 #[repr(C)]
 #[derive(Clone, Copy, Debug, PartialEq, Eq)]
 pub struct WriteAnswer {
     pub outcome: u32,
     pub reason: u32,
     pub line: u64,
+    pub column: u64,
     pub length: u64,
 }
 
@@ -38,20 +41,10 @@ pub struct FindAnswer {
     pub outcome: u32,
     pub reason: u32,
     pub line: u64,
+    pub column: u64,
     pub size: u64,
     pub length: u64,
     pub settled: u32,
-}
-
-/// The answer of [`nk_from_tptp`].
-#[repr(C)]
-#[derive(Clone, Copy, Debug, PartialEq, Eq)]
-pub struct TptpAnswer {
-    pub outcome: u32,
-    pub reason: u32,
-    pub line: u64,
-    pub column: u64,
-    pub length: u64,
 }
 
 extern "C" {
@@ -88,5 +81,5 @@ extern "C" {
         output_length: usize,
     ) -> FindAnswer;
 
-    pub fn nk_from_tptp(text: *const u8, text_length: usize, output: *mut u8, output_length: usize) -> TptpAnswer;
+    pub fn nk_from_tptp(text: *const u8, text_length: usize, output: *mut u8, output_length: usize) -> WriteAnswer;
 }

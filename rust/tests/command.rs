@@ -43,35 +43,106 @@ fn check() {
     );
     fails(
         "check -",
-        "sheet=1\nfuns=0\npreds=1\npred=p/0\nclauses=1\nclause=+ p +\n",
-        "nesskettle: refused 6, line 6: the words of this line do not make up a clause\n  \
-         standard input:6: clause=+ p +\n",
+        "sheet=1\nfuns=0\npreds=1\npred=p/0\nclauses=1\nclause=+ p p +\n",
+        "nesskettle: refused 6, line 6, column 12: the words of this line do not make up a clause\n  \
+         standard input:6: clause=+ p p +\n                               ^\n",
     );
     fails(
         "check -",
         "sheet=1\nfuns=13\n",
-        "nesskettle: refused 3, line 2: over the limit (12 functions, 12 predicates, 64 clauses, arity 3)\n  \
-         standard input:2: funs=13\n",
+        "nesskettle: refused 3, line 2, column 6: over the limit (12 functions, 12 predicates, 64 clauses, arity 3)\n  \
+         standard input:2: funs=13\n                         ^\n",
     );
 }
 
+/// The input is refused with this number, line and column. Its line's number and the line are shown as here, but for the
+/// `^`, which stands below the byte after it.
+fn marks(arguments: &str, input: &str, refused: &str, shown: &str) {
+    let output = run(arguments, input);
+    let told = String::from_utf8_lossy(&output.stderr).into_owned();
+    assert_eq!(output.status.code(), Some(2), "{told}");
+    assert!(told.starts_with(&format!("nesskettle: refused {refused}: ")), "{told}");
+    let (_, lines) = told.split_once('\n').expect("the line is shown");
+    let (before, after) = shown.split_once('^').expect("a place is marked");
+    let before = format!("  standard input:{before}");
+    let mark = " ".repeat(before.len());
+    assert_eq!(lines, format!("{before}{after}\n{mark}^\n"), "{told}");
+}
+
 #[test]
-fn faulty_lines_are_shown() {
-    let missing = run("check -", "sheet=1\n");
-    assert!(String::from_utf8_lossy(&missing.stderr).ends_with("standard input:2: (the text ends before this line)\n"));
-    let unended = run("check -", "sheet=1\nfuns=0");
-    assert!(String::from_utf8_lossy(&unended.stderr).ends_with("standard input:2: funs=0 (no line feed)\n"));
-    let escaped = run("check -", "sheet=1\r\n");
-    assert!(String::from_utf8_lossy(&escaped.stderr).ends_with("standard input:1: sheet=1\\r\n"));
+fn a_refused_sheet_is_marked() {
+    let marks = |input: &str, refused: &str, shown: &str| {
+        for verb in ["check -", "find -", "clauses - --size 2", "judge - group-6.case"] {
+            marks(verb, input, refused, shown);
+        }
+    };
+    marks("cnf(a, axiom, p).\n", "2, line 1, column 1", "1: ^cnf(a, axiom, p).");
+    marks("sheet=1\r\n", "2, line 1, column 8", "1: sheet=1^\\r");
+    marks(
+        "sheet=1\n",
+        "2, line 2, column 1",
+        "2: ^(the text ends before this line)",
+    );
+    marks("sheet=1\nfuns=0", "2, line 2, column 7", "2: funs=0^ (no line feed)");
+    marks("sheet=1\nfuns=0\0", "2, line 2, column 7", "2: funs=0^\\x00");
+    marks("sheet=1\nfuns=1\nfun=a\n", "2, line 3, column 6", "3: fun=a^");
+    marks("sheet=1\nfuns=1\nfun=a/4\n", "3, line 3, column 7", "3: fun=a/^4");
+    marks(
+        "sheet=1\nfuns=1\nfun=\u{e9}/0\n",
+        "4, line 3, column 5",
+        "3: fun=^\\xc3\\xa9/0",
+    );
+    let clause = |words: &str| format!("sheet=1\nfuns=0\npreds=1\npred=p/0\nclauses=1\nclause={words}\n");
+    marks(&clause("+\tp + q"), "5, line 6, column 8", "6: clause=^+\\tp + q");
+    marks(&clause("+ p "), "5, line 6, column 12", "6: clause=+ p ^");
+    marks(&clause("+ p +"), "6, line 6, column 13", "6: clause=+ p +^");
+    // both ends of a long line are cut, or one of them
+    let literals = |count: usize| vec!["+ p"; count].join(" ");
+    marks(
+        &clause(&literals(40)),
+        "7, line 6, column 72",
+        &format!("6: .. {0} ^{0}  ..", literals(9)),
+    );
+    marks(
+        &clause(&format!("{} + q", literals(30))),
+        "5, line 6, column 130",
+        &format!("6: .. {} + ^q", &literals(30)[51..]),
+    );
+    marks(
+        &clause(&format!("q {}", literals(30))),
+        "5, line 6, column 8",
+        &format!("6: clause=^q {} ..", &literals(30)[..63]),
+    );
 }
 
 #[test]
 fn judge() {
     prints("judge group.sheet group-6.case", "", 0, "yes\n");
     prints("judge two-constants.sheet -", "case=1\nsize=2\na=2\nb=2\n", 1, "no\n");
-    let refused = run("judge two-constants.sheet -", "case=1\nsize=9\n");
-    assert!(String::from_utf8_lossy(&refused.stderr).starts_with("nesskettle: refused 12, line 2: "));
-    assert!(String::from_utf8_lossy(&refused.stderr).ends_with("standard input:2: size=9\n"));
+}
+
+#[test]
+fn a_refused_case_is_marked() {
+    let marks = |input: &str, refused: &str, shown: &str| marks("judge two-constants.sheet -", input, refused, shown);
+    marks("case=1\nsize=9\n", "12, line 2, column 6", "2: size=^9");
+    marks("case=1\nsize=2\na=1\tb=2\n", "12, line 3, column 4", "3: a=1^\\tb=2");
+    marks(
+        "case=1\nsize=2\na=1\nb=2",
+        "12, line 4, column 4",
+        "4: b=2^ (no line feed)",
+    );
+    marks("case=1\nsize=2\na=1\nb=2\n\n", "12, line 5, column 1", "5: ^");
+}
+
+#[test]
+fn the_refused_file_is_named() {
+    let sheet = run("judge group-6.case group-6.case", "");
+    let shown = "\n  group-6.case:1: case=1\n                  ^\n";
+    assert!(String::from_utf8_lossy(&sheet.stderr).ends_with(shown));
+    let case = run("judge two-constants.sheet two-constants.sheet", "");
+    let shown = "\n  two-constants.sheet:1: sheet=1\n                         ^\n";
+    assert!(String::from_utf8_lossy(&case.stderr).starts_with("nesskettle: refused 12, "));
+    assert!(String::from_utf8_lossy(&case.stderr).ends_with(shown));
 }
 
 #[test]
@@ -220,49 +291,38 @@ fn the_tptp_examples() {
     );
 }
 
-/// A refused TPTP text ends with its line and the mark.
-fn marks(text: &str, refused: &str, shown: &str) {
-    for verb in ["tptp -", "find - --tptp"] {
-        let output = run(verb, text);
-        let told = String::from_utf8_lossy(&output.stderr).into_owned();
-        assert_eq!(output.status.code(), Some(2), "{told}");
-        assert!(told.starts_with(&format!("nesskettle: refused {refused}: ")), "{told}");
-        let (_, lines) = told.split_once('\n').expect("the line is shown");
-        assert_eq!(lines, shown);
-    }
-}
-
 #[test]
 fn a_refused_tptp_text_is_marked() {
+    let marks = |input: &str, refused: &str, shown: &str| {
+        for verb in ["tptp -", "find - --tptp"] {
+            marks(verb, input, refused, shown);
+        }
+    };
     marks(
         "% two arities\ncnf(a, axiom, p(X) | ~ p(X, X)).\n",
         "16, line 2, column 24",
-        "  standard input:2: cnf(a, axiom, p(X) | ~ p(X, X)).\n                                           ^\n",
+        "2: cnf(a, axiom, p(X) | ~ ^p(X, X)).",
     );
     marks(
         "cnf(a,\taxiom, 'p').\n",
         "15, line 1, column 15",
-        "  standard input:1: cnf(a,\\taxiom, 'p').\n                                   ^\n",
+        "1: cnf(a,\\taxiom, ^'p').",
     );
     marks(
         "cnf(a, axiom, p)",
         "15, line 1, column 17",
-        "  standard input:1: cnf(a, axiom, p) (the text ends here)\n                                    ^\n",
+        "1: cnf(a, axiom, p)^ (the text ends here)",
     );
     marks(
         "/* no end\n",
         "15, line 2, column 1",
-        "  standard input:2: (the text ends before this line)\n                    ^\n",
+        "2: ^(the text ends before this line)",
     );
-    let long = format!("cnf(a, axiom, {0}q & p | {0}).\n", "p | ".repeat(40));
-    let shown = format!(".. | {0}q & {0}p  ..", "p | ".repeat(14));
     marks(
-        &long,
+        &format!("cnf(a, axiom, {0}q & p | {0}).\n", "p | ".repeat(40)),
         "15, line 1, column 177",
-        &format!("  standard input:1: {shown}\n{}^\n", " ".repeat(20 + 3 + 60)),
+        &format!("1: .. | {0}q ^& {0}p  ..", "p | ".repeat(8)),
     );
-    let unknown = run("find -", "cnf(a, axiom, p).\n");
-    assert!(String::from_utf8_lossy(&unknown.stderr).starts_with("nesskettle: refused 2, line 1: "));
 }
 
 #[test]

@@ -28,10 +28,15 @@ int main(void) {
     nk_read_answer read = nk_read(sheet, sheet_length);
     expect(read.outcome == NK_READ && read.funs == 2 && read.preds == 0 && read.clauses == 1, "the sheet is read");
     read = nk_read(sheet, sheet_length - 2);
-    expect(read.outcome == NK_REFUSED && read.reason == NK_LAYOUT && read.line == 7, "a cut sheet is refused");
+    expect(read.outcome == NK_REFUSED && read.reason == NK_LAYOUT, "a cut sheet is refused");
+    expect(read.line == 7 && read.column == 14, "one past the end of its last line");
 
     nk_judge_answer judged = nk_judge(sheet, sheet_length, (const uint8_t *)least, strlen(least));
-    expect(judged.outcome == NK_YES && judged.reason == 0 && judged.line == 0, "the least model is judged one");
+    expect(judged.outcome == NK_YES && judged.reason == 0, "the least model is judged one");
+    expect(judged.line == 0 && judged.column == 0, "without a place");
+    judged = nk_judge(sheet, sheet_length, (const uint8_t *)"case=1\nsize=9\n", 14);
+    expect(judged.outcome == NK_REFUSED && judged.reason == NK_BAD_CASE, "a case of size 9 is refused");
+    expect(judged.line == 2 && judged.column == 6, "at its size");
 
     nk_write_answer written = nk_write(sheet, sheet_length, 2, output, sizeof output);
     expect(written.outcome == NK_WRITTEN, "the clauses are written");
@@ -41,6 +46,7 @@ int main(void) {
     const uint8_t setting[] = {0, 1, 1, 0};
     written = nk_read_back(sheet, sheet_length, 2, setting, sizeof setting, output, 10);
     expect(written.reason == NK_OUTPUT_TOO_SHORT && written.length == 22, "a short output is refused");
+    expect(written.line == 0 && written.column == 0, "without a place");
     written = nk_read_back(sheet, sheet_length, 2, setting, sizeof setting, output, sizeof output);
     expect(text_is(output, written.length, "case=1\nsize=2\na=2\nb=1\n"), "the setting is read back");
 
@@ -49,18 +55,20 @@ int main(void) {
     expect(text_is(output, found.length, least), "it is the least one");
     found = nk_find(sheet, sheet_length, 1, 1, work, 1000, output, sizeof output);
     expect(found.outcome == NK_NONE && found.settled == 0 && found.length == 0, "there is none of size 1");
+    found = nk_find(sheet + 1, sheet_length - 1, 1, 1, work, 1000, output, sizeof output);
+    expect(found.reason == NK_LAYOUT && found.line == 1 && found.column == 1, "a sheet without its first byte is refused");
 
     static const char clauses[] = "% two constants\ncnf(1, axiom, a != b).\n";
-    nk_tptp_answer sheet_of = nk_from_tptp((const uint8_t *)clauses, strlen(clauses), output, sizeof output);
-    expect(sheet_of.outcome == NK_WRITTEN && sheet_of.line == 0 && sheet_of.column == 0, "the clause is taken");
-    expect(text_is(output, sheet_of.length, text), "its sheet is the first example");
-    sheet_of = nk_from_tptp((const uint8_t *)clauses, strlen(clauses), output, 10);
-    expect(sheet_of.reason == NK_OUTPUT_TOO_SHORT && sheet_of.length == sheet_length, "a short output is refused");
-    sheet_of = nk_from_tptp((const uint8_t *)clauses, strlen(clauses) - 2, output, sizeof output);
-    expect(sheet_of.outcome == NK_REFUSED && sheet_of.reason == NK_NOT_TPTP, "a missing full stop is refused");
-    expect(sheet_of.line == 2 && sheet_of.column == 22 && sheet_of.length == 0, "at the text's end");
+    written = nk_from_tptp((const uint8_t *)clauses, strlen(clauses), output, sizeof output);
+    expect(written.outcome == NK_WRITTEN && written.line == 0 && written.column == 0, "the clause is taken");
+    expect(text_is(output, written.length, text), "its sheet is the first example");
+    written = nk_from_tptp((const uint8_t *)clauses, strlen(clauses), output, 10);
+    expect(written.reason == NK_OUTPUT_TOO_SHORT && written.length == sheet_length, "a short output is refused");
+    written = nk_from_tptp((const uint8_t *)clauses, strlen(clauses) - 2, output, sizeof output);
+    expect(written.outcome == NK_REFUSED && written.reason == NK_NOT_TPTP, "a missing full stop is refused");
+    expect(written.line == 2 && written.column == 22 && written.length == 0, "at the text's end");
 
-    printf("%zu %zu %zu %zu %zu\n", sizeof(nk_read_answer), sizeof(nk_judge_answer), sizeof(nk_write_answer),
-           sizeof(nk_find_answer), sizeof(nk_tptp_answer));
+    printf("%zu %zu %zu %zu\n", sizeof(nk_read_answer), sizeof(nk_judge_answer), sizeof(nk_write_answer),
+           sizeof(nk_find_answer));
     return failures;
 }

@@ -1,6 +1,6 @@
 //! `include/nesskettle.h` from C: `header.c` compiles without a warning, calls the library, and has the same layouts.
 
-use nesskettle::raw::{FindAnswer, JudgeAnswer, ReadAnswer, TptpAnswer, WriteAnswer};
+use nesskettle::raw::{FindAnswer, JudgeAnswer, ReadAnswer, WriteAnswer};
 use std::path::Path;
 use std::process::Command;
 
@@ -25,7 +25,6 @@ fn the_header_fits_the_library() {
         size_of::<JudgeAnswer>(),
         size_of::<WriteAnswer>(),
         size_of::<FindAnswer>(),
-        size_of::<TptpAnswer>(),
     ];
     let expected = sizes.map(|size| size.to_string()).join(" ") + "\n";
     assert_eq!(String::from_utf8_lossy(&output.stdout), expected);

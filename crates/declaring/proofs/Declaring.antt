@@ -8,6 +8,7 @@ use native.Mathlib.Omega.{arith}
 use lib.Dec.{eqb, ltb, leb}
 use lib.ListN.{length, getD}
 use borrow.Author.Tests.{lt-ltb, not-false}
+use Rattle.theory.specs.Lists.{orZero}
 use Rattle.theory.specs.Syntax.{isFunction, Signature, noSymbol, symbolAt, functions, predicates}
 use Rattle.theory.specs.Syntax as theory
 use Rattle.theory.specs.Problem.{isName, isNamed, placeOfName}
@@ -20,7 +21,7 @@ use Rattle.syntax.specs.declared.signature.Symbol.{Symbol}
 use Rattle.syntax.specs.Signatures.{kindOf, symbolIn, signatureIn}
 use Rattle.clauses.proofs.Held.{blank, arity-at, symbolAt-signatureIn}
 use Rattle.problem.proofs.Declaring.{name-found, name-not-found}
-use Rattle.tptp.specs.Symbols.{Occurrence, declares, orZero}
+use Rattle.tptp.specs.Symbols.{Occurrence, declares}
 use Rattle.tptp.specs.Tptp.{faultIf, sameSymbolKind, placeInKind, occurrenceFaults}
 use Rattle.tptp.specs.Claims.Order.{firstFault, signatureBy}
 use Rattle.tptp.proofs.SoFar.{entry}

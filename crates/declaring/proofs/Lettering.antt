@@ -9,11 +9,11 @@ use lib.Dec.{leb}
 use lib.ListN.{length, getD, take, length-append, length-take, length-map}
 use lib.Seq.{getD-take, length-take-le}
 use borrow.Author.Tests.{lt-ltb, le-ltb}
-use Rattle.theory.specs.Lists.{any, all, same, placeAt, placeThat}
+use Rattle.theory.specs.Lists.{any, all, same, placeAt, placeThat, orZero}
 use Rattle.theory.proofs.Tests.{leb-true, leb-of-≤, and-join}
 use Rattle.theory.proofs.Lists.{all-append, all-at, any-at, map-at, same-refl}
 use Rattle.theory.proofs.Finding.{placeThat-some, placeThat-none, placeThat-snoc}
-use Rattle.tptp.specs.Symbols.{firstOfName, orZero, letterOfName}
+use Rattle.tptp.specs.Symbols.{firstOfName, letterOfName}
 use Rattle.declaring.specs.declared.letters.Letter.{Letter}
 use Rattle.declaring.specs.declared.letters.Letters as declared
 use Rattle.declaring.specs.Letters.{letterIn, lettersIn, Lettered, LettersOf, LetterPlace, LetterFound}

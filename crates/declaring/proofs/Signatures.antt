@@ -7,13 +7,13 @@ use mathlib.Core.List.{List, [], _∷_, _++_, append-nil, append-assoc}
 use native.Mathlib.Omega.{arith}
 use lib.ListN.{length, take, drop, length-append, take-append-drop}
 use lib.Seq.{take-at, drop-at, getD-append-seam}
-use Rattle.theory.specs.Lists.{same, select}
+use Rattle.theory.specs.Lists.{same, select, orZero}
 use Rattle.theory.specs.Syntax.{Kind, function, predicate, isFunction, isPredicate, Symbol, Signature, noSymbol, symbolAt, functions, predicates}
 use Rattle.theory.specs.Problem.{isNamed, placeOfName}
 use Rattle.theory.proofs.Tests.{or-false-left, or-false-join}
 use Rattle.theory.proofs.Lists.{any-append, select-append, same-refl}
 use Rattle.theory.proofs.Finding.{placeThat-append, placeThat-snoc, any→placeThat-none}
-use Rattle.tptp.specs.Symbols.{firstOfName, orZero}
+use Rattle.tptp.specs.Symbols.{firstOfName}
 use Rattle.tptp.specs.Tptp.{placeInKind}
 use Rattle.tptp.specs.Claims.Order.{signatureBy}
 use Rattle.tptp.proofs.Fresh.{parts-have}

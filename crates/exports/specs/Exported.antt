@@ -8,8 +8,7 @@ use Rattle.theory.specs.Operations.{lengthAnswer, outputAfter, writtenText, rea
 use Rattle.tptp.specs.Tptp.{tptpText}
 use Rattle.exports.specs.declared.WriteOut.{WriteOut}
 use Rattle.exports.specs.declared.FindOut.{FindOut}
-use Rattle.exports.specs.declared.TptpOut.{TptpOut}
-use Rattle.exports.specs.Layouts.{writeOut, findOut, tptpOut}
+use Rattle.exports.specs.Layouts.{writeOut, findOut}
 
 -- a call that writes this text, or is refused
 pub record WritingExport (text : Answer (List ℕ)) (r : WriteOut) (output output′ : List ℕ) : Type 0 where
@@ -35,6 +34,5 @@ abbrev pub FindExport : List ℕ → ℕ → ℕ → FindOut → List ℕ → Li
 FindExport sheet low high r work work′ output output′ = SearchingExport (findResult sheet low high (length work) (length output)) r work work′ output output′
 
 -- From TPTP
-pub record TptpExport (text : List ℕ) (r : TptpOut) (output output′ : List ℕ) : Type 0 where
-  pub answer : r ≡ tptpOut (lengthAnswer (tptpText text (length output)))
-  pub left : output′ ≡ outputAfter (tptpText text (length output)) output
+abbrev pub TptpExport : List ℕ → WriteOut → List ℕ → List ℕ → Type 0
+TptpExport text r output output′ = WritingExport (tptpText text (length output)) r output output′

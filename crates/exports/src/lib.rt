@@ -9,13 +9,14 @@ ghost use mathlib.Core.Bool.{cond};
 ghost use Rattle.answers.specs.Answers.{readIn, judgeIn, lengthIn, findIn};
 ghost use Rattle.theory.specs.Operations as theory;
 ghost use Rattle.exports.specs.Exported.{FindExport, ReadBackExport, TptpExport, WriteExport};
-ghost use Rattle.exports.specs.Layouts.{readOut, judgeOut, writeOut, findOut, tptpOut};
+ghost use Rattle.exports.specs.Layouts.{readOut, judgeOut, writeOut, findOut};
 
 #[repr(C)]
 pub struct ReadOut {
     pub outcome: u32,
     pub reason: u32,
     pub line: u64,
+    pub column: u64,
     pub funs: u64,
     pub preds: u64,
     pub clauses: u64,
@@ -26,6 +27,7 @@ pub struct JudgeOut {
     pub outcome: u32,
     pub reason: u32,
     pub line: u64,
+    pub column: u64,
 }
 
 #[repr(C)]
@@ -33,6 +35,7 @@ pub struct WriteOut {
     pub outcome: u32,
     pub reason: u32,
     pub line: u64,
+    pub column: u64,
     pub length: u64,
 }
 
@@ -41,18 +44,10 @@ pub struct FindOut {
     pub outcome: u32,
     pub reason: u32,
     pub line: u64,
+    pub column: u64,
     pub size: u64,
     pub length: u64,
     pub settled: u32,
-}
-
-#[repr(C)]
-pub struct TptpOut {
-    pub outcome: u32,
-    pub reason: u32,
-    pub line: u64,
-    pub column: u64,
-    pub length: u64,
 }
 
 #[no_mangle]
@@ -70,6 +65,7 @@ fn read_out(answer: ReadAnswer) -> ReadOut
             outcome: 1,
             reason: 0,
             line: 0,
+            column: 0,
             funs: functions as u64,
             preds: predicates as u64,
             clauses: clauses as u64,
@@ -78,6 +74,7 @@ fn read_out(answer: ReadAnswer) -> ReadOut
             outcome: 0,
             reason: r.number as u32,
             line: r.line as u64,
+            column: r.column as u64,
             funs: 0,
             preds: 0,
             clauses: 0,
@@ -100,16 +97,19 @@ fn judge_out(answer: JudgeAnswer) -> JudgeOut
             outcome: 1,
             reason: 0,
             line: 0,
+            column: 0,
         },
         JudgeAnswer::No => JudgeOut {
             outcome: 2,
             reason: 0,
             line: 0,
+            column: 0,
         },
         JudgeAnswer::Refused(r) => JudgeOut {
             outcome: 0,
             reason: r.number as u32,
             line: r.line as u64,
+            column: r.column as u64,
         },
     }
 }
@@ -129,12 +129,14 @@ fn write_out(answer: WriteAnswer) -> WriteOut
             outcome: 1,
             reason: 0,
             line: 0,
+            column: 0,
             length: n as u64,
         },
         WriteAnswer::Refused(r) => WriteOut {
             outcome: 0,
             reason: r.number as u32,
             line: r.line as u64,
+            column: r.column as u64,
             length: r.needed as u64,
         },
     }
@@ -173,6 +175,7 @@ fn find_out(answer: FindAnswer) -> FindOut
             outcome: 1,
             reason: 0,
             line: 0,
+            column: 0,
             size,
             length: n as u64,
             settled: 0,
@@ -181,6 +184,7 @@ fn find_out(answer: FindAnswer) -> FindOut
             outcome: 2,
             reason: 0,
             line: 0,
+            column: 0,
             size: 0,
             length: 0,
             settled: number_of(settled),
@@ -189,6 +193,7 @@ fn find_out(answer: FindAnswer) -> FindOut
             outcome: 0,
             reason: r.number as u32,
             line: r.line as u64,
+            column: r.column as u64,
             size: 0,
             length: r.needed as u64,
             settled: 0,
@@ -207,29 +212,8 @@ fn number_of(mark: bool) -> u32
 }
 
 #[no_mangle]
-pub extern "C" fn nk_from_tptp(text: &[u8], output: &mut [u8]) -> TptpOut
+pub extern "C" fn nk_from_tptp(text: &[u8], output: &mut [u8]) -> WriteOut
     ensures { λ r. ⌜ TptpExport (now (text .entry)) r (now (output .entry)) (now (output .exit)) ⌝ }
 {
-    tptp_out(nesskettle::from_tptp(text, output))
-}
-
-fn tptp_out(answer: WriteAnswer) -> TptpOut
-    ensures { λ r. ⌜ r ≡ tptpOut (lengthIn answer) ⌝ }
-{
-    match answer {
-        WriteAnswer::Written(n) => TptpOut {
-            outcome: 1,
-            reason: 0,
-            line: 0,
-            column: 0,
-            length: n as u64,
-        },
-        WriteAnswer::Refused(r) => TptpOut {
-            outcome: 0,
-            reason: r.number as u32,
-            line: r.line as u64,
-            column: r.column as u64,
-            length: r.needed as u64,
-        },
-    }
+    write_out(nesskettle::from_tptp(text, output))
 }

@@ -9,7 +9,8 @@ use lib.Dec.{leb}
 use Rattle.theory.specs.Propositional.{propCount}
 use Rattle.theory.specs.PropClauses.{instanceCount, literalCount, workNeeded}
 use Rattle.theory.specs.Refusals.{Refusal, answer, refused, unplaced, needing}
-use Rattle.theory.specs.Problem.{Problem, readProblem}
+use Rattle.theory.specs.Problem.{Problem}
+use Rattle.theory.specs.Columns.{placedProblem}
 use Rattle.theory.specs.CaseText.{caseLength}
 use Rattle.theory.specs.Operations.{maxInstances, findResult}
 use Rattle.theory.proofs.Answers.{bind-step, bind-refused, check-of-true, check-of-false}
@@ -57,11 +58,11 @@ module _ (p : Problem) (low high work room : ℕ) where
 
 module _ (sheet : List ℕ) (low high work room : ℕ) where
   -- a sheet that is refused
-  pub result-refused : (r : Refusal) → readProblem sheet ≡ refused r → findResult sheet low high work room ≡ refused r
+  pub result-refused : (r : Refusal) → placedProblem sheet ≡ refused r → findResult sheet low high work room ≡ refused r
   unfolding findResult
   result-refused r e = bind-refused _ _ r e
 
-  module _ (p : Problem) (read : readProblem sheet ≡ answer p) where
+  module _ (p : Problem) (read : placedProblem sheet ≡ answer p) where
     -- one that was read, at what are no sizes
     pub result-8 : areSizes low high ≡ false → findResult sheet low high work room ≡ refused (unplaced 8)
     unfolding findResult

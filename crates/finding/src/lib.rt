@@ -9,6 +9,7 @@ use answers::FindAnswer;
 use answers::at_line;
 use answers::needing;
 use cases::writing::case_length;
+use columns::sheet::sheet_refusal;
 use counts::Counts;
 use counts::counts_at;
 use problem::sheet::read_problem;
@@ -35,7 +36,7 @@ pub fn find_model(
 {
     let r = read_problem(sheet);
     if r.fault != 0 {
-        return FindAnswer::Refused(at_line(r.fault, r.line));
+        return FindAnswer::Refused(sheet_refusal(sheet, r.fault, r.line));
     }
     let p = r.problem;
     match checked_range(low, high) {

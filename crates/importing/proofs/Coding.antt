@@ -8,7 +8,7 @@ use native.Mathlib.Omega.{arith}
 use lib.Dec.{eqb, ltb, leb}
 use lib.ListN.{length, length-append}
 use borrow.Author.Tests.{ltb-true, lt-ltb, le-leb}
-use Rattle.theory.specs.Lists.{same}
+use Rattle.theory.specs.Lists.{same, orZero}
 use Rattle.theory.specs.Syntax as theory
 use Rattle.theory.specs.Grammar.{Word, symbol, letter}
 use Rattle.theory.specs.Problem.{isNamed, placeOfName}
@@ -23,7 +23,7 @@ use Rattle.clauses.specs.Words.{isFixed, isCode}
 use Rattle.clauses.specs.Clauses.{WordsBounded, Passed}
 use Rattle.clauses.proofs.Passing.{passed-bounded}
 use Rattle.tptp.specs.Trees.{Name}
-use Rattle.tptp.specs.Symbols.{ofVariable, orZero, letterOfName, symbolOfName}
+use Rattle.tptp.specs.Symbols.{ofVariable, letterOfName, symbolOfName}
 use Rattle.tptp.specs.Scanning.{Entry, mark, occurs}
 use Rattle.scanning.specs.declared.entries.Marks.{Marks}
 use Rattle.scanning.specs.declared.entries.Marks.the-variants.{None, Sign, Equality}

@@ -4,7 +4,7 @@ use mathlib.Core.Path.{_≡_, refl, sym, ap, _∙_}
 use mathlib.Core.Bool.{true, false, false≢true}
 use mathlib.Core.Option.{Option}
 use mathlib.Core.List.{List, [], _∷_, _++_, map}
-use Rattle.theory.specs.Lists.{all, same}
+use Rattle.theory.specs.Lists.{all, same, orZero}
 use Rattle.theory.specs.Bytes.{bytes}
 use Rattle.theory.specs.Syntax.{Symbol, Signature, symbolAt}
 use Rattle.theory.specs.Grammar as words
@@ -14,7 +14,7 @@ use Rattle.theory.proofs.Tests.{and-left, and-right}
 use Rattle.theory.proofs.Finding.{any→placeThat}
 use Rattle.theory.proofs.Names.{named-place}
 use Rattle.tptp.specs.Trees.{NameClause}
-use Rattle.tptp.specs.Symbols.{Occurrence, ofVariable, ofSymbol, names, orZero, letterOfName, symbolOfName, clauseOver}
+use Rattle.tptp.specs.Symbols.{Occurrence, ofVariable, ofSymbol, names, letterOfName, symbolOfName, clauseOver}
 use Rattle.tptp.specs.Scanning.{Entry, mark, occurs, clauseEntries}
 use Rattle.sheet_text.specs.Parts.{clauseLine}
 use Rattle.importing.specs.Entered.{lettersBy, entryWords, occurrenceFits, entriesFit}

@@ -6,7 +6,7 @@ use mathlib.Core.Option.{Option}
 use mathlib.Core.List.{List, [], _∷_, _++_, map}
 use lib.Dec.{ltb}
 use lib.ListN.{length}
-use Rattle.theory.specs.Lists.{all, concatMap, same}
+use Rattle.theory.specs.Lists.{all, concatMap, same, orZero}
 use Rattle.theory.specs.Syntax.{Symbol, Signature}
 use Rattle.theory.specs.Grammar.{Word, letter}
 use Rattle.theory.specs.Grammar as words
@@ -18,7 +18,7 @@ use Rattle.theory.proofs.Finding.{any→placeThat}
 use Rattle.theory.proofs.Names.{named-place}
 use Rattle.syntax.specs.Codes.{isKnown}
 use Rattle.tptp.specs.Trees.{nameHolds, nameEqual, NameLiteral, never, plain, tilded, unequal, NameClause}
-use Rattle.tptp.specs.Symbols.{Occurrence, ofVariable, ofSymbol, declares, names, orZero, symbolOfName, literalOccurrences, clauseOver}
+use Rattle.tptp.specs.Symbols.{Occurrence, ofVariable, ofSymbol, declares, names, symbolOfName, literalOccurrences, clauseOver}
 use Rattle.tptp.specs.Scanning.{Entry, mark, occurs, literalMarks, literalEntries, clauseEntries, occurrenceIn, occurrenceWord}
 use Rattle.tptp.specs.Claims.Order.{declaredBy}
 use Rattle.tptp.proofs.Stepping.{entry-occurrences}

@@ -1,19 +1,21 @@
 -- From the first failure to yes or no, and from a sheet and a case to what is judged.
 use Prim.Native.Nat.{ℕ, _-_, _≤_}
-use mathlib.Core.Path.{_≡_, refl, sym, ap, _∙_, subst}
+use mathlib.Core.Path.{_≡_, refl, sym, ap, _∙_}
 use mathlib.Core.Bool.{Bool, true, false, not, cond}
-use mathlib.Core.Option.{Option, none, some}
+use mathlib.Core.Option.{none, some}
 use mathlib.Core.List.{List}
 use native.Mathlib.Omega.{arith}
 use lib.ListN.{length, take}
 use Rattle.theory.specs.Truth.{noFailure}
 use Rattle.theory.specs.Truth as theory
 use Rattle.theory.specs.Cells.{cellCount, isInterpretation, isModel, judged}
-use Rattle.theory.specs.Refusals.{Answer, answer, refused, atLine}
+use Rattle.theory.specs.Refusals.{Refusal, answer, refused, atLine}
 use Rattle.theory.specs.Problem.{readProblem}
-use Rattle.theory.specs.CaseText.{Case, readCase}
+use Rattle.theory.specs.CaseText.{readCase}
+use Rattle.theory.specs.Columns.{placedCase}
 use Rattle.theory.specs.Operations.{judgeAnswer}
 use Rattle.theory.proofs.Answers.{bind-step, bind-refused}
+use Rattle.theory.proofs.PlacedReading.{placed-case}
 use Rattle.theory.proofs.CaseText.{OnlyText, read-exactly}
 use Rattle.syntax.specs.declared.limits.Problem.{Problem}
 use Rattle.syntax.specs.declared.size.DomainSize.{DomainSize}
@@ -25,7 +27,7 @@ use Rattle.interpretation.specs.Tables.{TablesOf}
 use Rattle.interpretation.proofs.Tabling.{cellCount-small}
 use Rattle.problem.specs.declared.sheet.Reading.{Reading}
 use Rattle.problem.specs.Problems.{problemIn, readingOf, Accepted}
-use Rattle.problem.proofs.SheetRead.{sheet-accepted}
+use Rattle.problem.proofs.SheetRead.{sheet-placed}
 use Rattle.cases.specs.declared.reading.CaseReading.{CaseReading}
 use Rattle.cases.specs.declared.reading.CaseReading.the-variants.{Read, Refused}
 use Rattle.cases.specs.Reading.{caseIn}
@@ -73,9 +75,12 @@ module _ (sheet case : List ℕ) (r : Reading) (read : readingOf sheet r ≡ rea
   told j q = sym e ∙ ap (λ (k : CaseReading). caseIn (signatureIn sheet (r .problem .signature)) k cells) q
 
   -- the case is refused
-  pub case-refused : (l : ℕ) → k ≡ Refused l → judgeAnswer sheet case ≡ refused (atLine 12 l)
-  unfolding judgeAnswer
-  case-refused l q = bind-step _ _ _ _ (sheet-accepted sheet r read ok) (bind-refused _ _ _ (told (Refused l) q))
+  pub case-refused : (l : ℕ) → k ≡ Refused l → readCase (signatureIn sheet (r .problem .signature)) case ≡ refused (atLine 12 l)
+  case-refused l q = sym e ∙ ap (λ (k : CaseReading). caseIn (signatureIn sheet (r .problem .signature)) k cells) q
+
+  pub refused-so : (a : Refusal) → placedCase (signatureIn sheet (r .problem .signature)) case ≡ refused a → judgeAnswer sheet case ≡ refused a
+  unfolding judgeAnswer problemIn
+  refused-so a h = bind-step _ _ _ _ (sheet-placed sheet r read ok) (bind-refused _ _ a h)
 
   module _ (d : DomainSize) (q : k ≡ Read d) where
     abbrev s : ℕ
@@ -84,7 +89,7 @@ module _ (sheet case : List ℕ) (r : Reading) (read : readingOf sheet r ≡ rea
     -- the case is one of the problem
     pub case-judged : judgeAnswer sheet case ≡ answer (isModel s (problemIn sheet (r .problem) .symbols) (problemIn sheet (r .problem) .clauses) (cellsOf sheet (r .problem) cells s))
     unfolding judgeAnswer
-    case-judged = bind-step _ _ _ _ (sheet-accepted sheet r read ok) (bind-step _ _ _ _ (told (Read d) q) refl)
+    case-judged = bind-step _ _ _ _ (sheet-placed sheet r read ok) (bind-step _ _ _ _ (placed-case (problemIn sheet (r .problem) .symbols) case _ (told (Read d) q)) refl)
 
     exact : OnlyText (signatureIn sheet (r .problem .signature)) case (record { size = s; values = cellsOf sheet (r .problem) cells s })
     exact =

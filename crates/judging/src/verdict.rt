@@ -1,9 +1,10 @@
 // Judge: whether a case is a model of a sheet.
 use crate::failures::first_failure;
 use answers::JudgeAnswer;
-use answers::at_line;
 use cases::reading::CaseReading;
 use cases::reading::read_case;
+use columns::case::case_refusal;
+use columns::sheet::sheet_refusal;
 use interpretation::tables::tables_of;
 use problem::sheet::read_problem;
 use syntax::limits::Problem;
@@ -20,13 +21,15 @@ pub fn judge_case(sheet: &[u8], case: &[u8]) -> JudgeAnswer
 {
     let r = read_problem(sheet);
     if r.fault != 0 {
-        return JudgeAnswer::Refused(at_line(r.fault, r.line));
+        return JudgeAnswer::Refused(sheet_refusal(sheet, r.fault, r.line));
     }
     let p = r.problem;
     let signature = p.signature;
     let mut cells = [0; Problem::MAX_CELLS];
     match read_case(case, sheet, signature, &mut cells) {
-        CaseReading::Refused(line) => JudgeAnswer::Refused(at_line(12, line)),
+        CaseReading::Refused(line) => {
+            JudgeAnswer::Refused(case_refusal(case, sheet, signature, line))
+        }
         CaseReading::Read(size) => judge_cells(sheet, p, &cells, size),
     }
 }

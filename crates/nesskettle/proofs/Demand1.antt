@@ -1,28 +1,26 @@
 -- Demand 1 of the calls: the numbers of each operation's refusals, check by check, and what a refused call leaves.
-use Prim.Native.Nat.{ℕ, suc, _+_, _≤_}
-use mathlib.Core.Path.{_≡_, refl, sym, subst, _∙_}
+use Prim.Native.Nat.{ℕ, _+_, _≤_}
+use mathlib.Core.Path.{_≡_, refl, sym, ap, subst, _∙_}
 use mathlib.Core.Bool.{Bool, true, false, cond, _&&_}
-use mathlib.Core.Option.{Option, none, some}
 use mathlib.Core.List.{List, [], _∷_, _++_}
 use native.Mathlib.Omega.{arith}
 use lib.Dec.{eqb, leb}
 use lib.ListN.{length}
 use Rattle.theory.specs.Lists.{all, upFrom, elem, same}
-use Rattle.theory.specs.Bytes.{bytes}
-use Rattle.theory.specs.Lines.{cutLine, afterKey}
-use Rattle.theory.specs.Syntax.{Symbol, Signature}
-use Rattle.theory.specs.Cells.{tableSize}
+use Rattle.theory.specs.Syntax.{Signature}
 use Rattle.theory.specs.PropClauses.{instanceCount, workNeeded}
 use Rattle.theory.specs.Valuation.{isValuation, isFunctional}
-use Rattle.theory.specs.Refusals.{Refusal, Answer, answer, refused, atPlace, atLine, unplaced, needing, _>>=_, check, orRefuse}
-use Rattle.theory.specs.Problem.{readProblem}
+use Rattle.theory.specs.Refusals.{Refusal, Answer, answer, refused, atPlace, unplaced, needing, _>>=_, check}
+use Rattle.theory.specs.Columns.{placedProblem, placedCase}
 use Rattle.theory.specs.SheetText.{sheetText}
-use Rattle.theory.specs.CaseText.{equalsSign, caseLength, unjoined, isValueByte, readTable, readTables, sizeOf, readCase}
+use Rattle.theory.specs.CaseText.{caseLength}
 use Rattle.theory.specs.Operations.{maxSize, maxInstances, isSize, readAnswer, judgeAnswer, lengthAnswer, outputAfter, contentOf, writtenText, readBackText, Search, found, nothing, findResult, findAnswer, findWork, findOutput}
 use Rattle.theory.proofs.Tests.{leb-true, and-left, and-right, or-left, or-right}
 use Rattle.theory.proofs.Lists.{elem-append, upFrom-elem}
 use Rattle.theory.proofs.Answers.{answer≢refused, refused-inj, unrefused}
+use Rattle.theory.proofs.PlacedReading.{plain-problem, plain-case}
 use Rattle.theory.proofs.SheetRefusals.{sheet-refusal}
+use Rattle.theory.proofs.CaseRefusals.{case-refusal}
 use Rattle.tptp.specs.Symbols.{problemOf}
 use Rattle.tptp.specs.Places.{placeOf}
 use Rattle.tptp.specs.Tptp.{readFile, clausesOfFile, Fault, faults, sheetIn, tptpText}
@@ -42,7 +40,7 @@ within-result-or : {A : Type 0} (numbers : List ℕ) (m : Answer A) → Within n
 within-result-or numbers (answer a) h = tt
 within-result-or numbers (refused q) h = h q refl
 
--- the steps of an operation: a result, something that may refuse, a check, a value that may be missing
+-- the steps of an operation: a result, something that may refuse, a check
 module _ (numbers : List ℕ) where
   ends : {A : Type 0} (a : A) → Within numbers (answer a)
   ends a q e = absurd (answer≢refused a q e)
@@ -58,15 +56,12 @@ module _ (numbers : List ℕ) where
   checks true p k h f q e = f q e
   checks {B = B} false p k h f q e = refuses {A = B} p q h e
 
-  needs : {A B : Type 0} (o : Option A) (p : Refusal) (k : A → Answer B) → NumberOf numbers p → ((a : A) → Within numbers (k a)) → Within numbers (orRefuse o p >>= k)
-  unfolding _>>=_
-  needs {B = B} none p k h f q e = refuses {A = B} p q h e
-  needs (some a) p k h f q e = f a q e
-
 -- the sheet's refusals are among those of an operation with numbers of its own
-sheet-within : (own : List ℕ) (sheet : List ℕ) → Within (upFrom 1 7 ++ own) (readProblem sheet)
+sheet-within : (own : List ℕ) (sheet : List ℕ) → Within (upFrom 1 7 ++ own) (placedProblem sheet)
 sheet-within own sheet q e =
-    let h = sheet-refusal sheet q e .number in
+    let r = plain-problem sheet q e in
+    let same : r .plain .number ≡ q .number = ap (λ (q : Refusal). q .number) (r .placed) in
+    let h : (leb 1 (q .number) && leb (q .number) 7) ≡ true = ap (λ (n : ℕ). leb 1 n && leb n 7) (sym same) ∙ sheet-refusal sheet (r .plain) (r .refuses) .number in
     let low : 1 ≤ q .number = leb-true 1 (q .number) (and-left (leb 1 (q .number)) (leb (q .number) 7) h) in
     let high : q .number ≤ 7 = leb-true (q .number) 7 (and-right (leb 1 (q .number)) (leb (q .number) 7) h) in
     elem-append (q .number) (upFrom 1 7) own ∙ or-left (elem (q .number) (upFrom 1 7)) (elem (q .number) own) (upFrom-elem (q .number) 1 7 low (omega arith))
@@ -77,31 +72,12 @@ unfolding readAnswer
 read-within sheet = then readNumbers _ _ (sheet-within [] sheet) λ p. ends readNumbers _
 
 -- a case is refused with 12
-table-within : (s : ℕ) (f : Symbol) (l : ℕ) (text : List ℕ) → Within judgeNumbers (readTable s f l text)
-unfolding readTable
-table-within s f l text =
-    needs judgeNumbers (cutLine text) (atLine 12 l) _ refl λ p.
-    needs judgeNumbers (afterKey (f .name ++ (equalsSign ∷ [])) (p .0)) (atLine 12 l) _ refl λ v.
-    needs judgeNumbers (unjoined v) (atLine 12 l) _ refl λ bs.
-    checks judgeNumbers (eqb (length bs) (tableSize s f) && all (isValueByte s (f .kind)) bs) (atLine 12 l) _ refl (ends judgeNumbers _)
-
-tables-within : (s : ℕ) (g : Signature) (l : ℕ) (text : List ℕ) → Within judgeNumbers (readTables s g l text)
-unfolding readTables
-tables-within s [] l text = ends judgeNumbers _
-tables-within s (f ∷ g) l text =
-    then judgeNumbers _ _ (table-within s f l text) λ p.
-    then judgeNumbers _ _ (tables-within s g (suc l) (p .1)) λ r. ends judgeNumbers _
-
-case-within : (g : Signature) (text : List ℕ) → Within judgeNumbers (readCase g text)
-unfolding readCase
-case-within g text =
-    needs judgeNumbers (cutLine text) (atLine 12 1) _ refl λ a.
-    checks judgeNumbers (same (a .0) (bytes "case=1")) (atLine 12 1) _ refl
-    (needs judgeNumbers (cutLine (a .1)) (atLine 12 2) _ refl λ b.
-    needs judgeNumbers (afterKey (bytes "size=") (b .0)) (atLine 12 2) _ refl λ v.
-    needs judgeNumbers (sizeOf v) (atLine 12 2) _ refl λ s.
-    then judgeNumbers (readTables s g 3 (b .1)) _ (tables-within s g 3 (b .1)) λ t.
-    checks judgeNumbers (same (t .1) []) (atLine 12 (3 + length g)) _ refl (ends judgeNumbers _))
+case-within : (g : Signature) (text : List ℕ) → Within judgeNumbers (placedCase g text)
+case-within g text q e =
+    let r = plain-case g text q e in
+    let number : Refusal → ℕ = λ (q : Refusal). q .number in
+    let twelve : 12 ≡ q .number = ap number (sym (case-refusal g text (r .plain) (r .refuses) .is)) ∙ ap number (r .placed) in
+    subst (λ (n : ℕ). elem n judgeNumbers ≡ true) twelve refl
 
 -- Judge
 judge-within : (sheet case : List ℕ) → Within judgeNumbers (judgeAnswer sheet case)

@@ -13,6 +13,7 @@ use Rattle.theory.specs.CaseText.{Case}
 use Rattle.theory.specs.Operations.{judgeAnswer, over, writtenText, Search, found, nothing, foundCase, noCase, findResult, findAnswer, findOutput}
 use Rattle.theory.specs.Claims.FindsLeast as theory
 use Rattle.theory.proofs.Answers.{unbind, bind-step, answer-inj, answer≢refused}
+use Rattle.theory.proofs.PlacedReading.{placed-problem, problem-read, placed-case, case-read}
 use Rattle.theory.proofs.FindsLeast.{finds-least}
 use Rattle.answers.specs.declared.Refusal as answers
 use Rattle.answers.specs.declared.JudgeAnswer.{JudgeAnswer}
@@ -44,7 +45,8 @@ module _ (sheet text : List ℕ) where
   -- what is judged of a case
   verdict : (c : CaseOf sheet text) → judgeAnswer sheet text ≡ answer (isModel (c .case .size) (c .problem .symbols) (c .problem .clauses) (c .case .values))
   unfolding judgeAnswer
-  verdict c = bind-step _ _ (c .problem) _ (c .sheetRead) (bind-step _ _ (c .case) _ (c .caseRead) refl)
+  verdict c =
+      bind-step _ _ (c .problem) _ (placed-problem sheet (c .problem) (c .sheetRead)) (bind-step _ _ (c .case) _ (placed-case (c .problem .symbols) text (c .case) (c .caseRead)) refl)
 
   -- what is judged is a case
   judged-case : (b : Bool) → judgeAnswer sheet text ≡ answer b → (c : CaseOf sheet text) × (isModel (c .case .size) (c .problem .symbols) (c .problem .clauses) (c .case .values) ≡ b)
@@ -52,7 +54,7 @@ module _ (sheet text : List ℕ) where
   judged-case b e =
       unbind _ _ b e λ (p : Problem) h e₁.
       unbind _ _ b e₁ λ (k : Case) h₁ e₂.
-      (record { problem = p; sheetRead = h; case = k; caseRead = h₁ }, answer-inj (isModel (k .size) (p .symbols) (p .clauses) (k .values)) b e₂)
+      (record { problem = p; sheetRead = problem-read sheet p h; case = k; caseRead = case-read (p .symbols) text k h₁ }, answer-inj (isModel (k .size) (p .symbols) (p .clauses) (k .values)) b e₂)
 
   judges : (r : JudgeAnswer) → JudgeCall sheet text r → Judges sheet text r
   judges r j =

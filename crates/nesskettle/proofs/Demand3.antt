@@ -12,6 +12,7 @@ use Rattle.theory.specs.Operations.{contentOf, writtenText, readBackText}
 use Rattle.theory.specs.Claims.ReadingBack as theory
 use Rattle.theory.proofs.Tests.{leb-of-≤}
 use Rattle.theory.proofs.Answers.{unbind, bind-step, answer-inj, check-of-true}
+use Rattle.theory.proofs.PlacedReading.{problem-read}
 use Rattle.theory.proofs.ReadingBack.{reading-back}
 use Rattle.writing.specs.Texts.{clausesText}
 use Rattle.nesskettle.specs.Demand3.{ReadBackAs, AlwaysReadBackAs, Demand3, Demand3Holds}
@@ -25,7 +26,7 @@ content-read sheet size p e =
     unbind _ _ p e λ (q : Problem) h e₁.
     unbind _ _ p e₁ λ (u₁ : Unit {0}) _ e₂.
     unbind _ _ p e₂ λ (u₂ : Unit {0}) _ e₃.
-    h ∙ e₃
+    problem-read sheet q h ∙ e₃
 
 -- Write leaves the clauses in an output that is large enough
 written : (sheet : List ℕ) (size room : ℕ) (p : Problem) → contentOf sheet size ≡ answer p → length (clausesText p size) ≤ room → writtenText sheet size room ≡ answer (clausesText p size)
@@ -43,7 +44,7 @@ read-back-in sheet size room σ c p read e enough fits =
     unbind _ _ c e₂ λ (u₂ : Unit {0}) h₂ e₃.
     unbind _ _ c e₃ λ (u₃ : Unit {0}) h₃ e₄.
     unbind _ _ c e₄ λ (u₄ : Unit {0}) _ e₅.
-    let same : p ≡ q = answer-inj p q (sym read ∙ h) in
+    let same : p ≡ q = answer-inj p q (sym read ∙ problem-read sheet q h) in
     let fits′ : caseLength size (q .symbols) ≤ enough = rw same at fits in
     bind-step _ _ q _ h
     (bind-step _ _ u₁ _ h₁

@@ -2,41 +2,32 @@
 use Prim.Native.Nat.{ℕ}
 use mathlib.Core.Path.{_≡_, refl, sym, ap, _∙_}
 use mathlib.Core.Bool.{Bool, true, false, cond}
-use mathlib.Core.Option.{Option, none, some}
-use mathlib.Core.List.{List, [], _∷_, _++_}
-use native.Mathlib.Omega.{arith}
+use mathlib.Core.Option.{some}
+use mathlib.Core.List.{List, [], _∷_}
 use lib.Dec.{leb}
 use lib.ListN.{length}
 use Rattle.theory.specs.Refusals.{Refusal, Answer, answer, refused, atPlace, needing}
 use Rattle.theory.specs.Problem.{readProblem}
-use Rattle.theory.specs.CaseText.{Case, readCase}
-use Rattle.theory.specs.Least.{orElse}
-use Rattle.theory.specs.Operations.{counts, readAnswer, judgeAnswer, lengthAnswer}
+use Rattle.theory.specs.Operations.{counts, readAnswer, lengthAnswer}
+use Rattle.theory.proofs.PlacedReading.{placed-problem}
 use Rattle.theory.proofs.Answers.{bind-step, answer≢refused, refused-inj}
-use Rattle.tptp.specs.Trees.{Statement}
 use Rattle.tptp.specs.Places.{placeOf}
-use Rattle.tptp.specs.Tptp.{readFile, clausesOfFile, Fault, faults, sheetIn, tptpText}
-use Rattle.tptp.specs.Claims.Order.{firstFault, firstFaultFrom}
-use Rattle.tptp.specs.Claims.Deciding.{sheetOf, declaredIn, lastFault}
+use Rattle.tptp.specs.Tptp.{Fault, faults, sheetIn, tptpText}
+use Rattle.tptp.specs.Claims.Order.{firstFault}
+use Rattle.tptp.specs.Claims.Deciding.{sheetOf}
 use Rattle.tptp.proofs.Taken as tptp
 use Rattle.tptp.proofs.Deciding.{deciding}
 use Rattle.tptp.proofs.PlacesOnBytes.{places-on-bytes}
 use Rattle.answers.specs.declared.ReadAnswer.{ReadAnswer}
-use Rattle.answers.specs.declared.JudgeAnswer.{JudgeAnswer}
-use Rattle.answers.specs.declared.JudgeAnswer.the-variants.{Yes}
 use Rattle.answers.specs.Answers.{readIn, judgeIn}
-use Rattle.answers.specs.Calls.{ReadCall, JudgeCall}
+use Rattle.answers.specs.Calls.{ReadCall}
 use Rattle.nesskettle.specs.FromTptp.{problemIn, SheetLeft, SheetRefused, FromTptp}
-use Rattle.nesskettle.proofs.Leaving.{left-text}
+use Rattle.nesskettle.proofs.Leaving.{left-text, refused-text}
 use Rattle.nesskettle.proofs.Demand2.{said-yes}
 
 -- what a call leaves is the text of the definition, and so is its refusal
 left : (text sheet : List ℕ) (l : SheetLeft text sheet) → tptpText text (length (l .output)) ≡ answer sheet
 left text sheet l = left-text (tptpText text (length (l .output))) (l .answer) (l .output) (l .output′) (l .call) sheet (l .leaves)
-
-refused-text : (a : Answer (List ℕ)) (q : Refusal) → lengthAnswer a ≡ refused q → a ≡ refused q
-refused-text (answer t) q e = absurd (answer≢refused (length t) q e)
-refused-text (refused p) q e = ap refused (refused-inj {A = ℕ} p q e)
 
 told : (text : List ℕ) (q : Refusal) (l : SheetRefused text q) → tptpText text (length (l .output)) ≡ refused q
 told text q l = refused-text (tptpText text (length (l .output))) q (sym (l .call .answer) ∙ l .said)
@@ -46,7 +37,7 @@ sheet-read text sheet l = tptp.taken text (length (l .output)) sheet (left text 
 
 taken : (text sheet : List ℕ) → SheetLeft text sheet → (r : ReadAnswer) → ReadCall sheet r → readIn r ≡ answer (counts (problemIn text))
 unfolding readAnswer
-taken text sheet l r c = c .answer ∙ bind-step _ _ (problemIn text) _ (sheet-read text sheet l) refl
+taken text sheet l r c = c .answer ∙ bind-step _ _ (problemIn text) _ (placed-problem sheet (problemIn text) (sheet-read text sheet l)) refl
 
 -- a refusal that is no 11 is the first fault
 by-fault : (text : List ℕ) (fs : List Fault) (sheet : List ℕ) (room : ℕ) (q : Refusal) → sheetIn text fs sheet room ≡ refused q → ¬ (q .number ≡ 11)

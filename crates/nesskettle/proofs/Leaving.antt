@@ -4,9 +4,9 @@ use mathlib.Core.Path.{_≡_, refl, sym, ap, _∙_}
 use mathlib.Core.List.{List}
 use lib.ListN.{length, take, drop}
 use lib.Seq.{take-append-seam}
-use Rattle.theory.specs.Refusals.{Answer, answer, refused}
+use Rattle.theory.specs.Refusals.{Refusal, Answer, answer, refused}
 use Rattle.theory.specs.Operations.{lengthAnswer, over, outputAfter}
-use Rattle.theory.proofs.Answers.{answer-inj, answer≢refused}
+use Rattle.theory.proofs.Answers.{answer-inj, refused-inj, answer≢refused}
 use Rattle.answers.specs.declared.WriteAnswer.{WriteAnswer}
 use Rattle.answers.specs.declared.WriteAnswer.the-variants.{Written, Refused}
 use Rattle.answers.specs.Answers.{refusalIn, lengthIn}
@@ -41,3 +41,8 @@ module _ (a : Answer (List ℕ)) (r : WriteAnswer) (output output′ : List ℕ)
           ∙ ap (take (length text)) (sym (w .left ∙ ap (λ (a : Answer (List ℕ)). outputAfter a output) e))
           ∙ h .stands)
       go (refused q) e = absurd (answer≢refused (length text) q (sym (ap lengthIn (h .answered)) ∙ w .answer ∙ ap lengthAnswer e))
+
+-- a text whose answer is refused is refused
+pub refused-text : (a : Answer (List ℕ)) (q : Refusal) → lengthAnswer a ≡ refused q → a ≡ refused q
+refused-text (answer t) q e = absurd (answer≢refused (length t) q e)
+refused-text (refused p) q e = ap refused (refused-inj {A = ℕ} p q e)

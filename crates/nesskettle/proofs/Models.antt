@@ -9,6 +9,7 @@ use Rattle.theory.specs.Problem.{Problem, readProblem}
 use Rattle.theory.specs.CaseText.{Case, readCase}
 use Rattle.theory.specs.Operations.{judgeAnswer}
 use Rattle.theory.specs.Claims.ReadingBack.{ModelText}
+use Rattle.theory.proofs.PlacedReading.{placed-problem, placed-case}
 use Rattle.theory.proofs.Answers.{bind-step}
 use Rattle.theory.proofs.CaseText.{read-exactly}
 use Rattle.theory.proofs.ModelTexts.{is-model-text}
@@ -45,5 +46,6 @@ module _ (sheet : List ℕ) (p : Problem) (read : readProblem sheet ≡ answer p
         case = m .case;
         read = m .read;
         sized = m .sized;
-        model = bind-step _ _ p (answer true) read (bind-step _ _ (m .case) (answer true) (m .read) (ap answer (model-if-true p text (m .case) (m .read) (m .truth))));
+        model = bind-step _ _ p (answer true) (placed-problem sheet p read)
+            (bind-step _ _ (m .case) (answer true) (placed-case (p .symbols) text (m .case) (m .read)) (ap answer (model-if-true p text (m .case) (m .read) (m .truth))));
       }

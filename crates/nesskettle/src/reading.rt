@@ -1,6 +1,6 @@
 // Read: the counts of a sheet.
 use answers::ReadAnswer;
-use answers::at_line;
+use columns::sheet::sheet_refusal;
 use problem::sheet::read_problem;
 ghost use mathlib.Core.Path.{_≡_};
 ghost use Rattle.theory.specs.Operations as theory;
@@ -11,7 +11,7 @@ pub fn counts(sheet: &[u8]) -> ReadAnswer
 {
     let r = read_problem(sheet);
     if r.fault != 0 {
-        return ReadAnswer::Refused(at_line(r.fault, r.line));
+        return ReadAnswer::Refused(sheet_refusal(sheet, r.fault, r.line));
     }
     let p = r.problem;
     ReadAnswer::Counts(p.functions, p.signature.count - p.functions, p.count)

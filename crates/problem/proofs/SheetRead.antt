@@ -6,6 +6,8 @@ use mathlib.Core.List.{List}
 use borrow.Author.Tests.{eq-eqb, ne-eqb}
 use Rattle.theory.specs.Refusals.{answer, refused, atLine}
 use Rattle.theory.specs.Problem.{readProblem}
+use Rattle.theory.specs.Columns.{placedProblem}
+use Rattle.theory.proofs.PlacedReading.{placed-problem}
 use Rattle.problem.specs.declared.sheet.Reading.{Reading}
 use Rattle.problem.specs.Problems.{problemIn, readingOf}
 
@@ -14,6 +16,10 @@ module _ (sheet : List ℕ) (r : Reading) (read : readingOf sheet r ≡ readProb
   pub sheet-accepted : r .fault ≡ 0 → readProblem sheet ≡ answer (problemIn sheet (r .problem))
   sheet-accepted e =
       sym read ∙ ap (λ (b : Bool). cond b (answer (problemIn sheet (r .problem))) (refused (atLine (r .fault) (r .line)))) (eq-eqb (r .fault) 0 e)
+
+  -- with columns too
+  pub sheet-placed : r .fault ≡ 0 → placedProblem sheet ≡ answer (problemIn sheet (r .problem))
+  sheet-placed e = placed-problem sheet (problemIn sheet (r .problem)) (sheet-accepted e)
 
   -- another number: the sheet is refused with it
   pub sheet-refused : (r .fault ≡ 0 → ⊥) → readProblem sheet ≡ refused (atLine (r .fault) (r .line))

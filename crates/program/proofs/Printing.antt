@@ -8,9 +8,9 @@ use native.Mathlib.Omega.{arith}
 use lib.ListN.{length, set, take, drop, take-append-drop, length-append, length-drop}
 use lib.Seq.{length-take-le, drop-drop}
 use Rattle.theory.specs.Bytes.{bytes, LF, decimal}
-use Rattle.theory.specs.Refusals.{answer, refused, atLine}
+use Rattle.theory.specs.Refusals.{Refusal, answer, atPlace}
 use Rattle.theory.specs.Operations.{over, found, nothing}
-use Rattle.theory.specs.Program.{printed}
+use Rattle.theory.specs.Program.{refusalText, printed}
 use Rattle.text.specs.Put.{put, put-cursor, put-run, cursor-run}
 use Rattle.answers.proofs.Answering.{put-over}
 use Rattle.text.proofs.Decimal.{decimal-within}
@@ -41,29 +41,46 @@ line = bytes "\nline="
 pub reason-short : (n : ℕ) → n < 256 → length (reason ++ decimal n) ≤ 32
 reason-short n h = omega (arith, length-append reason (decimal n), digits n (omega arith))
 
+abbrev column : List ℕ
+column = bytes "\ncolumn="
+
 pub line-short : (m : ℕ) → m < 2 ^ 32 → length (line ++ decimal m) ≤ 16
 line-short m h = omega (arith, length-append line (decimal m), digits m h)
 
-refusal-text : (n m : ℕ) → ((reason ++ decimal n) ++ (line ++ decimal m)) ++ (LF ∷ []) ≡ printed (refused (atLine n m))
-unfolding printed
-refusal-text n m =
-    append-assoc (reason ++ decimal n) (line ++ decimal m) (LF ∷ [])
-    ∙ append-assoc reason (decimal n) ((line ++ decimal m) ++ (LF ∷ []))
-    ∙ ap (λ (t : List ℕ). reason ++ (decimal n ++ t)) (append-assoc line (decimal m) (LF ∷ []))
+pub column-short : (m : ℕ) → m < 2 ^ 32 → length (column ++ decimal m) ≤ 18
+column-short m h = omega (arith, length-append column (decimal m), digits m h)
 
--- a refusal's number and line
-pub refusal : (l l₁ l₂ : List ℕ) (a b n m : ℕ) → n < 256 → m < 2 ^ 32 → 24915 ≤ length l
+-- a refusal with this number, line and column
+abbrev refusalAt : ℕ → ℕ → ℕ → Refusal
+refusalAt n m k = atPlace n (record { line = m; column = k })
+
+refusal-text : (n m k : ℕ) → (((reason ++ decimal n) ++ (line ++ decimal m)) ++ (column ++ decimal k)) ++ (LF ∷ []) ≡ refusalText (refusalAt n m k)
+unfolding refusalText
+refusal-text n m k =
+    let end : List ℕ = (column ++ decimal k) ++ (LF ∷ []) in
+    append-assoc ((reason ++ decimal n) ++ (line ++ decimal m)) (column ++ decimal k) (LF ∷ [])
+    ∙ append-assoc (reason ++ decimal n) (line ++ decimal m) end
+    ∙ append-assoc reason (decimal n) ((line ++ decimal m) ++ end)
+    ∙ ap (λ (t : List ℕ). reason ++ (decimal n ++ t)) (append-assoc line (decimal m) end ∙ ap (λ (t : List ℕ). line ++ (decimal m ++ t)) (append-assoc column (decimal k) (LF ∷ [])))
+
+-- a refusal's number, line and column
+pub refusal : (l l₁ l₂ l₃ : List ℕ) (a b c n m k : ℕ) → n < 256 → m < 2 ^ 32 → k < 2 ^ 32 → 80 ≤ length l
     → l₁ ≡ put l 0 (reason ++ decimal n) → a ≡ 0 + length (reason ++ decimal n) → l₂ ≡ put l₁ a (line ++ decimal m) → b ≡ a + length (line ++ decimal m)
-    → Responds (printed (refused (atLine n m))) (b + 1) l (set l₂ b LF)
-refusal l l₁ l₂ a b n m hn hm h p e q f =
+    → l₃ ≡ put l₂ b (column ++ decimal k) → c ≡ b + length (column ++ decimal k) → Responds (refusalText (refusalAt n m k)) (c + 1) l (set l₃ c LF)
+refusal l l₁ l₂ l₃ a b c n m k hn hm hk h p e q f r g =
     let x = reason-short n hn in
     let y = line-short m hm in
+    let z = column-short k hk in
     let both : List ℕ = (reason ++ decimal n) ++ (line ++ decimal m) in
+    let all : List ℕ = both ++ (column ++ decimal k) in
+    let text : List ℕ = refusalText (refusalAt n m k) in
     let p₂ : l₂ ≡ put l 0 both = put-run l l₁ l₂ 0 a (reason ++ decimal n) (line ++ decimal m) p e q (omega (arith, x, y, e)) in
     let e₂ : b ≡ 0 + length both = cursor-run 0 a b (reason ++ decimal n) (line ++ decimal m) e f in
-    let p₃ : set l₂ b LF ≡ put l 0 (printed (refused (atLine n m))) = put-cursor l l₂ 0 b both (printed (refused (atLine n m))) LF p₂ e₂ (omega (arith, e, f, x, y)) (refusal-text n m) in
-    let e₃ : b + 1 ≡ 0 + length (printed (refused (atLine n m))) = omega (arith, e₂, length-append both (LF ∷ []), ap length (refusal-text n m)) in
-    responds l (set l₂ b LF) (b + 1) (printed (refused (atLine n m))) p₃ e₃
+    let p₃ : l₃ ≡ put l 0 all = put-run l l₂ l₃ 0 b both (column ++ decimal k) p₂ e₂ r (omega (arith, x, y, z, e, f, e₂)) in
+    let e₃ : c ≡ 0 + length all = cursor-run 0 b c both (column ++ decimal k) e₂ g in
+    let p₄ : set l₃ c LF ≡ put l 0 text = put-cursor l l₃ 0 c all text LF p₃ e₃ (omega (arith, e, f, g, x, y, z)) (refusal-text n m k) in
+    let e₄ : c + 1 ≡ 0 + length text = omega (arith, e₃, length-append all (LF ∷ []), ap length (refusal-text n m k)) in
+    responds l (set l₃ c LF) (c + 1) text p₄ e₄
 
 abbrev none : List ℕ
 none = bytes "answer=none\nsettled="

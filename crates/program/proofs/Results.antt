@@ -6,10 +6,10 @@ use mathlib.Core.List.{List, _++_}
 use native.Mathlib.Omega.{arith}
 use lib.ListN.{length, take, drop, take-append-drop, length-append, length-drop}
 use lib.Seq.{take-at, drop-at, drop-drop, length-take-le}
-use Rattle.theory.specs.Refusals.{Refusal, Answer, answer, refused, atLine}
+use Rattle.theory.specs.Refusals.{Refusal, Answer, answer, refused, atPlace}
 use Rattle.theory.specs.Bytes.{bytes}
 use Rattle.theory.specs.Operations.{Search, found, nothing, over, Found, foundCase, noCase, findAnswer, findOutput}
-use Rattle.theory.specs.Program.{printed}
+use Rattle.theory.specs.Program.{refusalText, printed}
 use Rattle.theory.proofs.Answers.{answer-inj, refused-inj, answer≢refused}
 use Rattle.answers.specs.declared.Refusal as answers
 use Rattle.answers.specs.declared.FindAnswer.{FindAnswer}
@@ -74,8 +74,8 @@ module _ (output : List ℕ) (a : FindAnswer) (r : Reportable a output) where
       go (answer (nothing d)) p h = absurd (answer≢refused (noCase d) (refusalIn q) (sym h))
       go (refused x) p h = p ∙ ap refused (sym (refused-inj {A = Found} (refusalIn q) x h))
 
-  pub line-small : (q : answers.Refusal) → a ≡ find.Refused q → q .line < 2 ^ 32
-  line-small q e = r .placed (refusalIn q) (was-refused q e)
+  pub place-small : (q : answers.Refusal) → a ≡ find.Refused q → (q .line < 2 ^ 32) × (q .column < 2 ^ 32)
+  place-small q e = r .placed (refusalIn q) (was-refused q e)
 
   -- what is printed over the output after the search is printed over the output before it
   pub found-responds : (s n k : ℕ) (output′ : List ℕ) → a ≡ find.Found s n
@@ -111,9 +111,9 @@ module _ (output : List ℕ) (a : FindAnswer) (r : Reportable a output) where
       let is = was-none b e in
       subst (λ (l : List ℕ). Responds (printed (r .result)) k l output′) (unwritten (answer (nothing b)) is refl) (subst (λ (x : Answer Search). Responds (printed x) k output output′) (sym is) h)
 
-  pub refused-responds : (q : answers.Refusal) (k : ℕ) (output′ : List ℕ) → a ≡ find.Refused q → Responds (printed (refused (atLine (q .number) (q .line)))) k output output′
+  pub refused-responds : (q : answers.Refusal) (k : ℕ) (output′ : List ℕ) → a ≡ find.Refused q → Responds (refusalText (atPlace (q .number) (record { line = q .line; column = q .column }))) k output output′
       → Responds (printed (r .result)) k (r .before) output′
-  unfolding printed
+  unfolding printed refusalText
   refused-responds q k output′ e h =
       let is = was-refused q e in
       subst (λ (l : List ℕ). Responds (printed (r .result)) k l output′) (unwritten (refused (refusalIn q)) is refl)

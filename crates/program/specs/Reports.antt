@@ -25,7 +25,7 @@ pub record Reportable (r : FindAnswer) (output : List ℕ) : Type 0 where
   pub left : output ≡ take 13 before ++ findOutput result (drop 13 before)
   pub long : length output ≡ 24915
   pub kept : length before ≡ 24915
-  pub placed : (q : Refusal) → result ≡ refused q → q .place .line < 2 ^ 32
+  pub placed : (q : Refusal) → result ≡ refused q → (q .place .line < 2 ^ 32) × (q .place .column < 2 ^ 32)
 
 -- the answer to the text from the second line on
 abbrev pub fromHigh : ℕ → List ℕ → Answer Search

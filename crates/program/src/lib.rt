@@ -34,7 +34,7 @@ pub fn respond(input: &[u8], out: &mut [u8; OUTPUT]) -> usize
     ensures { λ r. ⌜ Responds (theory.program (now (input .entry))) r (now (out .entry)) (now (out .exit)) ⌝ }
 {
     match digit_line(input, 0, b"low=") {
-        DigitLine::Fault => put_refusal(out, 8, 0),
+        DigitLine::Fault => put_refusal(out, 8, 0, 0),
         DigitLine::Digit(low, next) => respond_from(input, next, low, out),
     }
 }
@@ -45,7 +45,7 @@ fn respond_from(input: &[u8], at: usize, low: u64, out: &mut [u8]) -> usize
     ensures { λ r. ⌜ Responds (theory.printed (fromHigh low (drop at (now (input .entry))))) r (now (out .entry)) (now (out .exit)) ⌝ }
 {
     match digit_line(input, at, b"high=") {
-        DigitLine::Fault => put_refusal(out, 8, 0),
+        DigitLine::Fault => put_refusal(out, 8, 0, 0),
         DigitLine::Digit(high, next) => search_sheet(&input[next..], low, high, out),
     }
 }

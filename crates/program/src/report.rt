@@ -24,7 +24,7 @@ pub fn put_result(out: &mut [u8], answer: FindAnswer) -> usize
     match answer {
         FindAnswer::Found(_, count) => put_found(out, count),
         FindAnswer::Nothing(settled) => put_none(out, settled),
-        FindAnswer::Refused(r) => put_refusal(out, r.number, r.line),
+        FindAnswer::Refused(r) => put_refusal(out, r.number, r.line, r.column),
     }
 }
 
@@ -48,15 +48,16 @@ fn put_none(out: &mut [u8], settled: bool) -> usize
     put_bytes(out, at, b"no\n")
 }
 
-// A refusal's number and line.
-pub fn put_refusal(out: &mut [u8], number: u8, line: usize) -> usize
-    requires { ⌜ (24915 ≤ length (now out)) × (line < 2 ^ 32) ⌝ }
-    ensures { λ r. ⌜ Responds (theory.printed (refusals.refused (refusals.atLine number line))) r (now (out .entry)) (now (out .exit)) ⌝ }
+// A refusal's number, line and column.
+pub fn put_refusal(out: &mut [u8], number: u8, line: usize, column: usize) -> usize
+    requires { ⌜ (80 ≤ length (now out)) × ((line < 2 ^ 32) × (column < 2 ^ 32)) ⌝ }
+    ensures { λ r. ⌜ Responds (theory.refusalText (refusals.atPlace number (record { line = line; column = column }))) r (now (out .entry)) (now (out .exit)) ⌝ }
 {
     let a = put_field(out, 0, b"answer=refused\nreason=", number as u32);
     let b = put_field(out, a, b"\nline=", line as u32);
-    out[b] = 10;
-    b + 1
+    let c = put_field(out, b, b"\ncolumn=", column as u32);
+    out[c] = 10;
+    c + 1
 }
 
 // A key and a number.

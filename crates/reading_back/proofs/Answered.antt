@@ -5,8 +5,9 @@ use mathlib.Core.Bool.{true, false}
 use mathlib.Core.List.{List}
 use lib.ListN.{length}
 use Rattle.theory.specs.Syntax.{Signature}
-use Rattle.theory.specs.Refusals.{answer, refused, atLine, unplaced, needing}
+use Rattle.theory.specs.Refusals.{Refusal, answer, refused, unplaced, needing}
 use Rattle.theory.specs.Problem.{readProblem}
+use Rattle.theory.specs.Columns.{placedProblem}
 use Rattle.theory.specs.CaseText.{caseText, caseLength}
 use Rattle.theory.specs.Valuation.{isValuation, isFunctional, readBack}
 use Rattle.theory.specs.Operations.{isSize, readBackText}
@@ -23,7 +24,7 @@ use Rattle.syntax.proofs.Sizes.{checked-size, refused-size, size-within}
 use Rattle.syntax.specs.Signatures.{signatureIn}
 use Rattle.problem.specs.declared.sheet.Reading.{Reading}
 use Rattle.problem.specs.Problems.{problemIn, readingOf}
-use Rattle.problem.proofs.SheetRead.{sheet-accepted, sheet-refused}
+use Rattle.problem.proofs.SheetRead.{sheet-accepted, sheet-placed}
 use Rattle.reading_back.specs.Settings.{settingText}
 
 module _ (s : ℕ) (g : Signature) (setting : List ℕ) (room : ℕ) where
@@ -51,18 +52,19 @@ module _ (s : ℕ) (g : Signature) (setting : List ℕ) (room : ℕ) where
           (bind-step _ _ tt _ (check-of-true _ (unplaced 14) functional)
           (bind-step _ _ tt _ (check-of-true _ (needing 11 (caseLength s g)) (leb-of-≤ (caseLength s g) room h)) refl))
 
+-- a sheet that is refused
+pub sheet-refusal : (sheet : List ℕ) (n : ℕ) (setting : List ℕ) (room : ℕ) (q : Refusal) → placedProblem sheet ≡ refused q → readBackText sheet n setting room ≡ refused q
+unfolding readBackText
+sheet-refusal sheet n setting room q e = bind-refused _ _ q e
+
 -- the whole call, as the sheet was read
 module _ (sheet : List ℕ) (r : Reading) (read : readingOf sheet r ≡ readProblem sheet) where
-  pub sheet-refusal : (n : ℕ) (setting : List ℕ) (room : ℕ) → (r .fault ≡ 0 → ⊥) → readBackText sheet n setting room ≡ refused (atLine (r .fault) (r .line))
-  unfolding readBackText
-  sheet-refusal n setting room h = bind-refused _ _ _ (sheet-refused sheet r read h)
-
   module _ (ok : r .fault ≡ 0) where
-    accepted : readProblem sheet ≡ answer (problemIn sheet (r .problem))
-    accepted = sheet-accepted sheet r read ok
+    accepted : placedProblem sheet ≡ answer (problemIn sheet (r .problem))
+    accepted = sheet-placed sheet r read ok
 
     pub sheet-within : length sheet ≤ 16384
-    sheet-within = readProblem-bytes sheet (problemIn sheet (r .problem)) accepted
+    sheet-within = readProblem-bytes sheet (problemIn sheet (r .problem)) (sheet-accepted sheet r read ok)
 
     module _ (n : ℕ) (k : SizeCheck) (checked : k ≡ checkedSize n) where
       pub size-refusal : (setting : List ℕ) (room : ℕ) → k ≡ size.Refused → readBackText sheet n setting room ≡ refused (unplaced 8)

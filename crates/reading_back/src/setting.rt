@@ -4,6 +4,7 @@ use answers::WriteAnswer;
 use answers::at_line;
 use answers::needing;
 use cases::writing::case_length;
+use columns::sheet::sheet_refusal;
 use problem::sheet::read_problem;
 use syntax::signature::Signature;
 use syntax::size::DomainSize;
@@ -23,7 +24,7 @@ pub fn read_setting_back(sheet: &[u8], size: u64, setting: &[u8], output: &mut [
 {
     let r = read_problem(sheet);
     if r.fault != 0 {
-        return WriteAnswer::Refused(at_line(r.fault, r.line));
+        return WriteAnswer::Refused(sheet_refusal(sheet, r.fault, r.line));
     }
     let p = r.problem;
     match DomainSize::checked(size as usize) {

@@ -1,7 +1,6 @@
 -- Laws of answers: going on with a result, and refusing.
 use Prim.Native.Nat.{ℕ}
-use mathlib.Core.Path.{_≡_, refl, ap, _∙_}
-use mathlib.Core.Logic.{_⊎_}
+use mathlib.Core.Path.{_≡_, refl, ap, _∙_, subst}
 use mathlib.Core.Bool.{Bool, true, false}
 use mathlib.Core.Option.{Option, none, some}
 use native.Mathlib.Omega.{arith}
@@ -29,13 +28,13 @@ module _ {A B : Type 0} where
   unbind (answer a) k b e go = go a refl e
   unbind (refused r) k b e go = let z : _≡_ {A = ℕ} 0 1 = cc in absurd (omega arith)
 
-  -- an answered step goes on with its result
   -- what refuses, one or the other
   pub unrefused : {C : Type 0} (m : Answer A) (k : A → Answer B) (r : Refusal) → (m >>= k) ≡ refused r → (m ≡ refused r → C) → ((a : A) → m ≡ answer a → k a ≡ refused r → C) → C
   unfolding _>>=_
   unrefused (answer a) k r e f h = h a refl e
   unrefused (refused q) k r e f h = f (ap refused (refused-inj {A = B} q r e))
 
+  -- an answered step goes on with its result
   pub bind-step : (m : Answer A) (k : A → Answer B) (a : A) (r : Answer B) → m ≡ answer a → k a ≡ r → (m >>= k) ≡ r
   unfolding _>>=_
   bind-step m k a r e h = ap (λ m. m >>= k) e ∙ h
@@ -65,3 +64,26 @@ module _ {A : Type 0} where
 
   pub orRefuse-of-none : (o : Option A) (r : Refusal) → o ≡ none → orRefuse o r ≡ refused r
   orRefuse-of-none o r e = ap (λ (o : Option A). orRefuse o r) e
+
+-- every refusal of the answer has the property
+abbrev pub RefusedSo : {A : Type 0} → (Refusal → Type 0) → Answer A → Type 0
+RefusedSo P (answer a) = Unit {0}
+RefusedSo P (refused r) = P r
+
+module _ (P : Refusal → Type 0) where
+  pub bind-so : {A B : Type 0} (m : Answer A) (k : A → Answer B) → RefusedSo P m → ((a : A) → m ≡ answer a → RefusedSo P (k a)) → RefusedSo P (m >>= k)
+  unfolding _>>=_
+  bind-so (answer a) k h f = f a refl
+  bind-so (refused r) k h f = h
+
+  pub check-so : (b : Bool) (r : Refusal) → (b ≡ false → P r) → RefusedSo P (check b r)
+  check-so true r h = tt
+  check-so false r h = h refl
+
+  pub orRefuse-so : {A : Type 0} (o : Option A) (r : Refusal) → (o ≡ none → P r) → RefusedSo P (orRefuse o r)
+  orRefuse-so none r h = h refl
+  orRefuse-so (some a) r h = tt
+
+  pub refused-so : {A : Type 0} (m : Answer A) (r : Refusal) → RefusedSo P m → m ≡ refused r → P r
+  refused-so (answer a) r h e = absurd (answer≢refused a r e)
+  refused-so {A} (refused q) r h e = subst P (refused-inj {A = A} q r e) h

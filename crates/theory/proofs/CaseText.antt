@@ -242,7 +242,7 @@ pub record OnlyText (g : Signature) (text : List ℕ) (k : Case) : Type 0 where
   pub interpretation : isInterpretation (k .size) g (k .values) ≡ true
   pub written : caseText (k .size) g (k .values) ≡ text
 
-size-only : (v : List ℕ) (s : ℕ) → sizeOf v ≡ some s → (zero < s) × (s ≤ 8) × (v ≡ (zeroDigit + s) ∷ [])
+pub size-only : (v : List ℕ) (s : ℕ) → sizeOf v ≡ some s → (zero < s) × (s ≤ 8) × (v ≡ (zeroDigit + s) ∷ [])
 size-only [] s e = let z : _≡_ {A = ℕ} 0 1 = cc in absurd (omega arith)
 size-only (b ∷ c ∷ v) s e = let z : _≡_ {A = ℕ} 0 1 = cc in absurd (omega arith)
 size-only (b ∷ []) s e = go (leb 49 b && ltb b 57) refl e

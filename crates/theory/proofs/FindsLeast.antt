@@ -1,5 +1,5 @@
 -- FindsLeast: demand 2 on bytes. Find's case is the least model at the smallest size, and none is said exactly if no case of a searched size is a model.
-use Prim.Native.Nat.{ℕ, zero, _≤_, _<_}
+use Prim.Native.Nat.{ℕ, _≤_, _<_}
 use mathlib.Core.Path.{_≡_, refl, sym, ap, _∙_, subst}
 use mathlib.Core.Logic.{_⊎_, inl, inr}
 use mathlib.Core.Bool.{Bool, true, _&&_}
@@ -8,17 +8,17 @@ use mathlib.Core.List.{List}
 use native.Mathlib.Omega.{arith}
 use lib.Dec.{leb}
 use Rattle.theory.specs.Syntax.{Signature}
-use Rattle.theory.specs.Refusals.{answer, unplaced, needing}
-use Rattle.theory.specs.PropClauses.{instanceCount, workNeeded}
+use Rattle.theory.specs.Refusals.{answer, unplaced}
 use Rattle.theory.specs.Problem.{Problem, readProblem}
-use Rattle.theory.specs.CaseText.{Case, caseText, caseLength}
-use Rattle.theory.specs.Least.{leastModel, smallestModel, settled}
-use Rattle.theory.specs.Operations.{maxInstances, Search, found, nothing, searchOf, findResult}
-use Rattle.theory.specs.Claims.Least.{NotAfter, ModelCells, Least}
+use Rattle.theory.specs.CaseText.{Case, caseText}
+use Rattle.theory.specs.Least.{smallestModel}
+use Rattle.theory.specs.Operations.{Search, found, nothing, searchOf, findResult}
+use Rattle.theory.specs.Claims.Least.{NotAfter, ModelCells}
 use Rattle.theory.specs.Claims.ReadingBack.{ModelText}
-use Rattle.theory.specs.Claims.FindsLeast.{NotBefore, LeastText, FindsLeast, FindsLeastHolds}
+use Rattle.theory.specs.Claims.FindsLeast.{LeastText, FindsLeast, FindsLeastHolds}
 use Rattle.theory.proofs.Tests.{leb-true, and-left, and-right, lt-or-eq-or-gt}
 use Rattle.theory.proofs.Answers.{unbind, answer-inj, check-true}
+use Rattle.theory.proofs.PlacedReading.{problem-read}
 use Rattle.theory.proofs.Least.{least}
 use Rattle.theory.proofs.ModelTexts.{model-text, IsModelText, is-model-text}
 
@@ -36,7 +36,7 @@ searched sheet p low high work room r read e =
     unbind _ _ r e₂ λ (u₂ : Unit {0}) _ e₃.
     unbind _ _ r e₃ λ (u₃ : Unit {0}) _ e₄.
     unbind _ _ r e₄ λ (u₄ : Unit {0}) _ e₅.
-    let same : p ≡ q = answer-inj p q (sym read ∙ h₁) in
+    let same : p ≡ q = answer-inj p q (sym read ∙ problem-read sheet q h₁) in
     let sizes : (leb 1 low && leb high 8 && leb low high) ≡ true = check-true _ (unplaced 8) u₁ h₂ in
     let both : (leb 1 low && leb high 8) ≡ true = and-left (leb 1 low && leb high 8) (leb low high) sizes in
     record {

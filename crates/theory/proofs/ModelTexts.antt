@@ -11,6 +11,7 @@ use Rattle.theory.specs.CaseText.{Case, caseText, readCase}
 use Rattle.theory.specs.Operations.{judgeAnswer}
 use Rattle.theory.specs.Claims.ReadingBack.{ModelText}
 use Rattle.theory.proofs.Answers.{unbind, bind-step, answer-inj}
+use Rattle.theory.proofs.PlacedReading.{placed-problem, problem-read, placed-case, case-read}
 use Rattle.theory.proofs.Parsing.{readProblem-wellFormed}
 use Rattle.theory.proofs.CaseText.{OnlyText, read-own-case, read-exactly}
 
@@ -30,7 +31,8 @@ module _ (sheet : List ℕ) (p : Problem) (read : readProblem sheet ≡ answer p
         case = record { size = size; values = vs };
         read = read-own size vs pos le h;
         sized = refl;
-        model = bind-step _ _ p (answer true) read (bind-step _ _ (record { size = size; values = vs }) (answer true) (read-own size vs pos le h) (ap answer m));
+        model = bind-step _ _ p (answer true) (placed-problem sheet p read)
+            (bind-step _ _ (record { size = size; values = vs }) (answer true) (placed-case g (caseText size g vs) _ (read-own size vs pos le h)) (ap answer m));
       }
 
   judged-model : (c : List ℕ) (k : Case) → readCase g c ≡ answer k → judgeAnswer sheet c ≡ answer true → isModel (k .size) g (p .clauses) (k .values) ≡ true
@@ -38,8 +40,8 @@ module _ (sheet : List ℕ) (p : Problem) (read : readProblem sheet ≡ answer p
   judged-model c k r e =
       unbind _ _ true e λ (q : Problem) h₁ e₁.
       unbind _ _ true e₁ λ (j : Case) h₂ e₂.
-      let sq : q ≡ p = answer-inj q p (sym h₁ ∙ read) in
-      let sj : j ≡ k = answer-inj j k (sym h₂ ∙ ap (λ (q : Problem). readCase (q .symbols) c) sq ∙ r) in
+      let sq : q ≡ p = answer-inj q p (sym (problem-read sheet q h₁) ∙ read) in
+      let sj : j ≡ k = answer-inj j k (sym (case-read (q .symbols) c j h₂) ∙ ap (λ (q : Problem). readCase (q .symbols) c) sq ∙ r) in
       ap (λ (j : Case). isModel (j .size) g (p .clauses) (j .values)) (sym sj)
       ∙ ap (λ (q : Problem). isModel (j .size) (q .symbols) (q .clauses) (j .values)) (sym sq)
       ∙ answer-inj (isModel (j .size) (q .symbols) (q .clauses) (j .values)) true e₂

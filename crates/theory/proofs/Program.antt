@@ -1,5 +1,5 @@
 -- The finder program needs to read no more than 16,398 bytes of its input, and its output buffer is never too short.
-use Prim.Native.Nat.{ℕ, zero, suc, _+_, _-_, _≤_, _<_}
+use Prim.Native.Nat.{ℕ, _+_, _-_, _≤_, _<_}
 use mathlib.Core.Path.{_≡_, refl, sym, ap, _∙_}
 use mathlib.Core.Logic.{_⊎_, inl, inr}
 use mathlib.Core.Bool.{Bool, true, false, cond, _&&_, false≢true}
@@ -16,6 +16,7 @@ use Rattle.theory.specs.Refusals.{Refusal, Answer, answer, refused, unpl
 use Rattle.theory.specs.PropClauses.{instanceCount, workNeeded}
 use Rattle.theory.specs.Problem.{Problem, maxBytes, readProblem}
 use Rattle.theory.specs.CaseText.{caseLength}
+use Rattle.theory.specs.Columns.{sheetColumn, placedProblem}
 use Rattle.theory.specs.Least.{smallestModel}
 use Rattle.theory.specs.Operations.{maxSize, maxInstances, Search, searchOf, findResult}
 use Rattle.theory.specs.Program.{programWork, programOutput, digitOf, _>>?_, digitLine, sized, answered, printed, program}
@@ -23,7 +24,8 @@ use Rattle.theory.specs.Claims.Program.{inputBytes, Program}
 use Rattle.theory.proofs.Tests.{and-left, and-right, leb-true, leb-of-≤, leb-of-<, leb-false, eqb-ne, true-or-false}
 use Rattle.theory.proofs.Lines.{inLine, digit-inLine, cut-line, cut-only, after-key, key-only}
 use Rattle.theory.proofs.Answers.{bind-step, bind-refused, unrefused, check-true, check-of-true, check-of-false, refused-inj, answer≢refused}
-use Rattle.theory.proofs.SheetRefusals.{OfSheet, sheet-refusal}
+use Rattle.theory.proofs.PlacedReading.{problem-read, plain-problem, problem-refused}
+use Rattle.theory.proofs.SheetRefusals.{sheet-refusal}
 use Rattle.theory.proofs.CaseLengths.{longest-case}
 
 -- a key, a digit and LF
@@ -118,10 +120,11 @@ of-sized low high sheet d =
 
 -- a sheet that is too long is refused, whatever else it is
 too-long : (sheet : List ℕ) (low high work room : ℕ) → maxBytes < length sheet → findResult sheet low high work room ≡ refused (unplaced 1)
-unfolding findResult readProblem
+unfolding findResult readProblem sheetColumn
 too-long sheet low high work room h =
-    bind-refused (readProblem sheet) _ (unplaced 1)
-    (bind-refused (check (leb (length sheet) maxBytes) (unplaced 1)) _ (unplaced 1) (check-of-false (leb (length sheet) maxBytes) (unplaced 1) (leb-of-< (length sheet) maxBytes h)))
+    bind-refused (placedProblem sheet) _ (unplaced 1)
+    (problem-refused sheet (unplaced 1)
+    (bind-refused (check (leb (length sheet) maxBytes) (unplaced 1)) _ (unplaced 1) (check-of-false (leb (length sheet) maxBytes) (unplaced 1) (leb-of-< (length sheet) maxBytes h))))
 
 -- one byte more than the largest sheet is enough of a sheet
 enough : (sheet : List ℕ) (low high work room : ℕ) → findResult (take 16385 sheet) low high work room ≡ findResult sheet low high work room
@@ -153,8 +156,13 @@ reads-enough none (some i) input e f =
     absurd (omega arith)
 
 -- a refusal with another number
-other : (r : Refusal) → OfSheet r → r .number ≡ 11 → ⊥
-other r h n = let z : leb 11 7 ≡ true = ap (λ (k : ℕ). leb 1 k && leb k 7) (sym n) ∙ h .number in false≢true z
+other : (sheet : List ℕ) (r : Refusal) → placedProblem sheet ≡ refused r → r .number ≡ 11 → ⊥
+other sheet r e n =
+    let q = plain-problem sheet r e in
+    let h = sheet-refusal sheet (q .plain) (q .refuses) in
+    let m : q .plain .number ≡ 11 = ap (λ (r : Refusal). r .number) (q .placed) ∙ n in
+    let z : leb 11 7 ≡ true = ap (λ (k : ℕ). leb 1 k && leb k 7) (sym m) ∙ h .number in
+    false≢true z
 
 -- a check that refuses with another number, and what follows it
 passed : {B C : Type 0} (b : Bool) (q : Refusal) (k : Unit {0} → Answer B) (r : Refusal) → (check b q >>= k) ≡ refused r → eqb (q .number) 11 ≡ false → r .number ≡ 11
@@ -170,12 +178,12 @@ passed {B = B} b q k r e m n f =
 roomy : (sheet : List ℕ) (low high : ℕ) (r : Refusal) → findResult sheet low high programWork programOutput ≡ refused r → r .number ≡ 11 → ⊥
 unfolding findResult
 roomy sheet low high r e n =
-    unrefused (readProblem sheet) _ r e (λ h. other r (sheet-refusal sheet r h) n) λ (p : Problem) h₁ e₁.
+    unrefused (placedProblem sheet) _ r e (λ h. other sheet r h n) λ (p : Problem) h₁ e₁.
     passed (leb 1 low && leb high maxSize && leb low high) (unplaced 8) _ r e₁ refl n λ sizes e₂.
     passed (leb (instanceCount high (p .symbols) (p .clauses)) maxInstances) (unplaced 9) _ r e₂ refl n λ _ e₃.
     passed (leb (workNeeded high (p .symbols) (p .clauses)) programWork) (needing 10 (workNeeded high (p .symbols) (p .clauses))) _ r e₃ refl n λ _ e₄.
     let high-8 : high ≤ 8 = leb-true high 8 (and-right (leb 1 low) (leb high 8) (and-left (leb 1 low && leb high 8) (leb low high) sizes)) in
-    let room : leb (caseLength high (p .symbols)) programOutput ≡ true = leb-of-≤ (caseLength high (p .symbols)) programOutput (longest-case sheet p high h₁ high-8) in
+    let room : leb (caseLength high (p .symbols)) programOutput ≡ true = leb-of-≤ (caseLength high (p .symbols)) programOutput (longest-case sheet p high (problem-read sheet p h₁) high-8) in
     let found : Answer Search = answer (searchOf p low high (smallestModel p low high)) in
     answer≢refused (searchOf p low high (smallestModel p low high)) r
     (sym (bind-step (check (leb (caseLength high (p .symbols)) programOutput) (needing 11 (caseLength high (p .symbols)))) (λ _. found) tt found (check-of-true (leb (caseLength high (p .symbols)) programOutput) (needing 11 (caseLength high (p .symbols))) room) refl) ∙ e₄)

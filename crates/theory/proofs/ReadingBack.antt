@@ -19,6 +19,7 @@ use Rattle.theory.specs.Claims.ReadingBack.{Satisfying, ModelText, Readi
 use Rattle.theory.specs.WellFormed.{WellFormed}
 use Rattle.theory.proofs.Tests.{leb-true, leb-of-≤, and-left, and-right, and-join}
 use Rattle.theory.proofs.Answers.{unbind, bind-step, answer-inj, check-true, check-of-true}
+use Rattle.theory.proofs.PlacedReading.{placed-problem, problem-read}
 use Rattle.theory.proofs.Dimacs.{written-clauses}
 use Rattle.theory.proofs.Parsing.{readProblem-wellFormed, clauses-ok}
 use Rattle.theory.proofs.ModelTexts.{read-own, model-text, IsModelText, is-model-text}
@@ -31,7 +32,7 @@ content-accepted sheet size p e =
     unbind _ _ p e λ (q : Problem) h₁ e₁.
     unbind _ _ p e₁ λ (u₁ : Unit {0}) h₂ e₂.
     unbind _ _ p e₂ λ (u₂ : Unit {0}) _ e₃.
-    (h₁ ∙ e₃, check-true (isSize size) (unplaced 8) u₁ h₂)
+    (problem-read sheet q h₁ ∙ e₃, check-true (isSize size) (unplaced 8) u₁ h₂)
 
 -- the text that Write leaves is that of the clauses
 written-text : (sheet : List ℕ) (size room : ℕ) (p : Problem) (text : List ℕ) → contentOf sheet size ≡ answer p → writtenText sheet size room ≡ answer text
@@ -90,7 +91,7 @@ module _ (sheet : List ℕ) (p : Problem) (size : ℕ) (text : List ℕ) (room :
   unfolding readBackText
   read-back σ v f =
       let r = answer (caseText size g (readBack size g σ)) in
-      bind-step _ _ p r read
+      bind-step _ _ p r (placed-problem sheet p read)
       (bind-step _ _ tt r (check-of-true _ (unplaced 8) sized)
       (bind-step _ _ tt r (check-of-true _ (unplaced 13) v)
       (bind-step _ _ tt r (check-of-true _ (unplaced 14) f)

@@ -76,7 +76,7 @@ kind-of function l h = function-kind l h
 kind-of predicate l h = predicate-kind l h
 
 -- a name, / and a digit d are read as these
-symbol-made : (k : Kind) (w : List ℕ) (d : ℕ) → 48 ≤ d → d < 58 → symbolOf k (w ++ (47 ∷ d ∷ [])) ≡ some (record { kind = k; name = w; arity = d - zeroDigit })
+pub symbol-made : (k : Kind) (w : List ℕ) (d : ℕ) → 48 ≤ d → d < 58 → symbolOf k (w ++ (47 ∷ d ∷ [])) ≡ some (record { kind = k; name = w; arity = d - zeroDigit })
 symbol-made k w d lo hi = found (length (w ++ (47 ∷ d ∷ [])) - 2) n
   where
     v : List ℕ

@@ -65,6 +65,10 @@ pub and-right : (a b : Bool) → (a && b) ≡ true → b ≡ true
 and-right true b e = e
 and-right false b e = absurd (false≢true e)
 
+pub and-false : (a : Bool) → (a && false) ≡ false
+and-false true = refl
+and-false false = refl
+
 pub and-join : (a b : Bool) → a ≡ true → b ≡ true → (a && b) ≡ true
 and-join true b e h = h
 and-join false b e h = e
@@ -146,3 +150,7 @@ beq-≡ false false e = refl
 pub false-of-not : (b : Bool) → not b ≡ true → b ≡ false
 false-of-not true e = absurd (false≢true e)
 false-of-not false e = refl
+
+pub true-of-not : (b : Bool) → not b ≡ false → b ≡ true
+true-of-not true e = refl
+true-of-not false e = sym e

@@ -10,4 +10,5 @@ pub mod FindsLeast
 pub mod Walk
 pub mod Counts
 pub mod SheetRead
+pub mod Columns
 pub mod Program

@@ -18,9 +18,13 @@ pub mod Problem
 pub mod WellFormed
 pub mod SheetText
 pub mod CaseText
+pub mod LineForms
+pub mod DueLines
+pub mod Columns
 pub mod Least
 pub mod Walk
 pub mod Operations
 pub mod Program
 pub mod Examples
+pub mod ColumnExamples
 pub mod Claims

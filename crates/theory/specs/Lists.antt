@@ -81,3 +81,8 @@ placeAt false (some i) = some (suc i)
 abbrev pub placeThat : {A : Type 0} → (A → Bool) → List A → Option ℕ
 placeThat p [] = none
 placeThat p (x ∷ xs) = placeAt (p x) (placeThat p xs)
+
+-- the number, or 0 where there is none
+abbrev pub orZero : Option ℕ → ℕ
+orZero none = 0
+orZero (some i) = i

@@ -12,8 +12,9 @@ use Rattle.theory.specs.PropClauses.{propClauses, instanceCount, workNee
 use Rattle.theory.specs.Dimacs.{dimacs}
 use Rattle.theory.specs.Valuation.{isValuation, isFunctional, readBack}
 use Rattle.theory.specs.Refusals.{Answer, answer, refused, unplaced, needing, _>>=_, check}
-use Rattle.theory.specs.Problem.{Problem, readProblem}
-use Rattle.theory.specs.CaseText.{Case, caseText, caseLength, readCase}
+use Rattle.theory.specs.Problem.{Problem}
+use Rattle.theory.specs.CaseText.{Case, caseText, caseLength}
+use Rattle.theory.specs.Columns.{placedProblem, placedCase}
 use Rattle.theory.specs.Least.{smallestModel, settled}
 
 -- the largest domain size
@@ -46,14 +47,14 @@ counts p =
 -- what Read answers
 unfoldable pub readAnswer : List ℕ → Answer Counts
 readAnswer sheet = do
-  p ← readProblem sheet
+  p ← placedProblem sheet
   answer (counts p)
 
 -- what Judge answers: yes exactly if the case is a model
 unfoldable pub judgeAnswer : List ℕ → List ℕ → Answer Bool
 judgeAnswer sheet case = do
-  p ← readProblem sheet
-  k ← readCase (p .symbols) case
+  p ← placedProblem sheet
+  k ← placedCase (p .symbols) case
   answer (isModel (k .size) (p .symbols) (p .clauses) (k .values))
 
 -- An operation that writes bytes answers the length of its text,
@@ -73,7 +74,7 @@ outputAfter (refused r) out = out
 -- Write's checks of the content of sheet and size: the sheet's numbers, 8, 9
 unfoldable pub contentOf : List ℕ → ℕ → Answer Problem
 contentOf sheet size = do
-  p ← readProblem sheet
+  p ← placedProblem sheet
   _ ← check (isSize size) (unplaced 8)
   _ ← check (leb (instanceCount size (p .symbols) (p .clauses)) maxInstances) (unplaced 9)
   answer p
@@ -89,7 +90,7 @@ writtenText sheet size room = do
 -- the text that Read back leaves, given an output of so many bytes
 unfoldable pub readBackText : List ℕ → ℕ → List ℕ → ℕ → Answer (List ℕ)
 readBackText sheet size setting room = do
-  p ← readProblem sheet
+  p ← placedProblem sheet
   _ ← check (isSize size) (unplaced 8)
   _ ← check (isValuation size (p .symbols) setting) (unplaced 13)
   _ ← check (isFunctional size (p .symbols) setting) (unplaced 14)
@@ -109,7 +110,7 @@ searchOf p low high none = nothing (settled p low high)
 -- what Find finds, given so many numbers of work and an output of so many bytes
 unfoldable pub findResult : List ℕ → ℕ → ℕ → ℕ → ℕ → Answer Search
 findResult sheet low high work room = do
-  p ← readProblem sheet
+  p ← placedProblem sheet
   _ ← check (leb 1 low && leb high maxSize && leb low high) (unplaced 8)
   _ ← check (leb (instanceCount high (p .symbols) (p .clauses)) maxInstances) (unplaced 9)
   _ ← check (leb (workNeeded high (p .symbols) (p .clauses)) work) (needing 10 (workNeeded high (p .symbols) (p .clauses)))

@@ -37,11 +37,16 @@ abbrev pub yesNo : Bool → List ℕ
 yesNo true = bytes "yes"
 yesNo false = bytes "no"
 
+-- what is printed for a refusal
+unfoldable pub refusalText : Refusal → List ℕ
+refusalText r =
+    bytes "answer=refused\nreason=" ++ (decimal (r .number) ++ (bytes "\nline=" ++ (decimal (r .place .line) ++ (bytes "\ncolumn=" ++ (decimal (r .place .column) ++ (LF ∷ []))))))
+
 -- what the program prints for an answer
 unfoldable pub printed : Answer Search → List ℕ
 printed (answer (found s text)) = bytes "answer=found\n" ++ text
 printed (answer (nothing b)) = bytes "answer=none\nsettled=" ++ (yesNo b ++ (LF ∷ []))
-printed (refused r) = bytes "answer=refused\nreason=" ++ (decimal (r .number) ++ (bytes "\nline=" ++ (decimal (r .place .line) ++ (LF ∷ []))))
+printed (refused r) = refusalText r
 
 -- the two sizes and the sheet
 abbrev pub sized : List ℕ → Option (ℕ × ℕ × List ℕ)

@@ -8,7 +8,7 @@ use native.Mathlib.Omega.{arith}
 use native.Mathlib.Nat.{add-zero}
 use lib.Dec.{ltb, leb}
 use lib.ListN.{length}
-use Rattle.theory.specs.Lists.{any, all, same, concatMap, placeThat}
+use Rattle.theory.specs.Lists.{any, all, same, concatMap, placeThat, orZero}
 use Rattle.theory.specs.Syntax.{Symbol, Signature}
 use Rattle.theory.specs.Grammar as words
 use Rattle.theory.specs.Least.{orElse}
@@ -19,7 +19,7 @@ use Rattle.theory.proofs.Lists.{any-append, same-refl, all-imply}
 use Rattle.theory.proofs.Finding.{any→placeThat, placeThat-append}
 use Rattle.tptp.specs.Places.{refusedAt}
 use Rattle.tptp.specs.Trees.{Statement}
-use Rattle.tptp.specs.Symbols.{Occurrence, ofVariable, ofSymbol, clauseOccurrences, declares, names, firstOfName, signatureOf, variablesOf, orZero, letterOfName, clauseOver}
+use Rattle.tptp.specs.Symbols.{Occurrence, ofVariable, ofSymbol, clauseOccurrences, declares, names, firstOfName, signatureOf, variablesOf, letterOfName, clauseOver}
 use Rattle.tptp.specs.Tptp.{File, readFile, clausesOfFile, Fault, faultIf, occurrenceFaults, statementFaults, faultsFrom, foreignFault, faults, sheetIn, tptpText}
 use Rattle.tptp.specs.Claims.Order.{firstFault, declaredBy, signatureBy, firstFaultFrom}
 use Rattle.tptp.specs.Claims.Deciding.{sheetOf, firstOfStatements, lastFault, declaredIn, firstOfOccurrences}

@@ -1,25 +1,25 @@
 -- A clause over names is true exactly if the clause of the sheet that it becomes is.
-use Prim.Native.Nat.{ℕ, zero, suc, _<_}
-use mathlib.Core.Path.{_≡_, refl, sym, ap, _∙_, subst}
+use Prim.Native.Nat.{ℕ, zero, _<_}
+use mathlib.Core.Path.{_≡_, refl, sym, ap, _∙_}
 use mathlib.Core.Logic.{_↔_}
 use mathlib.Core.Bool.{Bool, true, false, cond, not, _&&_, _||_, Bool·beq, false≢true}
-use mathlib.Core.Option.{Option, none, some}
+use mathlib.Core.Option.{Option}
 use mathlib.Core.List.{List, [], _∷_, _++_, map}
 use lib.Dec.{eqb}
-use lib.ListN.{length, getD}
-use Rattle.theory.specs.Lists.{any, all, same, select, concatMap, placeThat}
+use lib.ListN.{getD}
+use Rattle.theory.specs.Lists.{any, all, same, select, concatMap, placeThat, orZero}
 use Rattle.theory.specs.Syntax.{Signature}
 use Rattle.theory.specs.Truth.{Interpretation}
 use Rattle.theory.specs.Truth as sheet
 use Rattle.theory.specs.Claims.Truth as sheets
 use Rattle.theory.specs.Cells.{interpretation, isModel}
-use Rattle.theory.proofs.Tests.{eqb-true, eqb-same, eqb-of-≡, and-left, and-right, and-join, or-left, or-right, beq-true, beq-not, not-true, both-false}
+use Rattle.theory.proofs.Tests.{eqb-true, eqb-of-≡, and-left, and-right, and-join, or-left, or-right, beq-true, beq-not, both-false}
 use Rattle.theory.proofs.Lists.{all-append, any-append, same-refl, same-true}
 use Rattle.theory.proofs.Finding.{placeThat-some, any→placeThat}
 use Rattle.theory.proofs.Truth.{truth}
-use Rattle.tptp.specs.Trees.{Name, NameTerm, nameVariable, nameApply, NameTerms, noTerms, termAnd, NameAtom, nameHolds, nameEqual, NameLiteral, never, plain, tilded, unequal, NameClause}
+use Rattle.tptp.specs.Trees.{NameTerm, nameVariable, nameApply, NameTerms, noTerms, termAnd, NameAtom, nameHolds, nameEqual, NameLiteral, never, plain, tilded, unequal, NameClause}
 use Rattle.tptp.specs.Truth.{Meaning, NameAssignment, nameValue, nameValues, nameAtomTrue, nameLiteralTrue, nameClauseTrue, NamesValid, AllNamesValid}
-use Rattle.tptp.specs.Symbols.{Occurrence, ofVariable, ofSymbol, termOccurrences, termsOccurrences, atomOccurrences, literalOccurrences, clauseOccurrences, names, firstOfName, orZero, letterOfName, variablesOf, signatureOf, termOver, termsOver, atomOver, literalAsWritten, clauseOver, problemOf}
+use Rattle.tptp.specs.Symbols.{Occurrence, ofVariable, ofSymbol, termOccurrences, termsOccurrences, atomOccurrences, literalOccurrences, clauseOccurrences, names, firstOfName, letterOfName, variablesOf, signatureOf, termOver, termsOver, atomOver, literalAsWritten, clauseOver, problemOf}
 use Rattle.tptp.specs.Claims.Models.{meaning}
 
 -- The first elements of each name have every name.

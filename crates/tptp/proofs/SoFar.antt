@@ -8,7 +8,7 @@ use mathlib.Core.List.{List, [], _∷_, _++_}
 use native.Mathlib.Omega.{arith}
 use lib.Dec.{eqb, ltb, leb}
 use lib.ListN.{length, length-append, List·getD-append}
-use Rattle.theory.specs.Lists.{all, same, select, concatMap}
+use Rattle.theory.specs.Lists.{all, same, select, concatMap, orZero}
 use Rattle.theory.specs.Syntax.{Kind, function, predicate, isFunction, isPredicate, Symbol, Signature, noSymbol, symbolAt, functions, predicates}
 use Rattle.theory.specs.Problem.{isName, isNamed, placeOfName, withinLimits}
 use Rattle.theory.proofs.Tests.{true-or-false, and-left, and-right, or-false-join, or-false-right}
@@ -19,7 +19,7 @@ use Rattle.theory.specs.Syntax as sheet
 use Rattle.theory.specs.Grammar as words
 use Rattle.theory.specs.WellFormed.{NamesDiffer}
 use Rattle.tptp.specs.Trees.{NameTerm, nameVariable, nameApply, NameTerms, noTerms, termAnd, NameAtom, nameHolds, nameEqual, NameLiteral, never, plain, tilded, unequal, NameClause}
-use Rattle.tptp.specs.Symbols.{Occurrence, ofVariable, ofSymbol, termOccurrences, termsOccurrences, atomOccurrences, literalOccurrences, clauseOccurrences, variablesOf, termOver, termsOver, atomOver, literalAsWritten, clauseOver, declares, firstOfName, orZero, symbolOfName}
+use Rattle.tptp.specs.Symbols.{Occurrence, ofVariable, ofSymbol, termOccurrences, termsOccurrences, atomOccurrences, literalOccurrences, clauseOccurrences, variablesOf, termOver, termsOver, atomOver, literalAsWritten, clauseOver, declares, firstOfName, symbolOfName}
 use Rattle.tptp.specs.Tptp.{placeInKind, occurrenceFaults, faultIf, sameSymbolKind, Fault}
 use Rattle.tptp.specs.Claims.Order.{signatureBy}
 use Rattle.theory.proofs.SheetWords.{place-of-name}

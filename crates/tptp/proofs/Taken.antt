@@ -8,11 +8,12 @@ use mathlib.Core.List.{List, [], _∷_, _++_, map}
 use native.Mathlib.Omega.{arith}
 use lib.Dec.{eqb, ltb, leb}
 use lib.ListN.{length, length-map}
-use Rattle.theory.specs.Lists.{all, same, concatMap}
+use Rattle.theory.specs.Lists.{all, same, concatMap, orZero}
 use Rattle.theory.specs.Syntax.{Kind, function, predicate, isFunction, isPredicate, Symbol, Signature, noSymbol, symbolAt, functionOf, predicateOf, functions, predicates}
 use Rattle.theory.specs.Syntax as sheet
 use Rattle.theory.specs.Grammar as words
 use Rattle.theory.specs.Problem.{isName, isNamed, placeOfName, withinLimits, Problem, readProblem}
+use Rattle.theory.proofs.PlacedReading.{placed-problem, placed-case}
 use Rattle.theory.proofs.Tests.{true-or-false, ltb-true, ltb-false, ltb-of-<, leb-false, leb-of-≤, and-left, and-right, and-join, or-false-left, or-false-right, beq-true, beq-not, false-of-not}
 use Rattle.theory.proofs.Lists.{all-append, all-map, all-concatMap, all-and, all-imply, all-at}
 use Rattle.theory.proofs.Finding.{any→placeThat}
@@ -26,7 +27,7 @@ use Rattle.theory.specs.WellFormed.{symbolOk, isKnownLetter, clauseAccepted, We
 use Rattle.theory.proofs.Answers.{bind-step, answer-inj}
 use Rattle.theory.proofs.CaseText.{read-exactly}
 use Rattle.tptp.specs.Trees.{Name, NameTerm, nameVariable, nameApply, NameTerms, noTerms, termAnd, NameAtom, nameHolds, nameEqual, never, plain, tilded, unequal, NameClause, Statement}
-use Rattle.tptp.specs.Symbols.{Occurrence, ofVariable, ofSymbol, termCount, termOccurrences, termsOccurrences, atomOccurrences, clauseOccurrences, declares, declared, firstOfName, signatureOf, variablesOf, orZero, letterOfName, symbolOfName, termOver, termsOver, atomOver, literalAsWritten, clauseOver, problemOf}
+use Rattle.tptp.specs.Symbols.{Occurrence, ofVariable, ofSymbol, termCount, termOccurrences, termsOccurrences, atomOccurrences, clauseOccurrences, declares, declared, firstOfName, signatureOf, variablesOf, letterOfName, symbolOfName, termOver, termsOver, atomOver, literalAsWritten, clauseOver, problemOf}
 use Rattle.theory.specs.SheetText.{sheetText}
 use Rattle.tptp.specs.Tptp.{File, readFile, clausesOfFile, Fault, faultIf, sameSymbolKind, placeInKind, occurrenceFaults, faultsFrom, foreignFault, faults, sheetIn, tptpText}
 use Rattle.tptp.specs.Truth.{AllNamesValid}
@@ -407,7 +408,7 @@ unfolding judgeAnswer
 judged text room sheet case k e h =
     let p : Problem = problemOf (clausesOfFile (readFile text)) in
     let b : Bool = isModel (k .size) (p .symbols) (p .clauses) (k .values) in
-    let says : judgeAnswer sheet case ≡ base.answer b = bind-step _ _ p _ (taken text room sheet e) (bind-step _ _ k _ h refl) in
+    let says : judgeAnswer sheet case ≡ base.answer b = bind-step _ _ p _ (placed-problem sheet p (taken text room sheet e)) (bind-step _ _ k _ (placed-case (p .symbols) case k h) refl) in
     let m = same-models (clausesOfFile (readFile text)) (k .size) (k .values) (read-exactly (p .symbols) case k h .positive) in
     (λ q. m .0 (answer-inj b true (sym says ∙ q)), λ v. says ∙ ap base.answer (m .1 v))
 

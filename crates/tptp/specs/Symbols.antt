@@ -1,9 +1,8 @@
 -- The symbols and variables of TPTP clauses in order of first appearance, and the problem (document 01: a sheet) that the clauses become.
 use Prim.Native.Nat.{ℕ, suc}
 use mathlib.Core.Bool.{true, false, not}
-use mathlib.Core.Option.{Option, none, some}
 use mathlib.Core.List.{List, [], _∷_, _++_, map}
-use Rattle.theory.specs.Lists.{same, select, concatMap, placeThat}
+use Rattle.theory.specs.Lists.{same, select, concatMap, placeThat, orZero}
 use Rattle.theory.specs.Syntax.{function, predicate, Symbol, Signature, functions, predicates}
 use Rattle.theory.specs.Syntax as sheet
 use Rattle.theory.specs.Problem.{Problem, placeOfName}
@@ -71,11 +70,6 @@ signatureOf cs =
 -- the variables of a clause in order of first appearance: the first becomes A, the next B
 unfoldable pub variablesOf : NameClause → List (List ℕ)
 variablesOf c = firstOfName (λ x. x) (concatMap names (clauseOccurrences c))
-
--- the place, or 0 where there is none
-abbrev pub orZero : Option ℕ → ℕ
-orZero (some i) = i
-orZero none = 0
 
 -- the number of a variable's letter, A being 0
 abbrev pub letterOfName : List (List ℕ) → List ℕ → ℕ

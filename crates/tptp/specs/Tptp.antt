@@ -5,7 +5,7 @@ use mathlib.Core.Option.{Option, none, some}
 use mathlib.Core.List.{List, [], _∷_, _++_, map}
 use lib.Dec.{eqb, leb, ltb}
 use lib.ListN.{length}
-use Rattle.theory.specs.Lists.{concatMap}
+use Rattle.theory.specs.Lists.{concatMap, orZero}
 use Rattle.theory.specs.Syntax.{Kind, isFunction, Signature, symbolAt, functions, predicates}
 use Rattle.theory.specs.Grammar.{clauseWords}
 use Rattle.theory.specs.Problem.{maxBytes, maxSymbols, maxClauses, maxArity, isName, withinLimits, placeOfName}
@@ -14,7 +14,7 @@ use Rattle.tptp.specs.Places.{refusedAt}
 use Rattle.tptp.specs.Tokens.{fullStop, TptpToken, is, tokens}
 use Rattle.tptp.specs.Grammar.{DueToken, statement, dueAfterToken, mayEnd}
 use Rattle.tptp.specs.Trees.{NameClause, Statement, statementOf}
-use Rattle.tptp.specs.Symbols.{Occurrence, ofVariable, ofSymbol, clauseOccurrences, signatureOf, variablesOf, orZero, letterOfName, symbolOfName, clauseOver, problemOf}
+use Rattle.tptp.specs.Symbols.{Occurrence, ofVariable, ofSymbol, clauseOccurrences, signatureOf, variablesOf, letterOfName, symbolOfName, clauseOver, problemOf}
 use Rattle.theory.specs.SheetText.{sheetText}
 
 -- the statements of a text up to the first 15, and the place of that 15

@@ -7,7 +7,8 @@ use lib.Dec.{leb}
 use lib.ListN.{length}
 use Rattle.theory.specs.Refusals.{answer, refused, unplaced, needing, check, _>>=_}
 use Rattle.theory.specs.Refusals as theory
-use Rattle.theory.specs.Problem.{Problem, readProblem}
+use Rattle.theory.specs.Problem.{Problem}
+use Rattle.theory.specs.Columns.{placedProblem}
 use Rattle.theory.specs.Operations.{maxInstances, isSize, contentOf, writtenText}
 use Rattle.theory.proofs.Tests.{leb-of-≤, leb-of-<}
 use Rattle.theory.proofs.Answers.{bind-step, bind-refused, check-of-true, check-of-false}
@@ -31,17 +32,17 @@ module _ (p : Problem) (s room : ℕ) where
 
 module _ (sheet : List ℕ) (s room : ℕ) where
   -- 1 to 7
-  pub sheet-refusal : (q : theory.Refusal) → readProblem sheet ≡ refused q → writtenText sheet s room ≡ refused q
+  pub sheet-refusal : (q : theory.Refusal) → placedProblem sheet ≡ refused q → writtenText sheet s room ≡ refused q
   unfolding writtenText contentOf
   sheet-refusal q e = bind-refused _ _ q (bind-refused _ _ q e)
 
   -- 8
-  pub size-refusal : (p : Problem) → readProblem sheet ≡ answer p → isSize s ≡ false → writtenText sheet s room ≡ refused (unplaced 8)
+  pub size-refusal : (p : Problem) → placedProblem sheet ≡ answer p → isSize s ≡ false → writtenText sheet s room ≡ refused (unplaced 8)
   unfolding writtenText contentOf
   size-refusal p e h = bind-refused _ _ (unplaced 8) (bind-step _ _ p _ e (bind-refused _ _ (unplaced 8) (check-of-false (isSize s) (unplaced 8) h)))
 
   -- what is left to check at a checked size
-  module _ (p : Problem) (read : readProblem sheet ≡ answer p) (h : isSize s ≡ true) where
+  module _ (p : Problem) (read : placedProblem sheet ≡ answer p) (h : isSize s ≡ true) where
     content : contentOf sheet s ≡ (check (leb (instancesAt p s) maxInstances) (unplaced 9) >>= λ _. answer p)
     unfolding contentOf
     content = bind-step _ _ p _ read (bind-step _ _ tt _ (check-of-true (isSize s) (unplaced 8) h) refl)

@@ -4,6 +4,7 @@ mod clause_text;
 use crate::clause_text::write_text;
 use answers::WriteAnswer;
 use answers::at_line;
+use columns::sheet::sheet_refusal;
 use counts::Counts;
 use counts::counts_at;
 use problem::sheet::read_problem;
@@ -20,7 +21,7 @@ pub fn write_clauses(sheet: &[u8], size: u64, output: &mut [u8]) -> WriteAnswer
 {
     let r = read_problem(sheet);
     if r.fault != 0 {
-        return WriteAnswer::Refused(at_line(r.fault, r.line));
+        return WriteAnswer::Refused(sheet_refusal(sheet, r.fault, r.line));
     }
     let p = r.problem;
     match DomainSize::checked(size as usize) {

@@ -128,7 +128,7 @@ pub struct Refusal {
     /// The faulty line, from 1 (of the case for [`Reason::BadCase`], of the TPTP text for 15 to 17, else of the sheet);
     /// 0 where none is named.
     pub line: u64,
-    /// The faulty byte of that line, from 1; 0 where none is named.
+    /// The faulty byte of that line, from 1, or one past the line's end; 0 where no line is named.
     pub column: u64,
     /// The length that would have done, for [`Reason::WorkTooShort`] and [`Reason::OutputTooShort`]; else 0.
     pub needed: u64,
@@ -138,10 +138,7 @@ impl fmt::Display for Refusal {
     fn fmt(&self, f: &mut fmt::Formatter<'_>) -> fmt::Result {
         write!(f, "refused {}", self.reason.number())?;
         if self.line > 0 {
-            write!(f, ", line {}", self.line)?;
-        }
-        if self.column > 0 {
-            write!(f, ", column {}", self.column)?;
+            write!(f, ", line {}, column {}", self.line, self.column)?;
         }
         write!(f, ": {}", self.reason)?;
         match self.reason {
@@ -203,15 +200,15 @@ mod tests {
 
     #[test]
     fn a_refusal_is_told_in_words() {
-        let layout = Refusal {
+        let words = Refusal {
             reason: Reason::NotAClause,
             line: 7,
-            column: 0,
+            column: 12,
             needed: 0,
         };
         assert_eq!(
-            layout.to_string(),
-            "refused 6, line 7: the words of this line do not make up a clause"
+            words.to_string(),
+            "refused 6, line 7, column 12: the words of this line do not make up a clause"
         );
         let short = Refusal {
             reason: Reason::OutputTooShort,
@@ -223,14 +220,5 @@ mod tests {
             short.to_string(),
             "refused 11: the output is too short, 22 bytes are needed"
         );
-        let clash = Refusal {
-            reason: Reason::SymbolClash,
-            line: 2,
-            column: 15,
-            needed: 0,
-        };
-        assert!(clash
-            .to_string()
-            .starts_with("refused 16, line 2, column 15: this symbol"));
     }
 }

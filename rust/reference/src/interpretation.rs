@@ -1,10 +1,11 @@
 //! Cases: their text both ways, and truth.
 
 use crate::grounding::power;
-use crate::lines::Lines;
+use crate::lines::{Line, Lines};
 use crate::problem::Problem;
 use crate::syntax::{self, Atom, Literal, Term};
-use crate::{at_line, Reason, Refusal};
+use crate::{Reason, Refusal};
+use std::ops::RangeInclusive;
 
 /// A full table for each symbol, at a size: the values of all cells in line order, as the text writes them.
 pub struct Interpretation {
@@ -17,10 +18,23 @@ impl Interpretation {
         Interpretation { size, cells }
     }
 
-    /// Reads a case of the problem; refusal 12 names the first line that is not as laid out.
+    /// Reads a case of the problem; refusal 12 names the first line that is not as laid out, and where in it.
     pub fn read(problem: &Problem, case: &[u8]) -> Result<Self, Refusal> {
-        let mut lines = Lines::new(case);
-        read_lines(problem, &mut lines).ok_or_else(|| at_line(Reason::BadCase, lines.number))
+        let mut lines = Lines::new(case, Reason::BadCase);
+        let mut first = lines.next();
+        first.bytes(b"case=1")?;
+        first.end()?;
+        let size = read_size(lines.next())?;
+        let mut cells = Vec::new();
+        let functions = problem.functions.iter().map(|f| (f, 1..=size as u8));
+        let predicates = problem.predicates.iter().map(|p| (p, 0..=1));
+        for (symbol, values) in functions.chain(predicates) {
+            let mut line = lines.next();
+            line.bytes(&symbol.name)?;
+            cells.extend(read_values(line, power(size, symbol.arity), values)?);
+        }
+        lines.end()?;
+        Ok(Interpretation { size, cells })
     }
 
     /// The case's text.
@@ -54,34 +68,23 @@ pub fn text_length(problem: &Problem, size: usize) -> usize {
     14 + lines.sum::<usize>()
 }
 
-/// The case that the lines give, or nothing where the line taken last is faulty.
-fn read_lines(problem: &Problem, lines: &mut Lines) -> Option<Interpretation> {
-    if lines.next()? != b"case=1" {
-        return None;
-    }
-    let size = match lines.next()?.strip_prefix(b"size=")? {
-        [digit @ b'1'..=b'8'] => (digit - b'0') as usize,
-        _ => return None,
-    };
+fn read_size(mut line: Line) -> Result<usize, Refusal> {
+    line.bytes(b"size=")?;
+    let digit = line.byte(b'1'..=b'8')?;
+    line.end()?;
+    Ok((digit - b'0') as usize)
+}
+
+/// `=` and so many values, with one space between.
+fn read_values(mut line: Line, count: usize, values: RangeInclusive<u8>) -> Result<Vec<u8>, Refusal> {
+    let digits = b'0' + values.start()..=b'0' + values.end();
     let mut cells = Vec::new();
-    let functions = problem.functions.iter().map(|f| (f, 1, size as u8));
-    let predicates = problem.predicates.iter().map(|p| (p, 0, 1));
-    for (symbol, least, most) in functions.chain(predicates) {
-        let values = lines.next()?.strip_prefix(symbol.name.as_slice())?;
-        let values = values.strip_prefix(b"=")?;
-        if values.len() != 2 * power(size, symbol.arity) - 1 {
-            return None;
-        }
-        for (i, &byte) in values.iter().enumerate() {
-            if i % 2 == 1 {
-                (byte == b' ').then_some(())?;
-            } else {
-                (b'0' + least..=b'0' + most).contains(&byte).then_some(())?;
-                cells.push(byte - b'0');
-            }
-        }
+    for i in 0..count {
+        line.bytes(if i == 0 { b"=" } else { b" " })?;
+        cells.push(line.byte(digits.clone())? - b'0');
     }
-    lines.ended().then_some(Interpretation { size, cells })
+    line.end()?;
+    Ok(cells)
 }
 
 /// The tables of an interpretation. Elements are counted from 0 here.

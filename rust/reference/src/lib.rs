@@ -179,17 +179,9 @@ fn put(text: &[u8], out: &mut [u8]) -> Result<usize, Refusal> {
     }
 }
 
+/// A refusal that names no line.
 fn refused(reason: Reason) -> Refusal {
-    at_line(reason, 0)
-}
-
-fn at_line(reason: Reason, line: u64) -> Refusal {
-    Refusal {
-        reason,
-        line,
-        column: 0,
-        needed: 0,
-    }
+    short(reason, 0)
 }
 
 fn short(reason: Reason, needed: u64) -> Refusal {

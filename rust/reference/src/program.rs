@@ -22,7 +22,8 @@ pub fn program(input: &[u8]) -> Vec<u8> {
         }
         Err(refusal) => {
             let number = refusal.reason.number();
-            format!("answer=refused\nreason={number}\nline={}\n", refusal.line).into_bytes()
+            let (line, column) = (refusal.line, refusal.column);
+            format!("answer=refused\nreason={number}\nline={line}\ncolumn={column}\n").into_bytes()
         }
     }
 }

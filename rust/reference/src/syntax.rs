@@ -38,8 +38,9 @@ pub enum Word {
     Predicate { index: usize, arity: usize },
 }
 
-/// How many literals the words make up, or nothing where they are no clause. No tree is built: a line may be long.
-pub fn count_literals(words: &[Word]) -> Option<usize> {
+/// The first word that cannot stand after those before it, or the number of words where more must follow; nothing where
+/// the words make up a clause. No tree is built: a line may be long.
+pub fn first_misplaced(words: &[Word]) -> Option<usize> {
     enum Due {
         Sign,
         Atom,
@@ -50,21 +51,20 @@ pub fn count_literals(words: &[Word]) -> Option<usize> {
         n => Due::Terms(n),
     };
     let mut due = Due::Sign;
-    let mut literals = 0;
-    for &word in words {
+    for (i, &word) in words.iter().enumerate() {
         due = match (due, word) {
-            (Due::Sign, Word::Plus | Word::Minus) => {
-                literals += 1;
-                Due::Atom
-            }
+            (Due::Sign, Word::Plus | Word::Minus) => Due::Atom,
             (Due::Atom, Word::Equals) => Due::Terms(2),
             (Due::Atom, Word::Predicate { arity, .. }) => after(arity),
             (Due::Terms(n), Word::Variable(_)) => after(n - 1),
             (Due::Terms(n), Word::Function { arity, .. }) => after(n - 1 + arity),
-            _ => return None,
+            _ => return Some(i),
         };
     }
-    matches!(due, Due::Sign).then_some(literals)
+    match due {
+        Due::Sign => None,
+        _ => Some(words.len()),
+    }
 }
 
 /// The clause that the words make up; they are known to be one.

@@ -44,15 +44,10 @@ fn vector(line: &str) -> Vector {
     let mut rest = rest.as_bytes();
     let inputs = fields(&mut rest);
     rest = rest.strip_prefix(b"-> ").expect("an arrow before the answer");
-    let mut answer = fields(&mut rest);
-    if answer.has("refused") {
-        // left out where the operation names no column
-        answer.0.entry("column".to_string()).or_insert(b"0".to_vec());
-    }
     Vector {
         operation: operation.to_string(),
         inputs,
-        answer,
+        answer: fields(&mut rest),
     }
 }
 

@@ -3,6 +3,7 @@
 pub mod buffers;
 pub mod damage;
 pub mod draft;
+pub mod places;
 pub mod problems;
 pub mod random;
 pub mod tally;

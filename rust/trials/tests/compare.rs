@@ -8,6 +8,7 @@ use nesskettle_reference::{self as reference, Refusal, Search};
 use nesskettle_trials::buffers::{length_around, Lent};
 use nesskettle_trials::damage::damaged;
 use nesskettle_trials::draft::{long_sheet, Draft, Style, BROAD, LIMITS, LONG_CLAUSES, SMALL};
+use nesskettle_trials::places::pointed_at;
 use nesskettle_trials::problems::{self, MILLION};
 use nesskettle_trials::random::Random;
 use nesskettle_trials::tally::Tally;
@@ -22,19 +23,49 @@ fn text(bytes: &[u8]) -> String {
     String::from_utf8_lossy(bytes).into_owned()
 }
 
+/// What the column of a refused sheet points at.
+const IN_SHEETS: [&str; 15] = [
+    "2 at a byte",
+    "2 at a line's end",
+    "2 at the text's end",
+    "3 at a count",
+    "3 at an arity",
+    "4 at a name",
+    "5 at a word",
+    "5 at an empty word",
+    "6 at a word",
+    "6 at a line's end",
+    "7 at the 65th word",
+    "7 at the 65th word, with 17 literals",
+    "7 at the 17th sign",
+    "7 at the 17th sign, with 65 words",
+    "7 at its first byte, for variables",
+];
+
+const IN_CASES: [&str; 3] = ["12 at a byte", "12 at a line's end", "12 at the text's end"];
+
+/// Counts what a refusal's column points at, if it names a line.
+fn add_place(tally: &mut Tally, refused: &[u8], reason: u32, line: u64, column: u64) {
+    if line > 0 {
+        tally.add(&pointed_at(refused, reason, line, column), 0);
+    }
+}
+
 fn check_read(tally: &mut Tally, sheet: &[u8]) {
     let nothing = ReadAnswer {
         outcome: 0,
         reason: 0,
         line: 0,
+        column: 0,
         funs: 0,
         preds: 0,
         clauses: 0,
     };
     let expected = match reference::read(sheet) {
-        Err(Refusal { reason, line, .. }) => ReadAnswer {
-            reason: reason.number(),
-            line,
+        Err(refusal) => ReadAnswer {
+            reason: refusal.reason.number(),
+            line: refusal.line,
+            column: refusal.column,
             ..nothing
         },
         Ok(c) => ReadAnswer {
@@ -51,19 +82,22 @@ fn check_read(tally: &mut Tally, sheet: &[u8]) {
     assert_eq!(answer, expected, "read\n{}", text(sheet));
     assert!(lent == sheet, "read changed the sheet\n{}", text(sheet));
     tally.add("read", answer.reason);
+    add_place(tally, sheet, answer.reason, answer.line, answer.column);
 }
 
 fn check_judge(tally: &mut Tally, sheet: &[u8], case: &[u8]) {
     let expected = match reference::judge(sheet, case) {
-        Err(Refusal { reason, line, .. }) => JudgeAnswer {
+        Err(refusal) => JudgeAnswer {
             outcome: 0,
-            reason: reason.number(),
-            line,
+            reason: refusal.reason.number(),
+            line: refusal.line,
+            column: refusal.column,
         },
         Ok(yes) => JudgeAnswer {
             outcome: if yes { 1 } else { 2 },
             reason: 0,
             line: 0,
+            column: 0,
         },
     };
     let (lent, lent_case) = (sheet.to_vec(), case.to_vec());
@@ -75,6 +109,8 @@ fn check_judge(tally: &mut Tally, sheet: &[u8], case: &[u8]) {
         text(sheet)
     );
     tally.add(if answer.outcome == 1 { "yes" } else { "no" }, answer.reason);
+    let refused = if answer.reason == 12 { case } else { sheet };
+    add_place(tally, refused, answer.reason, answer.line, answer.column);
 }
 
 fn check_write(tally: &mut Tally, sheet: &[u8], size: u64, output_length: usize) {
@@ -125,14 +161,13 @@ fn check_read_back(tally: &mut Tally, sheet: &[u8], size: u64, setting: &[u8], o
 /// The answer of a call that writes a text, and the text.
 fn expected_text(answer: Result<usize, Refusal>, output: &[u8]) -> (WriteAnswer, &[u8]) {
     match answer {
-        Err(Refusal {
-            reason, line, needed, ..
-        }) => (
+        Err(refusal) => (
             WriteAnswer {
                 outcome: 0,
-                reason: reason.number(),
-                line,
-                length: needed,
+                reason: refusal.reason.number(),
+                line: refusal.line,
+                column: refusal.column,
+                length: refusal.needed,
             },
             &[],
         ),
@@ -141,6 +176,7 @@ fn expected_text(answer: Result<usize, Refusal>, output: &[u8]) -> (WriteAnswer,
                 outcome: 1,
                 reason: 0,
                 line: 0,
+                column: 0,
                 length: n as u64,
             },
             &output[..n],
@@ -166,18 +202,18 @@ fn check_find_within(
         outcome: 0,
         reason: 0,
         line: 0,
+        column: 0,
         size: 0,
         length: 0,
         settled: 0,
     };
     let (expected, front, zeros) = match reference::find_within(sheet, low, high, &mut scratch, &mut should, choices) {
-        Err(Refusal {
-            reason, line, needed, ..
-        }) => (
+        Err(refusal) => (
             FindAnswer {
-                reason: reason.number(),
-                line,
-                length: needed,
+                reason: refusal.reason.number(),
+                line: refusal.line,
+                column: refusal.column,
+                length: refusal.needed,
                 ..nothing
             },
             0,
@@ -283,7 +319,8 @@ fn sheets_are_read_alike() {
     for _ in 0..1_000 {
         check_read(&mut tally, &long_sheet(&mut random));
     }
-    tally.covers(50, &["read", "1", "2", "3", "4", "5", "6", "7"]);
+    tally.covers(50, &["read", "1"]);
+    tally.covers(50, &IN_SHEETS);
 }
 
 #[test]
@@ -320,7 +357,27 @@ fn cases_are_judged_alike() {
         }
         check_judge(&mut tally, &sheet, &case);
     }
-    tally.covers(50, &["yes", "no", "2", "5", "12"]);
+    tally.covers(50, &["yes", "no", "2", "5"]);
+    tally.covers(50, &IN_CASES);
+}
+
+#[test]
+fn every_short_case_is_judged_alike() {
+    let mut tally = Tally::default();
+    let sheet = b"sheet=1\nfuns=1\nfun=f/1\npreds=1\npred=p/0\nclauses=1\nclause=+ p - = f A A\n";
+    let whole = b"case=1\nsize=2\nf=2 1\np=0\n";
+    for length in 0..=whole.len() {
+        check_judge(&mut tally, sheet, &whole[..length]);
+        for byte in 0..=255 {
+            let mut case = whole[..length].to_vec();
+            case.push(byte);
+            check_judge(&mut tally, sheet, &case);
+            case.extend_from_slice(&whole[(length + 1).min(whole.len())..]);
+            check_judge(&mut tally, sheet, &case);
+        }
+    }
+    tally.covers(2, &["yes", "no"]);
+    tally.covers(2, &IN_CASES);
 }
 
 /// A small model of the sheet, if one is found quickly.

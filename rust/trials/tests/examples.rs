@@ -4,13 +4,14 @@ use nesskettle::{find, judge, read, read_back, write, Counts, Reason, Refusal, S
 use nesskettle_reference::sheet_of;
 use nesskettle_trials::problems::{sheet, GROUP_CASE};
 
-const NO_LINE: u64 = 0;
+/// Line and column of a refusal that names none.
+const NO_PLACE: (u64, u64) = (0, 0);
 
-fn refused<T>(reason: Reason, line: u64) -> Result<T, Refusal> {
+fn refused<T>(reason: Reason, (line, column): (u64, u64)) -> Result<T, Refusal> {
     Err(Refusal {
         reason,
         line,
-        column: 0,
+        column,
         needed: 0,
     })
 }
@@ -55,7 +56,7 @@ fn two_constants() {
     assert_eq!(found(sheet, 1, 3).as_deref(), Ok("case=1\nsize=2\na=1\nb=2\n"));
     let back = |setting: &[u8]| text_of(|output| read_back(sheet, 2, setting, output));
     assert_eq!(back(&[0, 1, 1, 0]).as_deref(), Ok("case=1\nsize=2\na=2\nb=1\n"));
-    assert_eq!(back(&[1, 1, 0, 0]), refused(Reason::NotOneResult, NO_LINE));
+    assert_eq!(back(&[1, 1, 0, 0]), refused(Reason::NotOneResult, NO_PLACE));
 }
 
 #[test]
@@ -100,16 +101,16 @@ fn limits() {
     assert!(write(&wide(3), 8, &mut room).is_ok());
     assert_eq!(
         write(&wide(4), 8, &mut room),
-        refused(Reason::TooManyInstances, NO_LINE)
+        refused(Reason::TooManyInstances, NO_PLACE)
     );
     let nothing = sheet_of(&[], &[], &[]);
     assert_eq!(write(&nothing, 8, &mut room), Ok(10));
-    assert_eq!(write(&nothing, 0, &mut room), refused(Reason::BadSize, NO_LINE));
-    assert_eq!(write(&nothing, 9, &mut room), refused(Reason::BadSize, NO_LINE));
+    assert_eq!(write(&nothing, 0, &mut room), refused(Reason::BadSize, NO_PLACE));
+    assert_eq!(write(&nothing, 9, &mut room), refused(Reason::BadSize, NO_PLACE));
     let literals = |count: usize| sheet_of(&[], &["p/0"], &[&vec!["+ p"; count].join(" ")]);
     assert!(read(&literals(16)).is_ok());
-    assert_eq!(read(&literals(17)), refused(Reason::ClauseTooLarge, 6));
-    assert_eq!(read(b""), refused(Reason::Layout, 1));
+    assert_eq!(read(&literals(17)), refused(Reason::ClauseTooLarge, (6, 72)));
+    assert_eq!(read(b""), refused(Reason::Layout, (1, 1)));
 }
 
 #[test]

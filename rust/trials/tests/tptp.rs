@@ -3,10 +3,11 @@
 //! Texts are generated from fixed seeds: clauses of drafts, texts around each limit, and damaged ones. Each test counts what
 //! came out, so that a generator that no longer reaches a result or a refusal fails.
 
-use nesskettle::raw::{self, TptpAnswer};
+use nesskettle::raw::{self, WriteAnswer};
 use nesskettle_reference as reference;
 use nesskettle_trials::buffers::{length_around, Lent};
 use nesskettle_trials::draft::{Draft, BROAD, LIMITS, LONG_CLAUSES, SMALL};
+use nesskettle_trials::places::offset;
 use nesskettle_trials::random::Random;
 use nesskettle_trials::tally::Tally;
 use nesskettle_trials::tptp::clauses::{statements, ANY, SLIPPING};
@@ -14,11 +15,11 @@ use nesskettle_trials::tptp::damage::damaged;
 use nesskettle_trials::tptp::{layout, limits};
 
 /// Calls the library, holds its answer and the lent bytes against the reference's, and hands the answer back.
-fn check(tally: &mut Tally, text: &[u8], output_length: usize) -> TptpAnswer {
+fn check(tally: &mut Tally, text: &[u8], output_length: usize) -> WriteAnswer {
     let mut should = vec![0; output_length];
     let (expected, front) = match reference::from_tptp(text, &mut should) {
         Err(refusal) => (
-            TptpAnswer {
+            WriteAnswer {
                 outcome: 0,
                 reason: refusal.reason.number(),
                 line: refusal.line,
@@ -28,7 +29,7 @@ fn check(tally: &mut Tally, text: &[u8], output_length: usize) -> TptpAnswer {
             0,
         ),
         Ok(length) => (
-            TptpAnswer {
+            WriteAnswer {
                 outcome: 1,
                 reason: 0,
                 line: 0,
@@ -51,7 +52,7 @@ fn check(tally: &mut Tally, text: &[u8], output_length: usize) -> TptpAnswer {
 }
 
 /// The outcome; for a refusal that names a place its number and what stands there.
-fn outcome(text: &[u8], answer: &TptpAnswer) -> &'static str {
+fn outcome(text: &[u8], answer: &WriteAnswer) -> &'static str {
     let at = place(text, answer);
     match (answer.reason, at.and_then(|at| text.get(at))) {
         (0, _) => "written",
@@ -82,10 +83,8 @@ const OUTCOMES: [&str; 10] = [
 ];
 
 /// Where the named place is in the text.
-fn place(text: &[u8], answer: &TptpAnswer) -> Option<usize> {
-    let before = answer.line.checked_sub(1)? as usize;
-    let lines = text.split_inclusive(|&b| b == b'\n').take(before);
-    Some(lines.map(<[u8]>::len).sum::<usize>() + answer.column as usize - 1)
+fn place(text: &[u8], answer: &WriteAnswer) -> Option<usize> {
+    (answer.line > 0).then(|| offset(text, answer.line, answer.column))
 }
 
 /// The length of the sheet, or any where the text is refused.

@@ -2,6 +2,7 @@
 //! reference.
 
 use nesskettle_reference::{self as reference, sheet_of, Reason, Refusal};
+use nesskettle_trials::places::marked;
 
 /// What both answer with enough room: the sheet or the refusal.
 fn read(text: &str) -> Result<Vec<u8>, Refusal> {
@@ -31,35 +32,28 @@ fn clause_gives(clause: &str, words: &str) {
     );
 }
 
-/// Refused with this number, line and column.
-fn refused(text: &str, reason: Reason, line: u64, column: u64) {
+/// The marked text is refused with this reason, there.
+fn refused(text: &str, reason: Reason) {
+    let (text, line, column) = marked(text);
     let refusal = Refusal {
         reason,
         line,
         column,
         needed: 0,
     };
-    assert_eq!(read(text), Err(refusal), "{text}");
+    assert_eq!(read(&text), Err(refusal), "{text}");
 }
 
-/// The text with `^` taken out, refused at the token that stood after it.
-fn refused_at(marked: &str, reason: Reason) {
-    let (before, after) = marked.split_once('^').expect("a place is marked");
-    let line = 1 + before.matches('\n').count() as u64;
-    let column = 1 + (before.len() - before.rfind('\n').map_or(0, |feed| feed + 1)) as u64;
-    refused(&(before.to_string() + after), reason, line, column);
+fn outside(text: &str) {
+    refused(text, Reason::NotTptp)
 }
 
-fn outside(marked: &str) {
-    refused_at(marked, Reason::NotTptp)
+fn clash(text: &str) {
+    refused(text, Reason::SymbolClash)
 }
 
-fn clash(marked: &str) {
-    refused_at(marked, Reason::SymbolClash)
-}
-
-fn beyond(marked: &str) {
-    refused_at(marked, Reason::BeyondSheets)
+fn beyond(text: &str) {
+    refused(text, Reason::BeyondSheets)
 }
 
 #[test]
@@ -113,7 +107,7 @@ fn names_and_roles_are_forgotten() {
 
 #[test]
 fn texts_that_are_no_clauses() {
-    for marked in [
+    for text in [
         "^p",
         "^fof(a,r,p).",
         "^include(a).",
@@ -163,13 +157,13 @@ fn texts_that_are_no_clauses() {
         "^\u{e9}",
         "^\0",
     ] {
-        outside(marked);
+        outside(text);
     }
 }
 
 #[test]
 fn missing_text() {
-    for marked in [
+    for text in [
         "cnf^",
         "cnf(a,r,p)^",
         "cnf(a,r,p) ^",
@@ -184,13 +178,13 @@ fn missing_text() {
         "cnf(a,r,p).\n/* **^",
         "cnf(a,r,p) % .^",
     ] {
-        outside(marked);
+        outside(text);
     }
 }
 
 #[test]
 fn longer_tokens() {
-    for marked in [
+    for text in [
         "cnf(a,r,p^=>q).",
         "cnf(a,r,^~|p).",
         "cnf(a,r,^~&p).",
@@ -218,7 +212,7 @@ fn longer_tokens() {
         "cnf(a,r,a^!",
         "cnf(a,r,a^! =b).",
     ] {
-        outside(marked);
+        outside(text);
     }
 }
 

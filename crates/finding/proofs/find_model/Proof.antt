@@ -1,12 +1,13 @@
 -- `find_model` meets its contract: a sheet that is refused, sizes that are none, or what was found.
 use Prim.Native.Nat.{ℕ}
-use mathlib.Core.Path.{_≡_, sym, ap, _∙_}
+use mathlib.Core.Path.{_≡_, refl, sym, ap, _∙_}
 use native.Mathlib.Omega.{arith}
 use lib.ListN.{length}
-use Rattle.theory.specs.Refusals.{atLine, unplaced}
+use Rattle.theory.specs.Refusals.{unplaced}
 use Rattle.theory.specs.Operations.{findResult}
+use Rattle.answers.specs.Answers.{refusalIn}
 use Rattle.problem.specs.Problems.{problemIn}
-use Rattle.problem.proofs.SheetRead.{sheet-accepted, sheet-refused}
+use Rattle.problem.proofs.SheetRead.{sheet-accepted, sheet-placed, sheet-refused}
 use Rattle.finding.specs.Ending.{foundIn}
 use Rattle.finding.proofs.Ranges.{range-bounds, range-taken, range-refused}
 use Rattle.finding.proofs.Endings.{ends-as, ends-refused}
@@ -14,49 +15,34 @@ use Rattle.finding.proofs.Refusing.{result-refused, result-8, result-re
 use borrow.Author.Needs.{needs}
 use Rattle.finding.proofs.find_model.Statement.{statement}
 use Rattle.finding.proofs.find_model.Tie as tie
-use Rattle.finding.proofs.find_model.Reads as reads
-use Rattle.finding.proofs.find_model.Lts as lts
-use Rattle.answers.proofs.at_line.Reads as at-line-reads
-use Rattle.finding.proofs.find_in.Reads as find-in-reads
-use Rattle.finding.proofs.range.checked_range.Reads as checked-range-reads
-use Rattle.problem.proofs.sheet.read_problem.Reads as read-problem-reads
 
--- src/lib.rt:40:9
 read-problem-requires : tie.Need-read-problem-requires
 read-problem-requires c κs = search needs
 
--- src/lib.rt:42:36
-at-line-requires : tie.Need-at-line-requires
-at-line-requires c κs = search needs
+sheet-refusal-requires : tie.Need-sheet-refusal-requires
+sheet-refusal-requires c κs =
+    let r = c .before .before .read-problem in
+    sheet-refused (c .before .before .before .before .before .before .args .sheet .now) (r .result) (r .ensures .0) (c .if1 .taken)
 
--- src/lib.rt:42:9
 returns : tie.Need-returns
 returns c =
     let a = c .before .before .before .before .before .before .before .args in
-    let r = c .before .before .before .read-problem in
-    let W = length (a .work .now) in
-    let R = length (a .output .now) in
-    let q = atLine (r .result .fault) (r .result .line) in
-    ends-refused (findResult (a .sheet .now) (a .low) (a .high)) (c .at-line .result) q (a .work .now) (a .output .now)
-    (result-refused (a .sheet .now) (a .low) (a .high) W R q (sheet-refused (a .sheet .now) (r .result) (r .ensures .0) (c .before .if1 .taken))) (c .at-line .ensures)
+    let q = c .sheet-refusal .result in
+    ends-refused (findResult (a .sheet .now) (a .low) (a .high)) q (refusalIn q) (a .work .now) (a .output .now)
+    (result-refused (a .sheet .now) (a .low) (a .high) (length (a .work .now)) (length (a .output .now)) (refusalIn q) (c .sheet-refusal .ensures)) refl
 
--- src/lib.rt:45:11
 checked-range-requires : tie.Need-checked-range-requires
 checked-range-requires c κs = search needs
 
--- src/lib.rt:46:52
 enum-told : tie.Need-enum-told
 enum-told c = search needs
 
--- src/lib.rt:46:52
-at-line-requires-2 : tie.Need-at-line-requires-2
-at-line-requires-2 c κs = search needs
+at-line-requires : tie.Need-at-line-requires
+at-line-requires c κs = search needs
 
--- src/lib.rt:47:24
 enum-known-least : tie.Need-enum-known-least
 enum-known-least c = search needs
 
--- src/lib.rt:47:40
 find-in-requires : tie.Need-find-in-requires
 find-in-requires c κs =
     let a = c .before .before .before .before .before .before .before .before .before .before .before .before .before .args in
@@ -73,7 +59,6 @@ find-in-requires c κs =
       within = omega (arith, t .2, h .1);
     }
 
--- src/lib.rt:29:1
 returns-2 : tie.Need-returns-2
 returns-2 c =
     let a = c .before .before .before .before .before .before .before .before .before .before .before .args in
@@ -82,18 +67,15 @@ returns-2 c =
     let R = length (a .output .now) in
     let q = problemIn (a .sheet .now) (r .result .problem) in
     let no = range-refused (a .low) (a .high) (sym (c .before .before .before .checked-range .ensures) ∙ c .before .enum-told .given .1) in
-    ends-refused (findResult (a .sheet .now) (a .low) (a .high)) (c .at-line2 .result) (unplaced 8) (a .work .now) (a .output .now)
-    (result-8 (a .sheet .now) (a .low) (a .high) W R q (sheet-accepted (a .sheet .now) (r .result) (r .ensures .0) (c .before .before .before .before .before .if1 .left)) no) (c .at-line2 .ensures)
+    ends-refused (findResult (a .sheet .now) (a .low) (a .high)) (c .at-line .result) (unplaced 8) (a .work .now) (a .output .now)
+    (result-8 (a .sheet .now) (a .low) (a .high) W R q (sheet-placed (a .sheet .now) (r .result) (r .ensures .0) (c .before .before .before .before .before .if1 .left)) no) (c .at-line .ensures)
 
--- src/lib.rt:29:1
 same-length : tie.Need-same-length
 same-length c = search needs
 
--- src/lib.rt:29:1
 same-length-2 : tie.Need-same-length-2
 same-length-2 c = search needs
 
--- src/lib.rt:29:1
 returns-3 : tie.Need-returns-3
 returns-3 c =
     let a = c .before .before .before .before .before .before .before .before .before .before .before .before .before .before .before .before .before .before .args in
@@ -107,18 +89,18 @@ returns-3 c =
     let same : foundIn q (a .low) (a .high) W R ≡ foundIn q (g .0 .0 .0) (g .0 .1 .0 .0) W R =
     ap (λ (n : ℕ). foundIn q n (a .high) W R) (sym (t .1)) ∙ ap (λ (n : ℕ). foundIn q (g .0 .0 .0) n W R) (sym (t .2)) in
     ends-as (findResult (a .sheet .now) (a .low) (a .high)) (f .result) (a .work .now) (f .last .1 .1 .1 .1 .0) (a .output .now) (f .last .1 .1 .1 .1 .1 .0) (foundIn q (g .0 .0 .0) (g .0 .1 .0 .0))
-    (result-read (a .sheet .now) (a .low) (a .high) W R q (sheet-accepted (a .sheet .now) (r .result) (r .ensures .0) (c .before .before .before .before .before .before .before .before .before .before .before .before .if1 .left)) (t .0) ∙ same) (f .ensures)
+    (result-read (a .sheet .now) (a .low) (a .high) W R q (sheet-placed (a .sheet .now) (r .result) (r .ensures .0) (c .before .before .before .before .before .before .before .before .before .before .before .before .if1 .left)) (t .0) ∙ same) (f .ensures)
 
 pub find-model-spec : {M : Type 1} → statement M
 find-model-spec =
     tie.close
     (tie.spec
     read-problem-requires
-    at-line-requires
+    sheet-refusal-requires
     returns
     checked-range-requires
     enum-told
-    at-line-requires-2
+    at-line-requires
     enum-known-least
     find-in-requires
     returns-2

@@ -1,5 +1,6 @@
 use mathlib.Core.Path.{sym}
 use Rattle.program.proofs.Inputs.{next-within, high-fault, high-digit}
+use Rattle.theory.specs.Program.{printed}
 use borrow.Author.Needs.{needs}
 use Rattle.program.proofs.respond_from.Statement.{statement}
 use Rattle.program.proofs.respond_from.Tie as tie
@@ -51,6 +52,7 @@ same-length c = search needs
 
 -- src/lib.rt:44:1
 returns : tie.Need-returns
+unfolding printed
 returns c =
     let z = c .before .before .before .before .before .before .before .before .before .before in
     rw (sym (high-fault (z .args .input .now) (z .args .at) (z .args .low) _ (c .before .before .before .before .before .before .digit-line .ensures) (c .before .before .before .before .enum-told .given .1))) (c .before .before .put-refusal .ensures)

@@ -1,14 +1,15 @@
 -- `write_clauses` meets its contract.
 use borrow.Author.Needs.{needs}
-use mathlib.Core.Path.{_≡_, sym, ap, _∙_}
+use mathlib.Core.Path.{_≡_, refl, sym, ap, _∙_}
 use Prim.Native.Nat.{ℕ}
 use lib.ListN.{length}
-use Rattle.theory.specs.Refusals.{atLine, unplaced}
+use Rattle.theory.specs.Refusals.{unplaced}
 use Rattle.theory.specs.Operations.{writtenText}
 use Rattle.syntax.proofs.Sizes.{checked-size, refused-size, size-within}
 use Rattle.problem.specs.Problems.{problemIn}
-use Rattle.problem.proofs.SheetRead.{sheet-accepted, sheet-refused}
+use Rattle.problem.proofs.SheetRead.{sheet-placed, sheet-refused}
 use Rattle.writing.specs.Texts.{textAt}
+use Rattle.answers.specs.Answers.{refusalIn}
 use Rattle.answers.proofs.Answering.{refuses, answers-as}
 use Rattle.writing.proofs.Refusing.{sheet-refusal, size-refusal, sized-text}
 use Rattle.writing.proofs.write_clauses.Statement.{statement}
@@ -17,19 +18,18 @@ use Rattle.writing.proofs.write_clauses.Tie as tie
 read-problem-requires : tie.Need-read-problem-requires
 read-problem-requires c κs = search needs
 
-at-line-requires : tie.Need-at-line-requires
-at-line-requires c κs = search needs
+sheet-refusal-requires : tie.Need-sheet-refusal-requires
+sheet-refusal-requires c κs =
+    let r = c .before .before .read-problem in
+    sheet-refused (c .before .before .before .before .before .args .sheet .now) (r .result) (r .ensures .0) (c .if1 .taken)
 
 returns : tie.Need-returns
 returns c =
     let z = c .before .before .before .before .before .before in
     let sheet = z .args .sheet .now in
     let room = length (z .args .output .now) in
-    let r = c .before .before .before .read-problem in
-    let q = atLine (r .result .fault) (r .result .line) in
-    refuses (writtenText sheet (z .args .size) room) q (c .at-line .result) (z .args .output .now)
-    (sheet-refusal sheet (z .args .size) room q (sheet-refused sheet (r .result) (r .ensures .0) (c .before .if1 .taken)))
-    (c .at-line .ensures)
+    let q = c .sheet-refusal .result in
+    refuses (writtenText sheet (z .args .size) room) (refusalIn q) q (z .args .output .now) (sheet-refusal sheet (z .args .size) room (refusalIn q) (c .sheet-refusal .ensures)) refl
 
 checked-requires : tie.Need-checked-requires
 checked-requires c κs = search needs
@@ -37,8 +37,8 @@ checked-requires c κs = search needs
 enum-told : tie.Need-enum-told
 enum-told c = search needs
 
-at-line-requires-2 : tie.Need-at-line-requires-2
-at-line-requires-2 c κs = search needs
+at-line-requires : tie.Need-at-line-requires
+at-line-requires c κs = search needs
 
 enum-known-s : tie.Need-enum-known-s
 enum-known-s c = search needs
@@ -58,9 +58,9 @@ returns-2 c =
     let room = length (z .args .output .now) in
     let r = c .before .before .before .before .before .before .before .read-problem in
     let no = refused-size (z .args .size) (sym (c .before .before .before .checked .ensures) ∙ c .before .enum-told .given .1) in
-    refuses (writtenText sheet (z .args .size) room) (unplaced 8) (c .at-line2 .result) (z .args .output .now)
-    (size-refusal sheet (z .args .size) room (problemIn sheet (r .result .problem)) (sheet-accepted sheet (r .result) (r .ensures .0) (c .before .before .before .before .before .if1 .left)) no)
-    (c .at-line2 .ensures)
+    refuses (writtenText sheet (z .args .size) room) (unplaced 8) (c .at-line .result) (z .args .output .now)
+    (size-refusal sheet (z .args .size) room (problemIn sheet (r .result .problem)) (sheet-placed sheet (r .result) (r .ensures .0) (c .before .before .before .before .before .if1 .left)) no)
+    (c .at-line .ensures)
 
 same-length : tie.Need-same-length
 same-length c = search needs
@@ -75,7 +75,7 @@ returns-3 c =
     let s = c .before .before .before .before .before .s .given in
     let w = c .before .before .write-at in
     let k = checked-size (z .args .size) (s .0 .0) (sym (c .before .before .before .before .before .before .before .checked .ensures) ∙ s .1) in
-    let t = sized-text sheet (z .args .size) room p (sheet-accepted sheet (r .result) (r .ensures .0) (c .before .before .before .before .before .before .before .before .before .if1 .left)) (k .0) in
+    let t = sized-text sheet (z .args .size) room p (sheet-placed sheet (r .result) (r .ensures .0) (c .before .before .before .before .before .before .before .before .before .if1 .left)) (k .0) in
     let u : writtenText sheet (z .args .size) room ≡ textAt p (s .0 .0 .0) room = t ∙ ap (λ (n : ℕ). textAt p n room) (sym (k .1)) in
     answers-as (writtenText sheet (z .args .size) room) (textAt p (s .0 .0 .0) room) (w .result) (z .args .output .now) _ u (w .ensures)
 
@@ -84,11 +84,11 @@ write-clauses-spec =
     tie.close
     (tie.spec
     read-problem-requires
-    at-line-requires
+    sheet-refusal-requires
     returns
     checked-requires
     enum-told
-    at-line-requires-2
+    at-line-requires
     enum-known-s
     write-at-requires
     returns-2

@@ -35,8 +35,8 @@ table has 1 where it holds and . where it does not.
 
 Where standard error is a terminal, find tells there which size it is at.
 
-A refused sheet, case or TPTP file is told with the refusal's number, what is
-wrong, the line's number and the line; a TPTP file with a mark under the column.
+A refused sheet, case or TPTP file is told with the refusal's number, line and
+column, what is wrong, and the file's line with a mark under the column.
 
 Exit status: 0 found, yes, or printed; 1 none or no; 2 refused or called wrongly.
 ";

@@ -4,8 +4,8 @@ use nesskettle::{Reason, Refusal};
 use std::fmt;
 use std::io::Read;
 
-/// How many bytes of a line are shown.
-const SHOWN: usize = 120;
+/// How many characters of a line are shown.
+const SHOWN: usize = 72;
 
 /// Why there is no answer, for people.
 #[derive(Debug)]
@@ -41,46 +41,32 @@ impl File {
         })
     }
 
-    /// The refusal in words, with this file's line if one is named, and a mark below if a column is.
+    /// The refusal in words, with this file's line and a mark under the column if they are named.
     pub fn refused(&self, refusal: Refusal) -> Failure {
         if refusal.line == 0 {
             return Failure(refusal.to_string());
         }
         let place = format!("  {}:{}: ", self.name, refusal.line);
-        let (before, after) = self.line(refusal.line, refusal.column);
-        let mut told = format!("{refusal}\n{place}{before}{after}");
-        if refusal.column > 0 {
-            let left = place.chars().count() + before.chars().count();
-            told += &format!("\n{}^", " ".repeat(left));
-        }
-        Failure(told)
+        let (before, after) = self.line(&refusal);
+        let left = place.chars().count() + before.len();
+        Failure(format!("{refusal}\n{place}{before}{after}\n{}^", " ".repeat(left)))
     }
 
-    /// The line with this number, shortened, in two parts: what stands before the column, and the rest.
-    fn line(&self, number: u64, column: u64) -> (String, String) {
-        let Some(line) = self.bytes.split_inclusive(|&b| b == b'\n').nth(number as usize - 1) else {
+    /// The faulty line as it is shown, in two parts: what stands before the column, and the rest.
+    fn line(&self, refusal: &Refusal) -> (String, String) {
+        let mut lines = self.bytes.split_inclusive(|&b| b == b'\n');
+        let Some(line) = lines.nth(refusal.line as usize - 1) else {
             return (String::new(), "(the text ends before this line)".to_string());
         };
-        let text = line.strip_suffix(b"\n").unwrap_or(line);
-        let at = (column as usize).saturating_sub(1);
-        // where the column is far out, the part around it is shown
-        let start = if at < SHOWN { 0 } else { at - SHOWN / 2 };
-        let end = text.len().min(start + SHOWN);
-        let less = if start > 0 { ".. " } else { "" };
-        let unended = text.len() == line.len();
-        let more = if end < text.len() {
-            " .."
-        } else if unended && column == 0 {
-            " (no line feed)"
-        } else if unended && at == end {
-            " (the text ends here)"
-        } else {
-            ""
-        };
-        (
-            less.to_string() + &printable(&text[start..at]),
-            printable(&text[at..end]) + more,
-        )
+        let at = refusal.column as usize - 1;
+        let (before, mut after) = around(line.strip_suffix(b"\n").unwrap_or(line), at);
+        if at == line.len() {
+            after += match refusal.reason {
+                Reason::Layout | Reason::BadCase => " (no line feed)",
+                _ => " (the text ends here)",
+            };
+        }
+        (before, after)
     }
 
     /// The digits of a setting file as numbers; blanks between them do not count.
@@ -98,8 +84,35 @@ impl File {
     }
 }
 
-/// The bytes, those escaped that are not printed.
-fn printable(bytes: &[u8]) -> String {
+/// The part of a line around a place that is shown: what stands before the place, and the rest.
+fn around(line: &[u8], at: usize) -> (String, String) {
+    let (before, after) = line.split_at(at);
+    // half of the room for what stands before, or all that the rest leaves
+    let left = shown(before)
+        .len()
+        .min(SHOWN.saturating_sub(shown(after).len()).max(SHOWN / 2));
+    let start = at - fitting(before.iter().rev(), left);
+    let end = at + fitting(after.iter(), SHOWN - left);
+    let less = if start > 0 { ".. " } else { "" };
+    let more = if end < line.len() { " .." } else { "" };
+    (
+        less.to_string() + &shown(&line[start..at]),
+        shown(&line[at..end]) + more,
+    )
+}
+
+/// How many of the bytes are shown in so many characters.
+fn fitting<'a>(bytes: impl Iterator<Item = &'a u8>, characters: usize) -> usize {
+    let widths = bytes.map(|&byte| shown(&[byte]).len());
+    let sums = widths.scan(0, |sum, width| {
+        *sum += width;
+        Some(*sum)
+    });
+    sums.take_while(|&sum| sum <= characters).count()
+}
+
+/// The bytes as characters that are all printed and equally wide: those outside ASCII's printed ones are escaped.
+fn shown(bytes: &[u8]) -> String {
     let shown = |&byte: &u8| match byte {
         b' '..=b'~' => char::from(byte).to_string(),
         _ => byte.escape_ascii().to_string(),

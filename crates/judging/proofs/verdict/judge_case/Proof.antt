@@ -1,28 +1,25 @@
 -- `judge_case` meets its contract: the sheet's refusals, the case's, the verdict.
 use borrow.Author.Needs.{needs}
-use mathlib.Core.Path.{_≡_, sym, ap, _∙_}
+use mathlib.Core.Path.{sym, _∙_}
 use native.Mathlib.Omega.{arith}
-use Rattle.theory.specs.Refusals.{refused, atLine}
 use Rattle.theory.specs.Operations.{judgeAnswer}
 use Rattle.theory.proofs.Answers.{bind-refused}
-use Rattle.answers.specs.Answers.{refusalIn}
 use Rattle.problem.proofs.SheetRead.{sheet-refused}
-use Rattle.judging.proofs.Verdicts.{case-refused, case-judged, cells-lent}
+use Rattle.judging.proofs.Verdicts.{case-refused, refused-so, case-judged, cells-lent}
 use Rattle.judging.proofs.verdict.judge_case.Statement.{statement}
 use Rattle.judging.proofs.verdict.judge_case.Tie as tie
 
 read-problem-requires : tie.Need-read-problem-requires
 read-problem-requires c κs = search needs
 
-at-line-requires : tie.Need-at-line-requires
-at-line-requires c κs = search needs
+sheet-refusal-requires : tie.Need-sheet-refusal-requires
+sheet-refusal-requires c κs =
+    let r = c .before .before .read-problem in
+    sheet-refused (c .before .before .before .before .before .args .sheet .now) (r .result) (r .ensures .0) (c .if1 .taken)
 
 returns : tie.Need-returns
 unfolding judgeAnswer
-returns c =
-    let z = c .before .before .before .before .before .before in
-    let r = c .before .before .before .read-problem in
-    ap refused (c .at-line .ensures) ∙ sym (bind-refused _ _ _ (sheet-refused (z .args .sheet .now) (r .result) (r .ensures .0) (c .before .if1 .taken)))
+returns c = sym (bind-refused _ _ _ (c .sheet-refusal .ensures))
 
 slice-aggregate-read-case : tie.Need-slice-aggregate-read-case
 slice-aggregate-read-case c = search needs
@@ -33,8 +30,12 @@ read-case-requires c κs = let r = c .before .before .before .before .before .re
 enum-known-line : tie.Need-enum-known-line
 enum-known-line c = search needs
 
-at-line-requires-2 : tie.Need-at-line-requires-2
-at-line-requires-2 c κs = search needs
+case-refusal-requires : tie.Need-case-refusal-requires
+case-refusal-requires c κs =
+    let r = c .before .before .before .before .before .before .before .before .before .before .read-problem in
+    let k = c .before .before .before .before .read-case in
+    let ok = c .before .before .before .before .before .before .before .before .if1 .left in
+    (r .ensures .1 ok .readable, case-refused _ _ (r .result) (r .ensures .0) ok _ (k .result) (k .ensures) _ (c .before .line .given .1))
 
 enum-known-size : tie.Need-enum-known-size
 enum-known-size c = search needs
@@ -53,9 +54,7 @@ returns-2 : tie.Need-returns-2
 returns-2 c =
     let r = c .before .before .before .before .before .before .before .before .before .before .before .read-problem in
     let k = c .before .before .before .before .before .read-case in
-    let line = c .before .before .line .given in
-    let e : refusalIn (c .at-line2 .result) ≡ atLine 12 (line .0 .0) = c .at-line2 .ensures in
-    ap refused e ∙ sym (case-refused _ _ (r .result) (r .ensures .0) (c .before .before .before .before .before .before .before .before .before .if1 .left) _ (k .result) (k .ensures) _ (line .1))
+    sym (refused-so _ _ (r .result) (r .ensures .0) (c .before .before .before .before .before .before .before .before .before .if1 .left) _ (k .result) (k .ensures) _ (c .case-refusal .ensures))
 
 returns-3 : tie.Need-returns-3
 returns-3 c =
@@ -68,12 +67,12 @@ judge-case-spec =
     tie.close
     (tie.spec
     read-problem-requires
-    at-line-requires
+    sheet-refusal-requires
     returns
     slice-aggregate-read-case
     read-case-requires
     enum-known-line
-    at-line-requires-2
+    case-refusal-requires
     enum-known-size
     slice-aggregate-judge-cells
     judge-cells-requires

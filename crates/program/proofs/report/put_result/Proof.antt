@@ -1,5 +1,5 @@
 use native.Mathlib.Omega.{arith}
-use Rattle.program.proofs.Results.{was-found, line-small, found-responds, none-responds, refused-responds}
+use Rattle.program.proofs.Results.{was-found, place-small, found-responds, none-responds, refused-responds}
 use borrow.Author.Needs.{needs}
 use Rattle.program.proofs.report.put_result.Statement.{statement}
 use Rattle.program.proofs.report.put_result.Tie as tie
@@ -35,7 +35,7 @@ enum-known-answer-3 c = search needs
 put-refusal-requires : tie.Need-put-refusal-requires
 put-refusal-requires c κs =
     let z = c .before .before .before .before .before in
-    (omega (arith, z .pre .long), line-small (z .args .out .now) (z .args .answer) (z .pre) _ (c .before .before .answer3 .given .1))
+    (omega (arith, z .pre .long), place-small (z .args .out .now) (z .args .answer) (z .pre) _ (c .before .before .answer3 .given .1))
 
 -- src/report.rt:17:1
 same-length : tie.Need-same-length

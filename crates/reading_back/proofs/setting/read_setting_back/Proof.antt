@@ -1,12 +1,14 @@
 -- `read_setting_back` meets its contract: the sheet's refusals, 8, then what the setting says.
 use borrow.Author.Needs.{needs}
 use Prim.Native.Nat.{ℕ}
-use mathlib.Core.Path.{sym, ap, _∙_}
+use mathlib.Core.Path.{refl, sym, ap, _∙_}
 use mathlib.Core.List.{List}
 use lib.ListN.{length}
-use Rattle.theory.specs.Refusals.{Answer, atLine, unplaced}
+use Rattle.theory.specs.Refusals.{Answer, unplaced}
 use Rattle.theory.specs.Operations.{lengthAnswer, outputAfter}
+use Rattle.answers.specs.Answers.{refusalIn}
 use Rattle.answers.proofs.Answering.{refuses}
+use Rattle.problem.proofs.SheetRead.{sheet-refused}
 use Rattle.reading_back.proofs.Answered.{sheet-refusal, sheet-within, size-refusal, size-taken, setting-left}
 use Rattle.reading_back.proofs.setting.read_setting_back.Statement.{statement}
 use Rattle.reading_back.proofs.setting.read_setting_back.Tie as tie
@@ -14,15 +16,16 @@ use Rattle.reading_back.proofs.setting.read_setting_back.Tie as tie
 read-problem-requires : tie.Need-read-problem-requires
 read-problem-requires c κs = search needs
 
-at-line-requires : tie.Need-at-line-requires
-at-line-requires c κs = search needs
+sheet-refusal-requires : tie.Need-sheet-refusal-requires
+sheet-refusal-requires c κs =
+    let r = c .before .before .read-problem in
+    sheet-refused (c .before .before .before .before .before .before .args .sheet .now) (r .result) (r .ensures .0) (c .if1 .taken)
 
 returns : tie.Need-returns
 returns c =
     let a = c .before .before .before .before .before .before .before .args in
-    let r = c .before .before .before .read-problem in
-    refuses _ (atLine (r .result .fault) (r .result .line)) (c .at-line .result) (a .output .now)
-    (sheet-refusal (a .sheet .now) (r .result) (r .ensures .0) (a .size) (a .setting .now) (length (a .output .now)) (c .before .if1 .taken)) (c .at-line .ensures)
+    let q = c .sheet-refusal .result in
+    refuses _ (refusalIn q) q (a .output .now) (sheet-refusal (a .sheet .now) (a .size) (a .setting .now) (length (a .output .now)) (refusalIn q) (c .sheet-refusal .ensures)) refl
 
 checked-requires : tie.Need-checked-requires
 checked-requires c κs = search needs
@@ -30,8 +33,8 @@ checked-requires c κs = search needs
 enum-told : tie.Need-enum-told
 enum-told c = search needs
 
-at-line-requires-2 : tie.Need-at-line-requires-2
-at-line-requires-2 c κs = search needs
+at-line-requires : tie.Need-at-line-requires
+at-line-requires c κs = search needs
 
 enum-known-s : tie.Need-enum-known-s
 enum-known-s c = search needs
@@ -54,8 +57,8 @@ returns-2 c =
     let a = c .before .before .before .before .before .before .before .before .before .before .before .args in
     let r = c .before .before .before .before .before .before .before .read-problem in
     let k = c .before .before .before .checked in
-    refuses _ (unplaced 8) (c .at-line2 .result) (a .output .now)
-    (size-refusal (a .sheet .now) (r .result) (r .ensures .0) (c .before .before .before .before .before .if1 .left) (a .size) (k .result) (k .ensures) (a .setting .now) (length (a .output .now)) (c .before .enum-told .given .1)) (c .at-line2 .ensures)
+    refuses _ (unplaced 8) (c .at-line .result) (a .output .now)
+    (size-refusal (a .sheet .now) (r .result) (r .ensures .0) (c .before .before .before .before .before .if1 .left) (a .size) (k .result) (k .ensures) (a .setting .now) (length (a .output .now)) (c .before .enum-told .given .1)) (c .at-line .ensures)
 
 same-length : tie.Need-same-length
 same-length c = search needs
@@ -75,11 +78,11 @@ read-setting-back-spec =
     tie.close
     (tie.spec
     read-problem-requires
-    at-line-requires
+    sheet-refusal-requires
     returns
     checked-requires
     enum-told
-    at-line-requires-2
+    at-line-requires
     enum-known-s
     write-setting-requires
     returns-2

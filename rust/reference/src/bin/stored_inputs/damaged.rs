@@ -138,10 +138,8 @@ fn sheets() -> Vec<Vec<u8>> {
     ];
     let mut sheets: Vec<Vec<u8>> = changes.iter().map(|(old, new)| damage(old, new)).collect();
     let text = whole();
-    // the sheet's beginnings up to each line's end, with and without it
-    let ends = text.match_indices('\n').map(|(i, _)| i);
-    sheets.extend(ends.flat_map(|i| [text[..i].into(), text[..i + 1].into()]));
-    sheets.push(Vec::new());
+    // the sheet's beginnings
+    sheets.extend((0..text.len()).map(|length| text[..length].into()));
     sheets.push(b"\n".to_vec());
     sheets.push((text.clone() + "\n").into_bytes());
     sheets.push((text.clone() + "clause=\n").into_bytes());
@@ -174,8 +172,12 @@ fn longer() -> Vec<Vec<u8>> {
         full(16_385),
         vec![b'a'; 16_384],
         vec![b'a'; 16_385],
+        // 7: too many literals, too many words, both in either order, too many variables
         words("+ p A", 21),
+        words("+ q A f A", 13),
         words("+ p A", 22),
+        words("+ q A f A", 17),
+        damage("+ = f A a", &format!("+ p {}a", "f ".repeat(10))),
         words("+ p", 2_500),
         words("+ p A", 2_500),
         words("+ p I", 2_500),
@@ -238,10 +240,12 @@ fn cases() -> Vec<Call> {
     let damaged = changes
         .iter()
         .map(|(old, new)| whole.replacen(old, new, 1).into_bytes());
+    let beginnings = (0..whole.len()).map(|length| whole[..length].into());
     let edges = EDGES
         .iter()
         .map(|byte| [b"case=1\nsize=2\na=1\nf=2 ", &[*byte][..], b"\np=1\nq=0 1 1 0\n"].concat());
-    let mut calls: Vec<Call> = damaged.chain(edges).map(|case| judging(&problem, case)).collect();
+    let cases = damaged.chain(beginnings).chain(edges);
+    let mut calls: Vec<Call> = cases.map(|case| judging(&problem, case)).collect();
     calls.push(judging(two_constants(), (0..=255).collect::<Vec<u8>>()));
     calls.push(judging(two_constants(), ""));
     calls.push(judging(two_constants(), vec![b'c'; 20_000]));

@@ -45,7 +45,7 @@ fn main() -> io::Result<()> {
     fs::write(folder.join("stdout"), printed)
 }
 
-/// The first of the stored vectors that the program has room for.
+/// Some of the stored vectors that the program has room for, evenly spread over them.
 fn stored(operation: &str) -> Vec<Call> {
     let vectors = vectors::stored().into_iter();
     let calls = vectors
@@ -71,7 +71,9 @@ fn stored(operation: &str) -> Vec<Call> {
             fits.then(|| vectors::run(&OPERATIONS, &v).expect("the answer is as stored"))?;
             Some(call)
         });
-    calls.take(MOST_STORED).collect()
+    let calls: Vec<Call> = calls.collect();
+    let step = calls.len().div_ceil(MOST_STORED);
+    calls.into_iter().step_by(step).collect()
 }
 
 /// What is printed of a call after its number.

@@ -1,0 +1,13 @@
+pub mod LineWalk
+pub mod KeyBytes
+pub mod ValueBytes
+pub mod CellBytes
+pub mod TableBytes
+pub mod LinesDue
+pub mod WordWalk
+pub mod WordFaults
+pub mod WordPlaces
+pub mod LineColumns
+pub mod SymbolsAgain
+pub mod SheetRefused
+pub mod CaseLines

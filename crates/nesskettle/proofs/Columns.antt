@@ -1,0 +1,140 @@
+-- Columns, of the calls: each refusal is the sheet's, the case's, or one without a place.
+use Prim.Native.Nat.{ℕ, suc}
+use mathlib.Core.Path.{_≡_, refl, sym, ap, _∙_, subst}
+use mathlib.Core.Logic.{_⊎_, inl, inr}
+use mathlib.Core.Bool.{Bool, true, false, _&&_}
+use mathlib.Core.List.{List}
+use native.Mathlib.Omega.{arith}
+use lib.Dec.{leb}
+use lib.ListN.{length}
+use Rattle.theory.specs.PropClauses.{instanceCount, workNeeded}
+use Rattle.theory.specs.Syntax.{Signature}
+use Rattle.theory.specs.Valuation.{isValuation, isFunctional}
+use Rattle.theory.specs.Refusals.{Refusal, Answer, answer, refused, atLine, unplaced, needing, _>>=_, check}
+use Rattle.theory.specs.Problem.{Problem, readProblem}
+use Rattle.theory.specs.CaseText.{caseLength}
+use Rattle.theory.specs.Columns.{sheetColumn, caseColumn, placedProblem, placedCase}
+use Rattle.theory.specs.Operations.{maxSize, maxInstances, isSize, readAnswer, judgeAnswer, contentOf, writtenText, readBackText, Search, found, nothing, findResult, findAnswer}
+use Rattle.theory.specs.LineForms.{LineForm}
+use Rattle.theory.specs.DueLines.{firstLine, fromLine, dueInSheet, sheetSymbols}
+use Rattle.theory.specs.Claims.Columns.{twoOn, twelveOn, ByteBeyondHelp, OverNumber, BadName, WordBeyondHelp, FirstUnknown, OverLimit}
+use Rattle.theory.proofs.Answers.{answer≢refused, refused-inj, unrefused}
+use Rattle.theory.proofs.PlacedReading.{problem-read, plain-case}
+use Rattle.theory.proofs.PlacedRefusals.{refusal-told}
+use Rattle.theory.proofs.CaseRefusals.{case-refusal}
+use Rattle.theory.proofs.Columns.{columns}
+use Rattle.theory.proofs.ColumnsWithin.{within}
+use Rattle.writing.specs.Texts.{clausesText}
+use Rattle.nesskettle.proofs.Leaving.{refused-text}
+use Rattle.nesskettle.specs.Columns.{InSheet, OfTheSheet, OfTheCase, NoPlace, Columns}
+
+-- the sheet's refusal
+module _ (sheet : List ℕ) (q : Refusal) (e : placedProblem sheet ≡ refused q) where
+  told : (n l : ℕ) → q .number ≡ n → q .place .line ≡ l → (readProblem sheet ≡ refused (atLine n l)) × (sheetColumn sheet n l ≡ q .place .column)
+  told n l number line =
+      let t = refusal-told sheet q e in (
+        t .0 ∙ ap (λ (n : ℕ). refused (atLine n (q .place .line))) number ∙ ap (λ (l : ℕ). refused (atLine n l)) line,
+        ap (λ (l : ℕ). sheetColumn sheet n l) (sym line) ∙ ap (λ (n : ℕ). sheetColumn sheet n (q .place .line)) (sym number) ∙ t .1,
+      )
+
+  in-sheet : (l : ℕ) → q .place .line ≡ suc l → InSheet sheet l (q .number) (q .place .column)
+  in-sheet l h =
+      let g : Signature = sheetSymbols sheet in
+      let d : LineForm = dueInSheet sheet l in
+      let t : List ℕ = firstLine (fromLine l sheet) in
+      record {
+        two = λ n. let e = told 2 (suc l) n h in subst (ByteBeyondHelp twoOn sheet l) (e .1) (columns .two sheet l (e .0));
+        three = λ n. let e = told 3 (suc l) n h in subst (OverNumber d t) (e .1) (columns .three sheet l (e .0));
+        four = λ n. let e = told 4 (suc l) n h in subst (BadName sheet l) (e .1) (columns .four sheet l (e .0));
+        five = λ n. let e = told 5 (suc l) n h in subst (FirstUnknown g d t) (e .1) (columns .five sheet l (e .0));
+        six = λ n. let e = told 6 (suc l) n h in subst (WordBeyondHelp g d t) (e .1) (columns .six sheet l (e .0));
+        seven = λ n. let e = told 7 (suc l) n h in subst (OverLimit g d t) (e .1) (columns .seven sheet l (e .0));
+        within = let e = told (q .number) (suc l) refl h in let w = within sheet (q .number) l (e .0) in (omega (arith, e .1, w .0), omega (arith, e .1, w .1));
+      }
+
+  of-the-sheet : OfTheSheet sheet q
+  of-the-sheet = record { lined = in-sheet; unlined = λ h. sym (told (q .number) 0 refl h .1) ∙ columns .unplaced sheet (q .number) }
+
+-- the case's refusal
+of-the-case : (sheet case : List ℕ) (p : Problem) (q : Refusal) → readProblem sheet ≡ answer p → placedCase (p .symbols) case ≡ refused q → OfTheCase sheet case q
+of-the-case sheet case p q read e =
+    let r = plain-case (p .symbols) case q e in
+    let c = case-refusal (p .symbols) case (r .plain) (r .refuses) in
+    let line : c .line ≡ q .place .line = ap (λ (r : Refusal). r .place .line) (sym (c .is)) ∙ ap (λ (r : Refusal). r .place .line) (r .placed) in
+    let column : caseColumn (p .symbols) case (c .line) ≡ q .place .column =
+    ap (λ (r : Refusal). caseColumn (p .symbols) case (r .place .line)) (sym (c .is)) ∙ ap (λ (r : Refusal). r .place .column) (r .placed) in
+    record {
+      problem = p;
+      sheetRead = read;
+      number = sym (ap (λ (r : Refusal). r .number) (r .placed)) ∙ ap (λ (r : Refusal). r .number) (c .is);
+      lined = λ l h.
+          subst (ByteBeyondHelp (twelveOn (p .symbols)) case l) (ap (caseColumn (p .symbols) case) (sym (line ∙ h)) ∙ column)
+          (columns .twelve sheet case p l read (r .refuses ∙ ap refused (c .is) ∙ ap (λ (l : ℕ). refused (atLine 12 l)) (line ∙ h)));
+    }
+
+-- what refuses is the sheet, or a check that names no place
+abbrev Placed : List ℕ → Refusal → Type 0
+Placed sheet q = OfTheSheet sheet q ⊎ NoPlace q
+
+-- a check without a place, and what follows it
+checked : {B : Type 0} (sheet : List ℕ) (b : Bool) (p : Refusal) (k : Unit {0} → Answer B) (q : Refusal) → NoPlace p → (check b p >>= k) ≡ refused q → (k tt ≡ refused q → Placed sheet q) → Placed sheet q
+unfolding _>>=_
+checked sheet true p k q n e f = f e
+checked {B = B} sheet false p k q n e f = inr (subst NoPlace (refused-inj {A = B} p q e) n)
+
+content-placed : (sheet : List ℕ) (size : ℕ) (q : Refusal) → contentOf sheet size ≡ refused q → Placed sheet q
+unfolding contentOf
+content-placed sheet size q e =
+    unrefused (placedProblem sheet) _ q e (λ h. inl (of-the-sheet sheet q h)) λ (p : Problem) _ e₁.
+    checked sheet (isSize size) (unplaced 8) _ q (refl, refl) e₁ λ e₂.
+    checked sheet (leb (instanceCount size (p .symbols) (p .clauses)) maxInstances) (unplaced 9) _ q (refl, refl) e₂ λ e₃. absurd (answer≢refused p q e₃)
+
+write-placed : (sheet : List ℕ) (size room : ℕ) (q : Refusal) → writtenText sheet size room ≡ refused q → Placed sheet q
+unfolding writtenText
+write-placed sheet size room q e =
+    unrefused (contentOf sheet size) _ q e (content-placed sheet size q) λ (p : Problem) _ e₁.
+    checked sheet (leb (length (clausesText p size)) room) (needing 11 (length (clausesText p size))) _ q (refl, refl) e₁ λ e₂. absurd (answer≢refused (clausesText p size) q e₂)
+
+read-back-placed : (sheet : List ℕ) (size : ℕ) (setting : List ℕ) (room : ℕ) (q : Refusal) → readBackText sheet size setting room ≡ refused q → Placed sheet q
+unfolding readBackText
+read-back-placed sheet size setting room q e =
+    unrefused (placedProblem sheet) _ q e (λ h. inl (of-the-sheet sheet q h)) λ (p : Problem) _ e₁.
+    checked sheet (isSize size) (unplaced 8) _ q (refl, refl) e₁ λ e₂.
+    checked sheet (isValuation size (p .symbols) setting) (unplaced 13) _ q (refl, refl) e₂ λ e₃.
+    checked sheet (isFunctional size (p .symbols) setting) (unplaced 14) _ q (refl, refl) e₃ λ e₄.
+    checked sheet (leb (caseLength size (p .symbols)) room) (needing 11 (caseLength size (p .symbols))) _ q (refl, refl) e₄ λ e₅. absurd (answer≢refused _ q e₅)
+
+find-placed : (sheet : List ℕ) (low high work room : ℕ) (q : Refusal) → findResult sheet low high work room ≡ refused q → Placed sheet q
+unfolding findResult
+find-placed sheet low high work room q e =
+    unrefused (placedProblem sheet) _ q e (λ h. inl (of-the-sheet sheet q h)) λ (p : Problem) _ e₁.
+    checked sheet (leb 1 low && leb high maxSize && leb low high) (unplaced 8) _ q (refl, refl) e₁ λ e₂.
+    checked sheet (leb (instanceCount high (p .symbols) (p .clauses)) maxInstances) (unplaced 9) _ q (refl, refl) e₂ λ e₃.
+    checked sheet (leb (workNeeded high (p .symbols) (p .clauses)) work) (needing 10 (workNeeded high (p .symbols) (p .clauses))) _ q (refl, refl) e₃ λ e₄.
+    checked sheet (leb (caseLength high (p .symbols)) room) (needing 11 (caseLength high (p .symbols))) _ q (refl, refl) e₄ λ e₅. absurd (answer≢refused _ q e₅)
+
+read-placed : (sheet : List ℕ) (q : Refusal) → readAnswer sheet ≡ refused q → OfTheSheet sheet q
+unfolding readAnswer
+read-placed sheet q e = unrefused (placedProblem sheet) _ q e (of-the-sheet sheet q) λ (p : Problem) _ e₁. absurd (answer≢refused _ q e₁)
+
+judge-placed : (sheet case : List ℕ) (q : Refusal) → judgeAnswer sheet case ≡ refused q → OfTheSheet sheet q ⊎ OfTheCase sheet case q
+unfolding judgeAnswer
+judge-placed sheet case q e =
+    unrefused (placedProblem sheet) _ q e (λ h. inl (of-the-sheet sheet q h)) λ (p : Problem) h₁ e₁.
+    unrefused (placedCase (p .symbols) case) _ q e₁ (λ h. inr (of-the-case sheet case p q (problem-read sheet p h₁) h)) λ k _ e₂. absurd (answer≢refused _ q e₂)
+
+-- a search whose answer is refused is refused
+search-refused : (a : Answer Search) (q : Refusal) → findAnswer a ≡ refused q → a ≡ refused q
+search-refused (answer (found s t)) q e = absurd (answer≢refused _ q e)
+search-refused (answer (nothing b)) q e = absurd (answer≢refused _ q e)
+search-refused (refused p) q e = ap refused (refused-inj p q e)
+
+pub columns-of-calls : Columns
+columns-of-calls =
+    record {
+      read = λ sheet r c q e. read-placed sheet q (sym (c .answer) ∙ e);
+      judge = λ sheet case r c q e. judge-placed sheet case q (sym (c .answer) ∙ e);
+      write = λ sheet size r output output′ c q e. write-placed sheet size (length output) q (refused-text _ q (sym (c .answer) ∙ e));
+      readBack = λ sheet size setting r output output′ c q e. read-back-placed sheet size setting (length output) q (refused-text _ q (sym (c .answer) ∙ e));
+      find = λ sheet low high r work work′ output output′ c q e. find-placed sheet low high (length work) (length output) q (search-refused _ q (sym (c .answer) ∙ e));
+    }

@@ -1,0 +1,54 @@
+-- Columns, of the calls (document 02, slip 1): where the refusal of a sheet or a case points. What each record says of a column is `theory/specs/Claims/Columns`.
+use Prim.Native.Nat.{ℕ, suc, _≤_}
+use mathlib.Core.Path.{_≡_}
+use mathlib.Core.Logic.{_⊎_}
+use mathlib.Core.List.{List}
+use lib.ListN.{length}
+use Rattle.theory.specs.Refusals.{Refusal, answer, refused}
+use Rattle.theory.specs.Problem.{Problem, readProblem}
+use Rattle.theory.specs.DueLines.{firstLine, fromLine, dueInSheet, sheetSymbols}
+use Rattle.theory.specs.Claims.Columns.{twoOn, twelveOn, ByteBeyondHelp, OverNumber, BadName, WordBeyondHelp, FirstUnknown, OverLimit}
+use Rattle.answers.specs.declared.ReadAnswer.{ReadAnswer}
+use Rattle.answers.specs.declared.JudgeAnswer.{JudgeAnswer}
+use Rattle.answers.specs.declared.WriteAnswer.{WriteAnswer}
+use Rattle.answers.specs.declared.FindAnswer.{FindAnswer}
+use Rattle.answers.specs.Answers.{readIn, judgeIn, lengthIn, findIn}
+use Rattle.answers.specs.Calls.{ReadCall, JudgeCall, WriteCall, ReadBackCall, FindCall}
+
+-- of the column that a sheet's refusal on line l names, the first being line 0
+pub record InSheet (sheet : List ℕ) (l number column : ℕ) : Type 0 where
+  pub two : number ≡ 2 → ByteBeyondHelp twoOn sheet l column
+  pub three : number ≡ 3 → OverNumber (dueInSheet sheet l) (firstLine (fromLine l sheet)) column
+  pub four : number ≡ 4 → BadName sheet l column
+  pub five : number ≡ 5 → FirstUnknown (sheetSymbols sheet) (dueInSheet sheet l) (firstLine (fromLine l sheet)) column
+  pub six : number ≡ 6 → WordBeyondHelp (sheetSymbols sheet) (dueInSheet sheet l) (firstLine (fromLine l sheet)) column
+  pub seven : number ≡ 7 → OverLimit (sheetSymbols sheet) (dueInSheet sheet l) (firstLine (fromLine l sheet)) column
+  -- a byte of the line, or one past its end
+  pub within : (1 ≤ column) × (column ≤ suc (length (firstLine (fromLine l sheet))))
+
+-- a refusal of the sheet: with a line it names a column there, without one it names none
+pub record OfTheSheet (sheet : List ℕ) (q : Refusal) : Type 0 where
+  pub lined : (l : ℕ) → q .place .line ≡ suc l → InSheet sheet l (q .number) (q .place .column)
+  pub unlined : q .place .line ≡ 0 → q .place .column ≡ 0
+
+-- a refusal of the case: 12, on a line of it
+pub record OfTheCase (sheet case : List ℕ) (q : Refusal) : Type 0 where
+  pub problem : Problem
+  pub sheetRead : readProblem sheet ≡ answer problem
+  pub number : q .number ≡ 12
+  pub lined : (l : ℕ) → q .place .line ≡ suc l → ByteBeyondHelp (twelveOn (problem .symbols)) case l (q .place .column)
+
+-- a refusal that names no place
+abbrev pub NoPlace : Refusal → Type 0
+NoPlace q = (q .place .line ≡ 0) × (q .place .column ≡ 0)
+
+-- it holds of every call
+pub record Columns : Type 0 where
+  pub read : (sheet : List ℕ) (r : ReadAnswer) → ReadCall sheet r → (q : Refusal) → readIn r ≡ refused q → OfTheSheet sheet q
+  pub judge : (sheet case : List ℕ) (r : JudgeAnswer) → JudgeCall sheet case r → (q : Refusal) → judgeIn r ≡ refused q → OfTheSheet sheet q ⊎ OfTheCase sheet case q
+  pub write : (sheet : List ℕ) (size : ℕ) (r : WriteAnswer) (output output′ : List ℕ) → WriteCall sheet size r output output′
+      → (q : Refusal) → lengthIn r ≡ refused q → OfTheSheet sheet q ⊎ NoPlace q
+  pub readBack : (sheet : List ℕ) (size : ℕ) (setting : List ℕ) (r : WriteAnswer) (output output′ : List ℕ) → ReadBackCall sheet size setting r output output′
+      → (q : Refusal) → lengthIn r ≡ refused q → OfTheSheet sheet q ⊎ NoPlace q
+  pub find : (sheet : List ℕ) (low high : ℕ) (r : FindAnswer) (work work′ output output′ : List ℕ) → FindCall sheet low high r work work′ output output′
+      → (q : Refusal) → findIn r ≡ refused q → OfTheSheet sheet q ⊎ NoPlace q
