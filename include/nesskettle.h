@@ -31,8 +31,8 @@ enum {
     NK_REFUSED = 0,
 
     NK_READ = 1,    /* nk_read: the sheet is accepted */
-    NK_YES = 1,     /* nk_judge: the case is a model */
-    NK_NO = 2,      /* nk_judge: it is none */
+    NK_YES = 1,     /* nk_judge, nk_explain: the case is a model */
+    NK_NO = 2,      /* nk_judge, nk_explain: it is none */
     NK_WRITTEN = 1, /* nk_write, nk_read_back, nk_from_tptp: the text stands in the output */
     NK_FOUND = 1,   /* nk_find: the least model stands in the output */
     NK_NONE = 2     /* nk_find: no case of a searched size is a model */
@@ -99,6 +99,18 @@ typedef struct {
     uint64_t column;
 } nk_judge_answer;
 
+/* The answer of nk_explain. */
+typedef struct {
+    uint32_t outcome; /* NK_YES, NK_NO or NK_REFUSED */
+    uint32_t reason;
+    uint64_t line;
+    uint64_t column;
+    uint64_t clause;    /* NK_NO: which clause of the sheet fails, counted from 1, */
+    uint64_t count;     /*        how many letters it has, 0 to 8, */
+    uint8_t letters[8]; /*        the letters, 'A' to 'H', in the order in which they first appear in it, */
+    uint8_t values[8];  /*        and the elements that they stand for, numbers from 1 (not digits); 0 past `count` */
+} nk_explain_answer;
+
 /* The answer of nk_write, nk_read_back and nk_from_tptp. */
 typedef struct {
     uint32_t outcome; /* NK_WRITTEN or NK_REFUSED */
@@ -134,6 +146,16 @@ nk_read_answer nk_read(const uint8_t *sheet, size_t sheet_length);
  */
 nk_judge_answer nk_judge(const uint8_t *sheet, size_t sheet_length,
                          const uint8_t *case_, size_t case_length);
+
+/*
+ * Why is this case no model of the sheet? Answers the first clause that fails, in the sheet's order, and the first choice
+ * of elements for its letters under which none of its literals is true. Choices are taken in the order of numbers: the
+ * first is 1 for every letter, and the last letter's element changes fastest. NK_YES exactly where nk_judge answers it.
+ * Lent for writing: nothing.
+ * Refused: as nk_judge, 1 to 7, then 12.
+ */
+nk_explain_answer nk_explain(const uint8_t *sheet, size_t sheet_length,
+                             const uint8_t *case_, size_t case_length);
 
 /*
  * Writes the sheet's clauses at this size as DIMACS text.

@@ -4,6 +4,7 @@
 //! |---|---|
 //! | [`read`] | how many functions, predicates and clauses a sheet has |
 //! | [`judge`] | whether a case is a model of a sheet |
+//! | [`explain`] | why it is none: the first clause that fails, and the first choice of values under which it does |
 //! | [`write`] | a sheet's clauses at a size, as DIMACS text |
 //! | [`read_back`] | the case that a setting of the propositional variables stands for |
 //! | [`find`] | the least model at the smallest size, or that there is none |
@@ -13,13 +14,14 @@
 
 pub mod raw;
 
-pub use nesskettle_answers::{Counts, Operations, Reason, Refusal, Search};
+pub use nesskettle_answers::{Counts, FirstFailure, Operations, Reason, Refusal, Search};
 
 /// The calls below as one value.
 pub const OPERATIONS: Operations = Operations {
     name: "nesskettle",
     read,
     judge,
+    explain,
     write,
     read_back,
     find,
@@ -49,6 +51,20 @@ pub fn judge(sheet: &[u8], case: &[u8]) -> Result<bool, Refusal> {
         0 => Err(refusal(answer.reason, answer.line, answer.column, 0)),
         1 => Ok(true),
         2 => Ok(false),
+        other => unknown_outcome(other),
+    }
+}
+
+/// Why is the case no model of the sheet? Nothing where it is one.
+///
+/// Clauses are taken in the sheet's order, and choices of values with the last letter's fastest.
+pub fn explain(sheet: &[u8], case: &[u8]) -> Result<Option<FirstFailure>, Refusal> {
+    // SAFETY: pointers and lengths are slices'.
+    let answer = unsafe { raw::nk_explain(sheet.as_ptr(), sheet.len(), case.as_ptr(), case.len()) };
+    match answer.outcome {
+        0 => Err(refusal(answer.reason, answer.line, answer.column, 0)),
+        1 => Ok(None),
+        2 => Ok(Some(first_failure(&answer))),
         other => unknown_outcome(other),
     }
 }
@@ -114,6 +130,12 @@ pub fn find(sheet: &[u8], low: u64, high: u64, work: &mut [u32], output: &mut [u
 pub fn from_tptp(text: &[u8], output: &mut [u8]) -> Result<usize, Refusal> {
     // SAFETY: pointers and lengths are slices', and the output is lent to this call alone.
     written(unsafe { raw::nk_from_tptp(text.as_ptr(), text.len(), output.as_mut_ptr(), output.len()) })
+}
+
+fn first_failure(answer: &raw::ExplainAnswer) -> FirstFailure {
+    let letters = answer.letters.iter().map(|&letter| char::from(letter));
+    let choice = letters.zip(answer.values).take(answer.count as usize);
+    FirstFailure::new(answer.clause, choice)
 }
 
 fn written(answer: raw::WriteAnswer) -> Result<usize, Refusal> {

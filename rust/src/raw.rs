@@ -23,6 +23,20 @@ pub struct JudgeAnswer {
     pub column: u64,
 }
 
+/// The answer of [`nk_explain`].
+#[repr(C)]
+#[derive(Clone, Copy, Debug, PartialEq, Eq)]
+pub struct ExplainAnswer {
+    pub outcome: u32,
+    pub reason: u32,
+    pub line: u64,
+    pub column: u64,
+    pub clause: u64,
+    pub count: u64,
+    pub letters: [u8; 8],
+    pub values: [u8; 8],
+}
+
 /// The answer of [`nk_write`], [`nk_read_back`] and [`nk_from_tptp`].
 #[repr(C)]
 #[derive(Clone, Copy, Debug, PartialEq, Eq)]
@@ -51,6 +65,8 @@ extern "C" {
     pub fn nk_read(sheet: *const u8, sheet_length: usize) -> ReadAnswer;
 
     pub fn nk_judge(sheet: *const u8, sheet_length: usize, case: *const u8, case_length: usize) -> JudgeAnswer;
+
+    pub fn nk_explain(sheet: *const u8, sheet_length: usize, case: *const u8, case_length: usize) -> ExplainAnswer;
 
     pub fn nk_write(
         sheet: *const u8,

@@ -72,7 +72,13 @@ fn marks(arguments: &str, input: &str, refused: &str, shown: &str) {
 #[test]
 fn a_refused_sheet_is_marked() {
     let marks = |input: &str, refused: &str, shown: &str| {
-        for verb in ["check -", "find -", "clauses - --size 2", "judge - group-6.case"] {
+        for verb in [
+            "check -",
+            "find -",
+            "clauses - --size 2",
+            "judge - group-6.case",
+            "explain - group-6.case",
+        ] {
             marks(verb, input, refused, shown);
         }
     };
@@ -122,8 +128,95 @@ fn judge() {
 }
 
 #[test]
+fn explain() {
+    prints("explain group.sheet group-6.case", "", 0, "answer=yes\n");
+    prints(
+        "explain two-constants.sheet -",
+        "case=1\nsize=2\na=2\nb=2\n",
+        1,
+        "answer=no\nclause=1\n\n\
+         two-constants.sheet:7: clause=- = a b\n  \
+           - = a b: false, = 2 2 holds\n      \
+               a = 2\n      \
+               b = 2\n",
+    );
+    // one product of the group changed: 2 and 5 give 5
+    let group = include_str!("../data/sheets/group-6.case").replace("2 1 4 3 6 5", "2 1 4 3 5 6");
+    prints(
+        "explain group.sheet -",
+        &group,
+        1,
+        "answer=no\nclause=3\nA=2\nB=3\nC=2\n\n\
+         group.sheet:12: clause=+ = m m A B C m A m B C\n  \
+           + = m m A B C m A m B C: false, = 6 5 does not hold\n      \
+               m A B = m 2 3 = 4\n      \
+               m m A B C = m 4 2 = 6\n      \
+               m B C = m 3 2 = 5\n      \
+               m A m B C = m 2 5 = 5\n",
+    );
+    prints(
+        "explain ../../../examples/both-eyes.sheet ../../../examples/by-hand.case",
+        "",
+        1,
+        "answer=no\nclause=2\nA=3\nB=2\nC=1\n\n\
+         ../../../examples/both-eyes.sheet:15: clause=- more A B - more B C + more A C\n  \
+           - more A B: false, more 3 2 holds\n  \
+           - more B C: false, more 2 1 holds\n  \
+           + more A C: false, more 3 1 does not hold\n",
+    );
+}
+
+/// Every kind of literal, on a sheet with as many symbols as there can be, some named as other things are.
+#[test]
+fn explain_every_kind_of_literal() {
+    let ones = "c1=1\nc2=1\nc3=1\nc4=1\nc5=1\nc6=1\nc7=1\n";
+    let zeros = "p1=0\np2=0\np3=0\np4=0\np5=0\np6=0\np7=0\np8=0\n";
+    let case = format!(
+        "case=1\nsize=2\n{ones}x=2\nf=1 1 1 1 1 2 1 2\nclause=2 1\ny=1 1 2 1\np=1\n\
+         {zeros}z=0 0 0 0 0 0 0 1\ncase=1\nsize=0 1\nq=1 1 0 1\n"
+    );
+    prints(
+        "explain kinds-of-literals.sheet -",
+        &case,
+        1,
+        "answer=no\nclause=2\nH=2\nB=2\n\n\
+         kinds-of-literals.sheet:30: clause=- case + size clause H - z H x B + q y B p f x H clause x - = B x\n  \
+           - case: false, case holds\n  \
+           + size clause H: false, size 1 does not hold\n      \
+               clause H = clause 2 = 1\n  \
+           - z H x B: false, z 2 2 2 holds\n      \
+               x = 2\n  \
+           + q y B p f x H clause x: false, q 2 1 does not hold\n      \
+               p = 1\n      \
+               y B p = y 2 1 = 2\n      \
+               x = 2\n      \
+               clause x = clause 2 = 1\n      \
+               f x H clause x = f 2 2 1 = 1\n  \
+           - = B x: false, = 2 2 holds\n      \
+               x = 2\n",
+    );
+}
+
+#[test]
+fn explain_the_empty_clause() {
+    prints(
+        "explain - group-6.case --tptp",
+        "cnf(holds, axiom, e = a | b = b | inv(X) = m(X, X)).\ncnf(never, axiom, $false).\n",
+        1,
+        "answer=no\nclause=2\n\nthe sheet of standard input:11: clause=\n  (no literal)\n",
+    );
+}
+
+#[test]
 fn a_refused_case_is_marked() {
-    let marks = |input: &str, refused: &str, shown: &str| marks("judge two-constants.sheet -", input, refused, shown);
+    for verb in ["judge", "explain"] {
+        marks_cases(verb);
+    }
+}
+
+fn marks_cases(verb: &str) {
+    let call = format!("{verb} two-constants.sheet -");
+    let marks = |input: &str, refused: &str, shown: &str| marks(&call, input, refused, shown);
     marks("case=1\nsize=9\n", "12, line 2, column 6", "2: size=^9");
     marks("case=1\nsize=2\na=1\tb=2\n", "12, line 3, column 4", "3: a=1^\\tb=2");
     marks(
@@ -266,6 +359,18 @@ fn every_verb_takes_a_tptp_file() {
     let case = "case=1\nsize=1\nboth=1\nleft=1\nright=1\ncap=1\nmore=0\nstop_left=0\nstop_right=1\npatchy_left=0\n\
                 patchy_right=1\n";
     prints(&format!("judge {examples}/both-eyes.p -"), case, 1, "no\n");
+    prints(
+        &format!("explain {examples}/both-eyes.p -"),
+        case,
+        1,
+        &format!(
+            "answer=no\nclause=4\n\n\
+             the sheet of {examples}/both-eyes.p:17: clause=+ more both left\n  \
+               + more both left: false, more 1 1 does not hold\n      \
+                   both = 1\n      \
+                   left = 1\n"
+        ),
+    );
     prints(
         &format!("read-back {examples}/both-eyes.p --size 1 -"),
         "1111 0 0101",

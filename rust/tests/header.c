@@ -38,6 +38,18 @@ int main(void) {
     expect(judged.outcome == NK_REFUSED && judged.reason == NK_BAD_CASE, "a case of size 9 is refused");
     expect(judged.line == 2 && judged.column == 6, "at its size");
 
+    nk_explain_answer explained = nk_explain(sheet, sheet_length, (const uint8_t *)least, strlen(least));
+    expect(explained.outcome == NK_YES && explained.clause == 0 && explained.count == 0, "nothing is wrong with it");
+    static const char ordered[] = "sheet=1\nfuns=0\npreds=1\npred=p/2\nclauses=2\nclause=+ p A A\nclause=+ p B A\n";
+    static const char table[] = "case=1\nsize=2\np=1 1 0 1\n";
+    explained = nk_explain((const uint8_t *)ordered, strlen(ordered), (const uint8_t *)table, strlen(table));
+    expect(explained.outcome == NK_NO && explained.clause == 2 && explained.count == 2, "the second clause fails");
+    expect(memcmp(explained.letters, "BA\0\0\0\0\0", 8) == 0, "B comes first in it");
+    expect(memcmp(explained.values, "\2\1\0\0\0\0\0", 8) == 0, "it fails for 2 and 1");
+    explained = nk_explain((const uint8_t *)ordered, strlen(ordered), (const uint8_t *)table, 14);
+    expect(explained.outcome == NK_REFUSED && explained.reason == NK_BAD_CASE, "a case without a table is refused");
+    expect(explained.line == 3 && explained.column == 1 && explained.clause == 0, "where the table is missing");
+
     nk_write_answer written = nk_write(sheet, sheet_length, 2, output, sizeof output);
     expect(written.outcome == NK_WRITTEN, "the clauses are written");
     expect(text_is(output, written.length, "p cnf 4 6\n1 2 0\n-1 -2 0\n3 4 0\n-3 -4 0\n-3 -1 0\n-4 -2 0\n"),
@@ -68,7 +80,7 @@ int main(void) {
     expect(written.outcome == NK_REFUSED && written.reason == NK_NOT_TPTP, "a missing full stop is refused");
     expect(written.line == 2 && written.column == 22 && written.length == 0, "at the text's end");
 
-    printf("%zu %zu %zu %zu\n", sizeof(nk_read_answer), sizeof(nk_judge_answer), sizeof(nk_write_answer),
-           sizeof(nk_find_answer));
+    printf("%zu %zu %zu %zu %zu\n", sizeof(nk_read_answer), sizeof(nk_judge_answer), sizeof(nk_explain_answer),
+           sizeof(nk_write_answer), sizeof(nk_find_answer));
     return failures;
 }

@@ -1,6 +1,6 @@
 //! `include/nesskettle.h` from C: `header.c` compiles without a warning, calls the library, and has the same layouts.
 
-use nesskettle::raw::{FindAnswer, JudgeAnswer, ReadAnswer, WriteAnswer};
+use nesskettle::raw::{ExplainAnswer, FindAnswer, JudgeAnswer, ReadAnswer, WriteAnswer};
 use std::path::Path;
 use std::process::Command;
 
@@ -23,6 +23,7 @@ fn the_header_fits_the_library() {
     let sizes = [
         size_of::<ReadAnswer>(),
         size_of::<JudgeAnswer>(),
+        size_of::<ExplainAnswer>(),
         size_of::<WriteAnswer>(),
         size_of::<FindAnswer>(),
     ];

@@ -2,15 +2,17 @@
 -- on the calls speak of them.
 use Prim.Native.Nat.{ℕ}
 use mathlib.Core.Path.{_≡_}
+use mathlib.Core.Option.{Option}
 use mathlib.Core.List.{List}
 use lib.ListN.{length}
 use Rattle.theory.specs.Refusals.{Answer}
-use Rattle.theory.specs.Operations.{readAnswer, judgeAnswer, lengthAnswer, outputAfter, writtenText, readBackText, Search, findResult, findAnswer, findWork, findOutput}
+use Rattle.theory.specs.Operations.{readAnswer, judgeAnswer, Reason, explainAnswer, lengthAnswer, outputAfter, writtenText, readBackText, Search, findResult, findAnswer, findWork, findOutput}
 use Rattle.answers.specs.declared.ReadAnswer.{ReadAnswer}
 use Rattle.answers.specs.declared.JudgeAnswer.{JudgeAnswer}
+use Rattle.answers.specs.declared.ExplainAnswer.{ExplainAnswer}
 use Rattle.answers.specs.declared.WriteAnswer.{WriteAnswer}
 use Rattle.answers.specs.declared.FindAnswer.{FindAnswer}
-use Rattle.answers.specs.Answers.{readIn, judgeIn, lengthIn, findIn}
+use Rattle.answers.specs.Answers.{readIn, judgeIn, explainIn, reasonBeside, lengthIn, findIn}
 
 -- Read
 pub record ReadCall (sheet : List ℕ) (r : ReadAnswer) : Type 0 where
@@ -19,6 +21,15 @@ pub record ReadCall (sheet : List ℕ) (r : ReadAnswer) : Type 0 where
 -- Judge
 pub record JudgeCall (sheet case : List ℕ) (r : JudgeAnswer) : Type 0 where
   pub answer : judgeIn r ≡ judgeAnswer sheet case
+
+-- a call that gives this reason or none, or is refused
+pub record ReasoningCall (a : Answer (Option Reason)) (r : ExplainAnswer) : Type 0 where
+  pub answer : explainIn r ≡ a
+  pub beside : r .reason ≡ reasonBeside a
+
+-- Explain
+abbrev pub ExplainCall : List ℕ → List ℕ → ExplainAnswer → Type 0
+ExplainCall sheet case r = ReasoningCall (explainAnswer sheet case) r
 
 -- a call that writes this text, or is refused
 pub record WritingCall (text : Answer (List ℕ)) (r : WriteAnswer) (output output′ : List ℕ) : Type 0 where

@@ -1,7 +1,8 @@
 // What the operations answer: a result, or a numbered refusal. `specs/Answers` gives document 01's number and values for each of them.
+use syntax::limits::Problem;
 ghost use mathlib.Core.Path.{_≡_};
 ghost use Rattle.theory.specs.Refusals as theory;
-ghost use Rattle.answers.specs.Answers.{refusalIn};
+ghost use Rattle.answers.specs.Answers.{refusalIn, unreasoned};
 
 // A refusal: its number, its line and column, each 0 where it is not named, and the needed length with 10 and 11, else 0.
 pub struct Refusal {
@@ -22,6 +23,20 @@ pub enum JudgeAnswer {
     Yes,
     No,
     Refused(Refusal),
+}
+
+// Why a case is no model: a clause, counted from 1, fails where each of its letters, 'A' to 'H', stands for the value beside it, 1 to the size; 0 in the unused places.
+pub struct Reason {
+    pub clause: usize,
+    pub count: usize,
+    pub letters: [u8; Problem::MAX_LETTERS],
+    pub values: [u8; Problem::MAX_LETTERS],
+}
+
+// Explain: Judge's answer, and the reason beside it, since the prover covers no enum that holds an array; without a reason all zeros.
+pub struct ExplainAnswer {
+    pub verdict: JudgeAnswer,
+    pub reason: Reason,
 }
 
 // Write and Read back: the length of the text.
@@ -70,5 +85,20 @@ pub fn needing(number: u8, needed: usize) -> Refusal
         line: 0,
         column: 0,
         needed,
+    }
+}
+
+// An answer without a reason.
+pub fn without_reason(verdict: JudgeAnswer) -> ExplainAnswer
+    ensures { λ r. ⌜ r ≡ unreasoned verdict ⌝ }
+{
+    ExplainAnswer {
+        verdict,
+        reason: Reason {
+            clause: 0,
+            count: 0,
+            letters: [0; Problem::MAX_LETTERS],
+            values: [0; Problem::MAX_LETTERS],
+        },
     }
 }

@@ -1,10 +1,13 @@
 -- The answers as the structs of `include/nesskettle.h`.
 use Prim.Native.Nat.{ℕ}
 use mathlib.Core.Bool.{Bool, true, false, cond}
+use mathlib.Core.Option.{Option, none, some}
 use Rattle.theory.specs.Refusals.{Answer, answer, refused}
-use Rattle.theory.specs.Operations.{Counts, Found, foundCase, noCase}
+use Rattle.theory.specs.Operations.{Counts, Reason, Found, foundCase, noCase}
 use Rattle.exports.specs.declared.ReadOut.{ReadOut}
 use Rattle.exports.specs.declared.JudgeOut.{JudgeOut}
+use Rattle.answers.specs.Answers.{reasonBeside}
+use Rattle.exports.specs.declared.ExplainOut.{ExplainOut}
 use Rattle.exports.specs.declared.WriteOut.{WriteOut}
 use Rattle.exports.specs.declared.FindOut.{FindOut}
 
@@ -18,6 +21,19 @@ abbrev pub judgeOut : Answer Bool → JudgeOut
 judgeOut (answer true) = record { outcome = 1; reason = 0; line = 0; column = 0 }
 judgeOut (answer false) = record { outcome = 2; reason = 0; line = 0; column = 0 }
 judgeOut (refused r) = record { outcome = 0; reason = r .number; line = r .place .line; column = r .place .column }
+
+-- Judge's answer to what Explain answers: yes where there is no reason
+abbrev pub verdictOf : Answer (Option Reason) → Answer Bool
+verdictOf (answer none) = answer true
+verdictOf (answer (some q)) = answer false
+verdictOf (refused r) = refused r
+
+-- Explain: Judge's struct, and behind it the reason byte by byte, all zeros where there is none
+abbrev pub explainOut : Answer (Option Reason) → ExplainOut
+explainOut a =
+    let j = judgeOut (verdictOf a) in
+    let q = reasonBeside a in
+    record { outcome = j .outcome; reason = j .reason; line = j .line; column = j .column; clause = q .clause; count = q .count; letters = q .letters; values = q .values }
 
 -- Write, Read back and From TPTP: outcome 1 and the length; refused, the needed length
 abbrev pub writeOut : Answer ℕ → WriteOut

@@ -1,15 +1,20 @@
 // The operations for C: `include/nesskettle.h` has the declarations. Each answer is a struct of numbers; outcome 0 is always "refused", and a
 // field that an outcome does not speak of is 0.
+use answers::ExplainAnswer;
 use answers::FindAnswer;
 use answers::JudgeAnswer;
 use answers::ReadAnswer;
 use answers::WriteAnswer;
+use syntax::limits::Problem;
 ghost use mathlib.Core.Path.{_≡_};
 ghost use mathlib.Core.Bool.{cond};
+ghost use mathlib.Core.Option.{Option};
 ghost use Rattle.answers.specs.Answers.{readIn, judgeIn, lengthIn, findIn};
+ghost use Rattle.answers.specs.Calls.{ReasoningCall};
+ghost use Rattle.theory.specs.Refusals.{Answer};
 ghost use Rattle.theory.specs.Operations as theory;
 ghost use Rattle.exports.specs.Exported.{FindExport, ReadBackExport, TptpExport, WriteExport};
-ghost use Rattle.exports.specs.Layouts.{readOut, judgeOut, writeOut, findOut};
+ghost use Rattle.exports.specs.Layouts.{readOut, judgeOut, explainOut, writeOut, findOut};
 
 #[repr(C)]
 pub struct ReadOut {
@@ -28,6 +33,18 @@ pub struct JudgeOut {
     pub reason: u32,
     pub line: u64,
     pub column: u64,
+}
+
+#[repr(C)]
+pub struct ExplainOut {
+    pub outcome: u32,
+    pub reason: u32,
+    pub line: u64,
+    pub column: u64,
+    pub clause: u64,
+    pub count: u64,
+    pub letters: [u8; Problem::MAX_LETTERS],
+    pub values: [u8; Problem::MAX_LETTERS],
 }
 
 #[repr(C)]
@@ -111,6 +128,34 @@ fn judge_out(answer: JudgeAnswer) -> JudgeOut
             line: r.line as u64,
             column: r.column as u64,
         },
+    }
+}
+
+#[no_mangle]
+pub extern "C" fn nk_explain(sheet: &[u8], case: &[u8]) -> ExplainOut
+    ensures { λ r. ⌜ r ≡ explainOut (theory.explainAnswer (now (sheet .entry)) (now (case .entry))) ⌝ }
+{
+    explain_out(nesskettle::explain(sheet, case))
+}
+
+// Judge's struct, and the reason behind it.
+fn explain_out(answer: ExplainAnswer) -> ExplainOut
+    ensures { λ r. ⌜ ((a : Answer (Option theory.Reason)) → ReasoningCall a answer → r ≡ explainOut a) ⌝ }
+{
+    let verdict = answer.verdict;
+    let reason = answer.reason;
+    let letters = reason.letters;
+    let values = reason.values;
+    let judged = judge_out(verdict);
+    ExplainOut {
+        outcome: judged.outcome,
+        reason: judged.reason,
+        line: judged.line,
+        column: judged.column,
+        clause: reason.clause as u64,
+        count: reason.count as u64,
+        letters,
+        values,
     }
 }
 

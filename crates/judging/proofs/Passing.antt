@@ -1,7 +1,7 @@
--- Counting through the choices of values: those before the one reached make the clause true.
-use Prim.Native.Nat.{ℕ, zero, suc, _+_, _-_, _%_, _^_, _≤_, _<_}
-use mathlib.Core.Path.{_≡_, refl, sym, ap, _∙_, subst}
-use mathlib.Core.Bool.{Bool, true, false, not}
+-- Counting through the choices of values: the choice of each rank, and the first from there on that passes a test.
+use Prim.Native.Nat.{ℕ, zero, suc, _+_, _%_, _^_, _≤_, _<_}
+use mathlib.Core.Path.{_≡_, refl, ap, _∙_, subst}
+use mathlib.Core.Bool.{Bool, true, false}
 use mathlib.Core.Option.{Option, none, some}
 use mathlib.Core.List.{List, _∷_}
 use native.Mathlib.Nat.{zero-mul, mod-eq-of-lt}
@@ -10,12 +10,8 @@ use lib.ListN.{length, drop, take, replicate, drop-of-length-le}
 use lib.Seq.{length-take-le}
 use Rattle.theory.specs.Lists.{firstThat}
 use Rattle.theory.specs.Vectors.{vectors, rank, AllBelow}
-use Rattle.theory.specs.Truth.{clauseTrue, assign}
-use Rattle.theory.specs.Cells.{interpretation}
 use Rattle.interpretation.specs.declared.vector.ArgumentVector.{ArgumentVector}
 use Rattle.interpretation.specs.Vectors.{digitsIn, firstVector, IsVector, IsNext}
-use Rattle.truth.specs.Values.{Chosen, ClauseLent, lentClause}
-use Rattle.judging.specs.Choices.{failsAt, firstFailing}
 use Rattle.interpretation.proofs.Counting.{length-vectors, drop-vectors}
 
 -- a is the vector of rank i, if there is one
@@ -101,44 +97,3 @@ module _ (s n : ℕ) (a : ArgumentVector) (i : ℕ) (r : Reached s n a i) where
     -- after the last there is none
     pub found-none : s ^ n ≤ i → firstThat p (drop i (vectors s n)) ≡ none
     found-none h = ap (firstThat p) (drop-of-length-le (vectors s n) {i = i} (omega (arith, length-vectors s n)))
-
--- the clause is true under the choices before the one reached
-pub record Passed (words place arities : List ℕ) (functions : List Bool) (bases cells : List ℕ) (s n : ℕ) (a : ArgumentVector) (i : ℕ) : Type 0 where
-  pub reached : Reached s n a i
-  pub rest : (c : ClauseLent words place arities functions bases cells s) → n ≡ length (c .variables) → firstFailing c ≡ firstThat (failsAt c) (drop i (vectors s n))
-
-module _ {words place arities : List ℕ} {functions : List Bool} {bases cells : List ℕ} {s n : ℕ} {a : ArgumentVector} {i : ℕ} (p : Passed words place arities functions bases cells s n a i) where
-  lent : take (n - 0) (a .digits) ≡ digitsIn a
-  lent = let e : n - 0 ≡ a .count = omega (arith, p .reached .count) in ap (λ (m : ℕ). take m (a .digits)) e
-
-  -- the digits, as they are lent, are a choice
-  pub passed-chosen : (xs : List ℕ) → n ≡ length xs → Chosen xs s (take (n - 0) (a .digits))
-  passed-chosen xs e = rw lent (record { counted = reached-length s n a i (p .reached) ∙ e; below = reached-below s n a i (p .reached) })
-
-  module _ (c : ClauseLent words place arities functions bases cells s) (e : n ≡ length (c .variables)) where
-    lent-value : (b : Bool) → b ≡ clauseTrue (interpretation s (c .signature) cells) (assign (c .variables) (take (n - 0) (a .digits))) (lentClause c) → failsAt c (digitsIn a) ≡ not b
-    lent-value b q = sym (ap not (q ∙ ap (λ (v : List ℕ). clauseTrue (interpretation s (c .signature) cells) (assign (c .variables) v) (lentClause c)) lent))
-
-    pub passed-fails : (b : Bool) → i < s ^ n → b ≡ false → b ≡ clauseTrue (interpretation s (c .signature) cells) (assign (c .variables) (take (n - 0) (a .digits))) (lentClause c)
-        → some (digitsIn a) ≡ firstFailing c
-    passed-fails b h z q = sym (p .rest c e ∙ found-here s n a i (p .reached) (failsAt c) h (lent-value b q ∙ ap not z))
-
-    pub passed-none : s ^ n ≤ i → none ≡ firstFailing c
-    passed-none h = sym (p .rest c e ∙ found-none s n a i (p .reached) (failsAt c) h)
-
-  pub passed-next : (b : Bool) (r : ArgumentVector) → length (r .digits) ≡ 10 → i < s ^ n → b ≡ true → IsNext a r
-      → ((c : ClauseLent words place arities functions bases cells s) → n ≡ length (c .variables)
-      → b ≡ clauseTrue (interpretation s (c .signature) cells) (assign (c .variables) (take (n - 0) (a .digits))) (lentClause c))
-      → Passed words place arities functions bases cells s n r (suc i)
-  passed-next b r long h z x q =
-      record {
-        reached = next-reached s n a r i long (p .reached) h x;
-        rest = λ c e. p .rest c e ∙ found-later s n a i (p .reached) (failsAt c) h (lent-value c e b (q c e) ∙ ap not z);
-      }
-
-pub none-passed : (words place arities : List ℕ) (functions : List Bool) (bases cells : List ℕ) (s n : ℕ) (a : ArgumentVector) → 1 ≤ s → s ≤ 8 → n ≤ 10 → a ≡ firstVector n (record { 0 = s }) → Passed words place arities functions bases cells s n a 0
-none-passed words place arities functions bases cells s n a h b l e =
-    record {
-      reached = rw e (first-reached s n h b l);
-      rest = λ c k. ap (λ (m : ℕ). firstThat (failsAt c) (vectors s m)) (sym k);
-    }

@@ -1,3 +1,3 @@
-pub mod Choices
 pub mod Failures
 pub mod Cases
+pub mod Reasons

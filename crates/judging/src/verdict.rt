@@ -1,11 +1,10 @@
 // Judge: whether a case is a model of a sheet.
-use crate::failures::first_failure;
+use crate::failures::case_failure;
 use answers::JudgeAnswer;
 use cases::reading::CaseReading;
 use cases::reading::read_case;
 use columns::case::case_refusal;
 use columns::sheet::sheet_refusal;
-use interpretation::tables::tables_of;
 use problem::sheet::read_problem;
 use syntax::limits::Problem;
 use syntax::size::DomainSize;
@@ -39,10 +38,7 @@ fn judge_cells(sheet: &[u8], p: Problem, cells: &[u8], size: DomainSize) -> Judg
     requires { ⌜ CellsLent (now sheet) p (now cells) (size .0) ⌝ }
     ensures { λ r. ⌜ judgeIn r ≡ answer (isModelIn (now (sheet .entry)) p (now (cells .entry)) (size .0)) ⌝ }
 {
-    let signature = p.signature;
-    let t = tables_of(signature, size);
-    let count = t.cells;
-    let f = first_failure(sheet, p, t, &cells[0..count], size);
+    let f = case_failure(sheet, p, cells, size);
     if f.fails {
         return JudgeAnswer::No;
     }

@@ -24,6 +24,7 @@ use Rattle.theory.proofs.PlacedRefusals.{refusal-told}
 use Rattle.theory.proofs.CaseRefusals.{case-refusal}
 use Rattle.theory.proofs.Columns.{columns}
 use Rattle.theory.proofs.ColumnsWithin.{within}
+use Rattle.theory.proofs.Explaining.{explaining}
 use Rattle.writing.specs.Texts.{clausesText}
 use Rattle.nesskettle.proofs.Leaving.{refused-text}
 use Rattle.nesskettle.specs.Columns.{InSheet, OfTheSheet, OfTheCase, NoPlace, Columns}
@@ -134,6 +135,7 @@ columns-of-calls =
     record {
       read = λ sheet r c q e. read-placed sheet q (sym (c .answer) ∙ e);
       judge = λ sheet case r c q e. judge-placed sheet case q (sym (c .answer) ∙ e);
+      explain = λ sheet case r c q e. judge-placed sheet case q (explaining sheet case .refuses q .0 (sym (c .answer) ∙ e));
       write = λ sheet size r output output′ c q e. write-placed sheet size (length output) q (refused-text _ q (sym (c .answer) ∙ e));
       readBack = λ sheet size setting r output output′ c q e. read-back-placed sheet size setting (length output) q (refused-text _ q (sym (c .answer) ∙ e));
       find = λ sheet low high r work work′ output output′ c q e. find-placed sheet low high (length work) (length output) q (search-refused _ q (sym (c .answer) ∙ e));

@@ -14,7 +14,7 @@ use Rattle.theory.specs.Refusals.{Refusal, Answer, answer, refused, atPlace, un
 use Rattle.theory.specs.Columns.{placedProblem, placedCase}
 use Rattle.theory.specs.SheetText.{sheetText}
 use Rattle.theory.specs.CaseText.{caseLength}
-use Rattle.theory.specs.Operations.{maxSize, maxInstances, isSize, readAnswer, judgeAnswer, lengthAnswer, outputAfter, contentOf, writtenText, readBackText, Search, found, nothing, findResult, findAnswer, findWork, findOutput}
+use Rattle.theory.specs.Operations.{maxSize, maxInstances, isSize, readAnswer, judgeAnswer, explainAnswer, lengthAnswer, outputAfter, contentOf, writtenText, readBackText, Search, found, nothing, findResult, findAnswer, findWork, findOutput}
 use Rattle.theory.proofs.Tests.{leb-true, and-left, and-right, or-left, or-right}
 use Rattle.theory.proofs.Lists.{elem-append, upFrom-elem}
 use Rattle.theory.proofs.Answers.{answer≢refused, refused-inj, unrefused}
@@ -83,6 +83,13 @@ case-within g text q e =
 judge-within : (sheet case : List ℕ) → Within judgeNumbers (judgeAnswer sheet case)
 unfolding judgeAnswer
 judge-within sheet case =
+    then judgeNumbers _ _ (sheet-within (12 ∷ []) sheet) λ p.
+    then judgeNumbers _ _ (case-within (p .symbols) case) λ k. ends judgeNumbers _
+
+-- Explain
+explain-within : (sheet case : List ℕ) → Within judgeNumbers (explainAnswer sheet case)
+unfolding explainAnswer
+explain-within sheet case =
     then judgeNumbers _ _ (sheet-within (12 ∷ []) sheet) λ p.
     then judgeNumbers _ _ (case-within (p .symbols) case) λ k. ends judgeNumbers _
 
@@ -165,6 +172,7 @@ demand1-of-calls =
     record {
       read = λ sheet r c. subst (ResultOr (NumberOf readNumbers)) (sym (c .answer)) (within-result-or readNumbers (readAnswer sheet) (read-within sheet));
       judge = λ sheet case r c. subst (ResultOr (NumberOf judgeNumbers)) (sym (c .answer)) (within-result-or judgeNumbers (judgeAnswer sheet case) (judge-within sheet case));
+      explain = λ sheet case r c. subst (ResultOr (NumberOf judgeNumbers)) (sym (c .answer)) (within-result-or judgeNumbers (explainAnswer sheet case) (explain-within sheet case));
       write = λ sheet size r output output′ c. writing-kept writeNumbers (writtenText sheet size (length output)) r output output′ c (write-within sheet size (length output));
       readBack = λ sheet size setting r output output′ c.
           writing-kept readBackNumbers (readBackText sheet size setting (length output)) r output output′ c (read-back-within sheet size setting (length output));

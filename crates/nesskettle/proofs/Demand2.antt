@@ -36,7 +36,7 @@ said-yes judge.Yes e = refl
 said-yes judge.No e = absurd (true≢false (sym (answer-inj false true e)))
 said-yes (judge.Refused q) e = absurd (answer≢refused true (refusalIn q) (sym e))
 
-said-no : (r : JudgeAnswer) → judgeIn r ≡ answer false → r ≡ judge.No
+pub said-no : (r : JudgeAnswer) → judgeIn r ≡ answer false → r ≡ judge.No
 said-no judge.Yes e = absurd (true≢false (answer-inj true false e))
 said-no judge.No e = refl
 said-no (judge.Refused q) e = absurd (answer≢refused false (refusalIn q) (sym e))

@@ -10,10 +10,11 @@ use Rattle.theory.specs.DueLines.{firstLine, fromLine, dueInSheet, sheetSymbols
 use Rattle.theory.specs.Claims.Columns.{twoOn, twelveOn, ByteBeyondHelp, OverNumber, BadName, WordBeyondHelp, FirstUnknown, OverLimit}
 use Rattle.answers.specs.declared.ReadAnswer.{ReadAnswer}
 use Rattle.answers.specs.declared.JudgeAnswer.{JudgeAnswer}
+use Rattle.answers.specs.declared.ExplainAnswer.{ExplainAnswer}
 use Rattle.answers.specs.declared.WriteAnswer.{WriteAnswer}
 use Rattle.answers.specs.declared.FindAnswer.{FindAnswer}
-use Rattle.answers.specs.Answers.{readIn, judgeIn, lengthIn, findIn}
-use Rattle.answers.specs.Calls.{ReadCall, JudgeCall, WriteCall, ReadBackCall, FindCall}
+use Rattle.answers.specs.Answers.{readIn, judgeIn, explainIn, lengthIn, findIn}
+use Rattle.answers.specs.Calls.{ReadCall, JudgeCall, ExplainCall, WriteCall, ReadBackCall, FindCall}
 
 -- of the column that a sheet's refusal on line l names, the first being line 0
 pub record InSheet (sheet : List ℕ) (l number column : ℕ) : Type 0 where
@@ -46,6 +47,7 @@ NoPlace q = (q .place .line ≡ 0) × (q .place .column ≡ 0)
 pub record Columns : Type 0 where
   pub read : (sheet : List ℕ) (r : ReadAnswer) → ReadCall sheet r → (q : Refusal) → readIn r ≡ refused q → OfTheSheet sheet q
   pub judge : (sheet case : List ℕ) (r : JudgeAnswer) → JudgeCall sheet case r → (q : Refusal) → judgeIn r ≡ refused q → OfTheSheet sheet q ⊎ OfTheCase sheet case q
+  pub explain : (sheet case : List ℕ) (r : ExplainAnswer) → ExplainCall sheet case r → (q : Refusal) → explainIn r ≡ refused q → OfTheSheet sheet q ⊎ OfTheCase sheet case q
   pub write : (sheet : List ℕ) (size : ℕ) (r : WriteAnswer) (output output′ : List ℕ) → WriteCall sheet size r output output′
       → (q : Refusal) → lengthIn r ≡ refused q → OfTheSheet sheet q ⊎ NoPlace q
   pub readBack : (sheet : List ℕ) (size : ℕ) (setting : List ℕ) (r : WriteAnswer) (output output′ : List ℕ) → ReadBackCall sheet size setting r output output′

@@ -8,17 +8,18 @@ use Rattle.theory.specs.Lists.{upFrom, elem}
 use Rattle.theory.specs.Refusals.{Refusal, Answer, answer, refused}
 use Rattle.answers.specs.declared.ReadAnswer.{ReadAnswer}
 use Rattle.answers.specs.declared.JudgeAnswer.{JudgeAnswer}
+use Rattle.answers.specs.declared.ExplainAnswer.{ExplainAnswer}
 use Rattle.answers.specs.declared.WriteAnswer.{WriteAnswer}
 use Rattle.answers.specs.declared.FindAnswer.{FindAnswer}
-use Rattle.answers.specs.Answers.{readIn, judgeIn, lengthIn, findIn}
-use Rattle.answers.specs.Calls.{ReadCall, JudgeCall, WriteCall, ReadBackCall, FindCall}
+use Rattle.answers.specs.Answers.{readIn, judgeIn, explainIn, lengthIn, findIn}
+use Rattle.answers.specs.Calls.{ReadCall, JudgeCall, ExplainCall, WriteCall, ReadBackCall, FindCall}
 use Rattle.importing.specs.Calls.{TptpCall}
 
 -- The numbers that documents 01 and 02 give each operation. Read: 1 to 7
 abbrev pub readNumbers : List ℕ
 readNumbers = upFrom 1 7
 
--- Judge: 1 to 7, and 12
+-- Judge and Explain: 1 to 7, and 12
 abbrev pub judgeNumbers : List ℕ
 judgeNumbers = upFrom 1 7 ++ (12 ∷ [])
 
@@ -51,6 +52,7 @@ ResultOr P (refused q) = P q
 pub record Demand1 : Type 0 where
   pub read : (sheet : List ℕ) (r : ReadAnswer) → ReadCall sheet r → ResultOr (NumberOf readNumbers) (readIn r)
   pub judge : (sheet case : List ℕ) (r : JudgeAnswer) → JudgeCall sheet case r → ResultOr (NumberOf judgeNumbers) (judgeIn r)
+  pub explain : (sheet case : List ℕ) (r : ExplainAnswer) → ExplainCall sheet case r → ResultOr (NumberOf judgeNumbers) (explainIn r)
   pub write : (sheet : List ℕ) (size : ℕ) (r : WriteAnswer) (output output′ : List ℕ) → WriteCall sheet size r output output′
       → ResultOr (λ q. NumberOf writeNumbers q × (output′ ≡ output)) (lengthIn r)
   pub readBack : (sheet : List ℕ) (size : ℕ) (setting : List ℕ) (r : WriteAnswer) (output output′ : List ℕ) → ReadBackCall sheet size setting r output output′

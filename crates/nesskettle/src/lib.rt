@@ -2,19 +2,21 @@
 // ends. A promise is a record of `answers/specs/Calls` (From TPTP's of `importing/specs/Calls`): equations with the definitions of
 // `theory/specs/Operations` and `tptp/specs/Tptp`, where `answers/specs/Answers` says what each answer means. What is lent as `&` cannot
 // change; what is lent as `&mut` is told to the last byte and number. The demands (`specs/Demand1` to `specs/Demand3`) and what is asked of
-// From TPTP (`specs/FromTptp`) are proved of these records.
+// From TPTP (`specs/FromTptp`) and Explain (`specs/Explains`), and where refusals point (`specs/Columns`), are proved of these records.
 mod reading;
 
+use answers::ExplainAnswer;
 use answers::FindAnswer;
 use answers::JudgeAnswer;
 use answers::ReadAnswer;
 use answers::WriteAnswer;
 use finding::find_model;
 use importing::import_clauses;
+use judging::explain::explain_case;
 use judging::verdict::judge_case;
 use reading_back::setting::read_setting_back;
 use writing::write_clauses;
-ghost use Rattle.answers.specs.Calls.{FindCall, JudgeCall, ReadBackCall, ReadCall, WriteCall};
+ghost use Rattle.answers.specs.Calls.{ExplainCall, FindCall, JudgeCall, ReadBackCall, ReadCall, WriteCall};
 ghost use Rattle.importing.specs.Calls.{TptpCall};
 
 // Read: the sheet's counts.
@@ -29,6 +31,13 @@ pub fn judge(sheet: &[u8], case: &[u8]) -> JudgeAnswer
     ensures { λ r. ⌜ JudgeCall (now (sheet .entry)) (now (case .entry)) r ⌝ }
 {
     judge_case(sheet, case)
+}
+
+// Explain: whether the case is a model of the sheet, and where it is none the first clause that fails, with the first choice of values for its letters.
+pub fn explain(sheet: &[u8], case: &[u8]) -> ExplainAnswer
+    ensures { λ r. ⌜ ExplainCall (now (sheet .entry)) (now (case .entry)) r ⌝ }
+{
+    explain_case(sheet, case)
 }
 
 // Write: the clauses of the sheet at a size, as a text at the front of the output.

@@ -4,3 +4,6 @@ pub mod DigitLines
 pub mod Results
 pub mod Searching
 pub mod Inputs
+pub mod CaseStarts
+pub mod ReasonLines
+pub mod Explained

@@ -21,7 +21,7 @@ pub digits : (n : ℕ) → n < 2 ^ 32 → length (decimal n) ≤ 10
 digits n h = decimal-within 9 n (omega arith)
 
 -- a text that was put at the start of the output
-responds : (l l′ : List ℕ) (r : ℕ) (text : List ℕ) → l′ ≡ put l 0 text → r ≡ 0 + length text → Responds text r l l′
+pub responds : (l l′ : List ℕ) (r : ℕ) (text : List ℕ) → l′ ≡ put l 0 text → r ≡ 0 + length text → Responds text r l l′
 responds l l′ r text p n =
     let left : l′ ≡ over text l = p ∙ put-over l text in
     record { counted = n ∙ zero-add (length text); within = omega (arith, n, ap length left, length-append text (drop (length text) l)); left = left }

@@ -1,5 +1,7 @@
-// The finder program's work: its whole output as a function of its input. The program itself (crate `finder`) only reads and prints.
+// The programs' work: the whole output of each as a function of its input, the finder's here, the explainer's in `explaining`. The programs themselves (crates `finder`, `explainer`) only read and print.
 mod digits;
+pub mod explaining;
+mod reasons;
 mod report;
 
 use crate::digits::DigitLine;

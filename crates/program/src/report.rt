@@ -61,7 +61,7 @@ pub fn put_refusal(out: &mut [u8], number: u8, line: usize, column: usize) -> us
 }
 
 // A key and a number.
-fn put_field(out: &mut [u8], at: usize, key: &[u8], n: u32) -> usize
+pub fn put_field(out: &mut [u8], at: usize, key: &[u8], n: u32) -> usize
     requires { ⌜ at + length (now key) + 10 ≤ length (now out) ⌝ }
     ensures written { λ r. ⌜ now (out .exit) ≡ put (now (out .entry)) at (now (key .entry) ++ decimal n) ⌝ }
     ensures place { λ r. ⌜ r ≡ at + length (now (key .entry) ++ decimal n) ⌝ }

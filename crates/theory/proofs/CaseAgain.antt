@@ -94,7 +94,7 @@ module _ (s : ℕ) (f : Symbol) (l : ℕ) where
       cut none c z = bind-refused _ _ (atLine 12 l) (orRefuse-of-none (cutLine u) (atLine 12 l) c)
       cut (some p) c z = value p c (afterKey key (p .0)) refl z
 
-  readTable-line : (t : List ℕ) (r : Refusal) → readTable s f l t ≡ refused r → r .place .line ≡ l
+  pub readTable-line : (t : List ℕ) (r : Refusal) → readTable s f l t ≡ refused r → r .place .line ≡ l
   unfolding readTable
   readTable-line t r e =
       unrefused _ _ r e (λ h. on-line 12 l r (orRefuse-line (cutLine t) (atLine 12 l) r h)) λ (p : Cut) _ e₁.

@@ -44,11 +44,11 @@ distinct-old (y ∷ xs) x h = go (elem x xs) refl (λ k. distinct-old xs x k)
         ∙ ap (λ (l : List ℕ). y ∷ l) (remove-append y (distinct xs) (x ∷ []) ∙ ap (λ (b : Bool). remove y (distinct xs) ++ cond b [] (x ∷ [])) (ap (eqb y) z ∙ eqb-same y) ∙ append-nil (remove y (distinct xs)))
 
 -- no number stands twice
-abbrev once : List ℕ → Bool
+abbrev pub once : List ℕ → Bool
 once [] = true
 once (x ∷ xs) = not (elem x xs) && once xs
 
-remove-removed : (x : ℕ) (xs : List ℕ) → elem x (remove x xs) ≡ false
+pub remove-removed : (x : ℕ) (xs : List ℕ) → elem x (remove x xs) ≡ false
 remove-removed x [] = refl
 remove-removed x (y ∷ xs) = go (eqb x y) refl (remove-removed x xs)
   where
@@ -56,7 +56,7 @@ remove-removed x (y ∷ xs) = go (eqb x y) refl (remove-removed x xs)
     go true e ih = ih
     go false e ih = or-false-join (eqb x y) (elem x (remove x xs)) e ih
 
-remove-elem : (x y : ℕ) (xs : List ℕ) → elem x xs ≡ false → elem x (remove y xs) ≡ false
+pub remove-elem : (x y : ℕ) (xs : List ℕ) → elem x xs ≡ false → elem x (remove y xs) ≡ false
 remove-elem x y [] h = refl
 remove-elem x y (z ∷ xs) h = go (eqb y z) (remove-elem x y xs (or-false-right (eqb x z) (elem x xs) h))
   where
@@ -80,7 +80,7 @@ remove-once x (y ∷ xs) h = go (eqb x y) (remove-once x xs (and-right (not (ele
     go false ih =
         and-join (not (elem y (remove x xs))) (once (remove x xs)) (ap not (remove-elem y x xs (false-of-not (elem y xs) (and-left (not (elem y xs)) (once xs) h)))) ih
 
-distinct-once : (xs : List ℕ) → once (distinct xs) ≡ true
+pub distinct-once : (xs : List ℕ) → once (distinct xs) ≡ true
 distinct-once [] = refl
 distinct-once (x ∷ xs) =
     and-join (not (elem x (remove x (distinct xs)))) (once (remove x (distinct xs))) (ap not (remove-removed x (distinct xs))) (remove-once x (distinct xs) (distinct-once xs))

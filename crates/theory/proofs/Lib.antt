@@ -1,4 +1,6 @@
 pub mod Examples
+pub mod ExplainExamples
+pub mod ExplainerExamples
 pub mod ColumnExamples
 pub mod Tests
 pub mod Lists
@@ -53,8 +55,10 @@ pub mod FindsLeast
 pub mod SheetWords
 pub mod SheetRead
 pub mod SheetRefusals
+pub mod Appearances
+pub mod FirstChoice
+pub mod Explaining
 pub mod CaseRefusals
-pub mod Program
 pub mod LineMatching
 pub mod LineValues
 pub mod LineTexts
@@ -70,7 +74,12 @@ pub mod WordColumns
 pub mod Stopping
 pub mod SheetAgain
 pub mod CaseAgain
+pub mod CasePlaces
 pub mod ByteColumns
 pub mod Columns
+pub mod PlacedCases
+pub mod CutCases
 pub mod ColumnsWithin
 pub mod PlacedRefusals
+pub mod Program
+pub mod Explainer

@@ -1,5 +1,5 @@
 -- A sheet's refusal with its column names one of the first 93 lines, and a column of at most 16,385.
-use Prim.Native.Nat.{ℕ, zero, suc, _+_, _≤_}
+use Prim.Native.Nat.{ℕ, zero, suc, _+_, _≤_, _<_}
 use mathlib.Core.Path.{_≡_, refl, sym, ap, _∙_}
 use mathlib.Core.Bool.{Bool, true, false}
 use mathlib.Core.Option.{Option, none, some}
@@ -13,10 +13,10 @@ use Rattle.theory.specs.Refusals.{Refusal, refused, atLine, unplaced, ch
 use Rattle.theory.specs.Problem.{maxBytes, readProblem}
 use Rattle.theory.specs.DueLines.{cutOr, restOr, firstLine, fromLine}
 use Rattle.theory.specs.Columns.{sheetColumn, placedProblem}
-use Rattle.theory.proofs.Tests.{leb-true}
-use Rattle.theory.proofs.Answers.{unrefused, check-true, answer≢refused, refused-inj}
+use Rattle.theory.proofs.Tests.{leb-true, leb-of-<}
+use Rattle.theory.proofs.Answers.{unrefused, bind-refused, check-true, check-of-false, answer≢refused, refused-inj}
 use Rattle.theory.proofs.Lines.{cut-only}
-use Rattle.theory.proofs.PlacedReading.{plain-problem}
+use Rattle.theory.proofs.PlacedReading.{plain-problem, problem-refused}
 use Rattle.theory.proofs.SheetRefusals.{OfSheet, sheet-refusal}
 use Rattle.theory.proofs.ColumnsWithin.{within}
 
@@ -51,6 +51,13 @@ not-too-long sheet n l e =
     unlined false h =
         let z : _≡_ {A = ℕ} 0 (suc l) = ap (λ (r : Refusal). r .place .line) (refused-inj {A = Unit {0}} (unplaced 1) (atLine n (suc l)) h) in
         omega (arith, z)
+
+-- a sheet that is too long is refused, whatever else it is
+pub too-long : (sheet : List ℕ) → maxBytes < length sheet → placedProblem sheet ≡ refused (unplaced 1)
+unfolding readProblem sheetColumn
+too-long sheet h =
+    problem-refused sheet (unplaced 1)
+    (bind-refused (check (leb (length sheet) maxBytes) (unplaced 1)) _ (unplaced 1) (check-of-false (leb (length sheet) maxBytes) (unplaced 1) (leb-of-< (length sheet) maxBytes h)))
 
 -- a refusal of a sheet is one at its line
 at-its-line : (r : Refusal) → OfSheet r → r ≡ atLine (r .number) (r .place .line)

@@ -14,17 +14,18 @@ use Rattle.theory.specs.Bytes.{bytes, LF, zeroDigit, isDigit}
 use Rattle.theory.specs.Lines.{cutLine, afterKey}
 use Rattle.theory.specs.Refusals.{Refusal, Answer, answer, refused, unplaced, needing, _>>=_, check}
 use Rattle.theory.specs.PropClauses.{instanceCount, workNeeded}
-use Rattle.theory.specs.Problem.{Problem, maxBytes, readProblem}
+use Rattle.theory.specs.Problem.{Problem, maxBytes}
 use Rattle.theory.specs.CaseText.{caseLength}
-use Rattle.theory.specs.Columns.{sheetColumn, placedProblem}
+use Rattle.theory.specs.Columns.{placedProblem}
 use Rattle.theory.specs.Least.{smallestModel}
 use Rattle.theory.specs.Operations.{maxSize, maxInstances, Search, searchOf, findResult}
 use Rattle.theory.specs.Program.{programWork, programOutput, digitOf, _>>?_, digitLine, sized, answered, printed, program}
 use Rattle.theory.specs.Claims.Program.{inputBytes, Program}
-use Rattle.theory.proofs.Tests.{and-left, and-right, leb-true, leb-of-≤, leb-of-<, leb-false, eqb-ne, true-or-false}
+use Rattle.theory.proofs.Tests.{and-left, and-right, leb-true, leb-of-≤, leb-false, eqb-ne, true-or-false}
 use Rattle.theory.proofs.Lines.{inLine, digit-inLine, cut-line, cut-only, after-key, key-only}
-use Rattle.theory.proofs.Answers.{bind-step, bind-refused, unrefused, check-true, check-of-true, check-of-false, refused-inj, answer≢refused}
-use Rattle.theory.proofs.PlacedReading.{problem-read, plain-problem, problem-refused}
+use Rattle.theory.proofs.Answers.{bind-step, bind-refused, unrefused, check-true, check-of-true, refused-inj, answer≢refused}
+use Rattle.theory.proofs.PlacedReading.{problem-read, plain-problem}
+use Rattle.theory.proofs.PlacedRefusals as placed
 use Rattle.theory.proofs.SheetRefusals.{sheet-refusal}
 use Rattle.theory.proofs.CaseLengths.{longest-case}
 
@@ -120,11 +121,8 @@ of-sized low high sheet d =
 
 -- a sheet that is too long is refused, whatever else it is
 too-long : (sheet : List ℕ) (low high work room : ℕ) → maxBytes < length sheet → findResult sheet low high work room ≡ refused (unplaced 1)
-unfolding findResult readProblem sheetColumn
-too-long sheet low high work room h =
-    bind-refused (placedProblem sheet) _ (unplaced 1)
-    (problem-refused sheet (unplaced 1)
-    (bind-refused (check (leb (length sheet) maxBytes) (unplaced 1)) _ (unplaced 1) (check-of-false (leb (length sheet) maxBytes) (unplaced 1) (leb-of-< (length sheet) maxBytes h))))
+unfolding findResult
+too-long sheet low high work room h = bind-refused (placedProblem sheet) _ (unplaced 1) (placed.too-long sheet h)
 
 -- one byte more than the largest sheet is enough of a sheet
 enough : (sheet : List ℕ) (low high work room : ℕ) → findResult (take 16385 sheet) low high work room ≡ findResult sheet low high work room

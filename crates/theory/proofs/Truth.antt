@@ -19,6 +19,10 @@ use Rattle.theory.proofs.Lists.{elem-append, elem-distinct}
 use Rattle.theory.proofs.Vectors.{all-vectors, vectors-all, allBelow-map}
 use Rattle.theory.proofs.Finding.{firstThat-some, firstThat-none, none-firstThat}
 
+-- of the choices under which B = A fails the first is found, the last variable running fastest
+finds-first : failingChoice (record { function = λ f v. 0; relation = λ p v. false }) 3 (record { sign = true; atom = equal (variable 1) (variable 0) } ∷ []) ≡ some (0 ∷ 1 ∷ [])
+finds-first = refl
+
 -- two assignments agree on the variables xs
 abbrev pub Agree : Assignment → Assignment → List ℕ → Type 0
 Agree ρ τ xs = (x : ℕ) → elem x xs ≡ true → ρ x ≡ τ x

@@ -1,5 +1,5 @@
 -- Laws of argument vectors: a test on all of them, and their ranks.
-use Prim.Native.Nat.{ℕ, zero, suc, _+_, _*_, _^_, _/_, _%_, _<_}
+use Prim.Native.Nat.{ℕ, zero, suc, _+_, _*_, _^_, _/_, _%_, _≤_, _<_}
 use mathlib.Core.Path.{_≡_, refl, sym, ap, _∙_, subst}
 use mathlib.Core.Bool.{Bool, true, false, _&&_}
 use mathlib.Core.List.{List, [], _∷_, _++_, map, map-map}
@@ -105,3 +105,7 @@ all→AllBelow s (d ∷ v) h = (ltb-true d s (and-left (ltb d s) (all (λ d. ltb
 pub AllBelow→all : (s : ℕ) (v : List ℕ) → AllBelow s v → all (λ d. ltb d s) v ≡ true
 AllBelow→all s [] b = refl
 AllBelow→all s (d ∷ v) b = and-join (ltb d s) (all (λ d. ltb d s) v) (ltb-of-< d s (b .0)) (AllBelow→all s v (b .1))
+
+pub allBelow-within : (s t : ℕ) (v : List ℕ) → s ≤ t → AllBelow s v → AllBelow t v
+allBelow-within s t [] h b = tt
+allBelow-within s t (d ∷ v) h b = (omega (arith, b .0), allBelow-within s t v h (b .1))

@@ -11,4 +11,6 @@ pub mod Walk
 pub mod Counts
 pub mod SheetRead
 pub mod Columns
+pub mod Explaining
 pub mod Program
+pub mod Explainer

@@ -25,6 +25,9 @@ pub mod Least
 pub mod Walk
 pub mod Operations
 pub mod Program
+pub mod Explainer
 pub mod Examples
 pub mod ColumnExamples
+pub mod ExplainExamples
+pub mod ExplainerExamples
 pub mod Claims

@@ -1,12 +1,13 @@
--- The five operations: what each call answers, and what every lent byte and number is afterwards.
-use Prim.Native.Nat.{ℕ}
+-- The operations: what each call answers, and what every lent byte and number is afterwards.
+use Prim.Native.Nat.{ℕ, suc}
 use mathlib.Core.Bool.{Bool, _&&_}
 use mathlib.Core.Option.{Option, none, some}
-use mathlib.Core.List.{List, _++_}
+use mathlib.Core.List.{List, [], _++_}
 use lib.Dec.{leb}
-use lib.ListN.{length, drop, replicate}
-use Rattle.theory.specs.Syntax.{functions, predicates}
-use Rattle.theory.specs.Cells.{isModel}
+use lib.ListN.{length, getD, drop, replicate}
+use Rattle.theory.specs.Syntax.{functions, predicates, Clause, variables}
+use Rattle.theory.specs.Truth.{Failure}
+use Rattle.theory.specs.Cells.{judged, isModel}
 use Rattle.theory.specs.Propositional.{propCount}
 use Rattle.theory.specs.PropClauses.{propClauses, instanceCount, workNeeded}
 use Rattle.theory.specs.Dimacs.{dimacs}
@@ -56,6 +57,25 @@ judgeAnswer sheet case = do
   p ← placedProblem sheet
   k ← placedCase (p .symbols) case
   answer (isModel (k .size) (p .symbols) (p .clauses) (k .values))
+
+-- Explain: why a case is no model. Clause `clause` of the sheet, counted from 1, fails where its letters stand for these elements, in order.
+-- The letters are the clause's own as written, in order of first appearance, A being 0.
+pub record Reason : Type 0 where
+  pub clause : ℕ
+  pub letters : List ℕ
+  pub values : List ℕ
+
+-- the reason that a failure of these clauses is
+abbrev pub reasonOf : List Clause → Option Failure → Option Reason
+reasonOf cs none = none
+reasonOf cs (some f) = some (record { clause = suc (f .clause); letters = variables (getD cs (f .clause) []); values = f .choice })
+
+-- what Explain answers: the first failure, none exactly if the case is a model
+unfoldable pub explainAnswer : List ℕ → List ℕ → Answer (Option Reason)
+explainAnswer sheet case = do
+  p ← placedProblem sheet
+  k ← placedCase (p .symbols) case
+  answer (reasonOf (p .clauses) (judged (k .size) (p .symbols) (p .clauses) (k .values)))
 
 -- An operation that writes bytes answers the length of its text,
 abbrev pub lengthAnswer : Answer (List ℕ) → Answer ℕ

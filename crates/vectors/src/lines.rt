@@ -2,8 +2,10 @@
 use crate::lending::are_patterned;
 use crate::lending::are_zero;
 use crate::lending::patterned_from;
+use answers::Reason;
 use answers::Refusal;
 use libc::STDOUT_FILENO;
+use syntax::limits::Problem;
 ghost use Prim.Native.Nat.{_<_};
 
 // Texts up to this length are printed whole.
@@ -35,6 +37,30 @@ pub fn counts(functions: usize, predicates: usize, clauses: usize) {
     tell(functions as u64);
     tell(predicates as u64);
     tell(clauses as u64);
+}
+
+// A space and a letter.
+fn letter(l: u8) {
+    let text = [32, l];
+    say(&text);
+}
+
+// The clause that fails, counted from 1, and each of its letters with the value that is chosen for it.
+pub fn failure(reason: Reason) {
+    say(b" no clause");
+    tell(reason.clause as u64);
+    let count = reason.count;
+    let letters = reason.letters;
+    let values = reason.values;
+    let mut i: usize = 0;
+    while i < Problem::MAX_LETTERS {
+        if count <= i {
+            return;
+        }
+        letter(letters[i]);
+        tell(wide(values[i]));
+        i += 1;
+    }
 }
 
 fn wide(b: u8) -> u64

@@ -45,4 +45,5 @@ fn main() {
     run_file(b"read_back", Operation::ReadBack);
     run_file(b"find", Operation::Find);
     run_file(b"from_tptp", Operation::FromTptp);
+    run_file(b"explain", Operation::Explain);
 }

@@ -5,6 +5,7 @@ use crate::lending::pattern_bytes;
 use crate::lending::pattern_numbers;
 use crate::lines::cleared;
 use crate::lines::counts;
+use crate::lines::failure;
 use crate::lines::kept;
 use crate::lines::length;
 use crate::lines::nothing;
@@ -25,6 +26,7 @@ pub enum Operation {
     ReadBack,
     Find,
     FromTptp,
+    Explain,
 }
 
 fn read(sheet: &[u8]) {
@@ -106,6 +108,17 @@ fn from_tptp(clauses: &[u8], output: &mut [u8]) {
     text(answer, output);
 }
 
+fn explain(sheet: &[u8], case: &[u8]) {
+    let answer = nesskettle::explain(sheet, case);
+    let verdict = answer.verdict;
+    match verdict {
+        JudgeAnswer::Yes => say(b" yes"),
+        JudgeAnswer::No => failure(answer.reason),
+        JudgeAnswer::Refused(r) => refusal(r),
+    }
+    say(b"\n");
+}
+
 fn name(operation: Operation) {
     match operation {
         Operation::Read => say(b"read"),
@@ -114,6 +127,7 @@ fn name(operation: Operation) {
         Operation::ReadBack => say(b"read_back"),
         Operation::Find => say(b"find"),
         Operation::FromTptp => say(b"from_tptp"),
+        Operation::Explain => say(b"explain"),
     }
 }
 
@@ -134,6 +148,7 @@ fn answer(
         Operation::ReadBack => read_back(sheet, x.low, beside, output),
         Operation::Find => find(sheet, x.low, x.high, work, output),
         Operation::FromTptp => from_tptp(sheet, output),
+        Operation::Explain => explain(sheet, beside),
     }
 }
 

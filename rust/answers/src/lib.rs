@@ -1,4 +1,4 @@
-//! The answers of the operations: read, judge, write, read back, find, and from TPTP.
+//! The answers of the operations: read, judge, explain, write, read back, find, and from TPTP.
 //!
 //! Each call answers a result or a [`Refusal`]. A refusal has the number that the specification gives it.
 
@@ -159,6 +159,39 @@ pub struct Counts {
     pub clauses: u64,
 }
 
+/// Why a case is no model: the first clause that fails, and the first choice of values under which it does.
+#[derive(Clone, Copy, Debug, PartialEq, Eq)]
+pub struct FirstFailure {
+    /// Which clause of the sheet, counted from 1.
+    pub clause: u64,
+    letters: usize,
+    choice: [(char, u8); FirstFailure::MOST_LETTERS],
+}
+
+impl FirstFailure {
+    /// A clause has the letters A to H at most.
+    const MOST_LETTERS: usize = 8;
+
+    /// The failure of a clause under a choice: its letters, each with its value.
+    pub fn new(clause: u64, choice: impl IntoIterator<Item = (char, u8)>) -> FirstFailure {
+        let mut failure = FirstFailure {
+            clause,
+            letters: 0,
+            choice: Default::default(),
+        };
+        for pair in choice {
+            failure.choice[failure.letters] = pair;
+            failure.letters += 1;
+        }
+        failure
+    }
+
+    /// The clause's own letters in order of first appearance, each with the element, from 1, that it stands for.
+    pub fn choice(&self) -> &[(char, u8)] {
+        &self.choice[..self.letters]
+    }
+}
+
 /// What a search over sizes came to.
 #[derive(Clone, Copy, Debug, PartialEq, Eq)]
 pub enum Search {
@@ -178,6 +211,7 @@ pub struct Operations {
     pub name: &'static str,
     pub read: fn(&[u8]) -> Answer<Counts>,
     pub judge: fn(&[u8], &[u8]) -> Answer<bool>,
+    pub explain: fn(&[u8], &[u8]) -> Answer<Option<FirstFailure>>,
     pub write: fn(&[u8], u64, &mut [u8]) -> Answer<usize>,
     pub read_back: fn(&[u8], u64, &[u8], &mut [u8]) -> Answer<usize>,
     pub find: fn(&[u8], u64, u64, &mut [u32], &mut [u8]) -> Answer<Search>,
@@ -196,6 +230,15 @@ mod tests {
         }
         assert_eq!(Reason::from_number(0), None);
         assert_eq!(Reason::from_number(18), None);
+    }
+
+    #[test]
+    fn a_choice_keeps_its_order() {
+        assert_eq!(FirstFailure::new(3, []).choice(), []);
+        let choice = [('C', 2), ('A', 8), ('B', 1)];
+        assert_eq!(FirstFailure::new(3, choice).choice(), choice);
+        let whole = "HGFEDCBA".chars().zip(1..);
+        assert_eq!(FirstFailure::new(64, whole).choice()[7], ('A', 8));
     }
 
     #[test]

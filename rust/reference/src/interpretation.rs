@@ -2,9 +2,9 @@
 
 use crate::grounding::power;
 use crate::lines::{Line, Lines};
-use crate::problem::Problem;
+use crate::problem::{Problem, LETTERS};
 use crate::syntax::{self, Atom, Literal, Term};
-use crate::{Reason, Refusal};
+use crate::{FirstFailure, Reason, Refusal};
 use std::ops::RangeInclusive;
 
 /// A full table for each symbol, at a size: the values of all cells in line order, as the text writes them.
@@ -54,10 +54,16 @@ impl Interpretation {
         text
     }
 
-    /// Does every clause have a true literal, whichever elements its letters stand for?
-    pub fn is_model(&self, problem: &Problem) -> bool {
+    /// The first clause with no true literal for some elements that its letters stand for, and the first such elements.
+    pub fn first_failure(&self, problem: &Problem) -> Option<FirstFailure> {
         let tables = Tables::new(problem, self);
-        problem.clauses.iter().all(|clause| tables.valid(clause))
+        let mut clauses = (1..).zip(&problem.clauses);
+        clauses.find_map(|(number, clause)| {
+            let letters = syntax::letters(clause);
+            let choice = tables.failing_choice(clause, &letters)?;
+            let pair = |&letter: &usize| (char::from(LETTERS.start() + letter as u8), choice[letter] as u8 + 1);
+            Some(FirstFailure::new(number, letters.iter().map(pair)))
+        })
     }
 }
 
@@ -115,20 +121,20 @@ impl<'a> Tables<'a> {
         }
     }
 
-    /// Is the clause true under every choice?
-    fn valid(&self, clause: &[Literal]) -> bool {
-        let letters = syntax::letters(clause);
+    /// The first choice for these letters, which are the clause's, under which no literal is true.
+    fn failing_choice(&self, clause: &[Literal], letters: &[usize]) -> Option<Choice> {
         let mut choice = [0; 8];
         loop {
             if !clause.iter().any(|literal| self.literal(literal, &choice)) {
-                return false;
+                return Some(choice);
             }
-            if !self.step(&letters, &mut choice) {
-                return true;
+            if !self.step(letters, &mut choice) {
+                return None;
             }
         }
     }
 
+    /// The next choice, the last letter fastest; after the last one all is as in the first.
     fn step(&self, letters: &[usize], choice: &mut Choice) -> bool {
         for &letter in letters.iter().rev() {
             choice[letter] += 1;

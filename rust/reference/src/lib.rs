@@ -15,8 +15,8 @@ mod syntax;
 mod tptp;
 pub mod vectors;
 
-pub use nesskettle_answers::{Counts, Operations, Reason, Refusal, Search};
-pub use program::program;
+pub use nesskettle_answers::{Counts, FirstFailure, Operations, Reason, Refusal, Search};
+pub use program::{explainer, program};
 pub use sheet::sheet_of;
 
 use grounding::{Counted, Numbering};
@@ -33,6 +33,7 @@ pub const OPERATIONS: Operations = Operations {
     name: "reference",
     read,
     judge,
+    explain,
     write,
     read_back,
     find,
@@ -51,9 +52,15 @@ pub fn read(sheet: &[u8]) -> Result<Counts, Refusal> {
 
 /// Is the case a model of the sheet?
 pub fn judge(sheet: &[u8], case: &[u8]) -> Result<bool, Refusal> {
+    Ok(explain(sheet, case)?.is_none())
+}
+
+/// The first clause that is not true in the case, and the first choice of values under which it fails; nothing where the
+/// case is a model of the sheet.
+pub fn explain(sheet: &[u8], case: &[u8]) -> Result<Option<FirstFailure>, Refusal> {
     let problem = Problem::read(sheet)?;
     let interpretation = Interpretation::read(&problem, case)?;
-    Ok(interpretation.is_model(&problem))
+    Ok(interpretation.first_failure(&problem))
 }
 
 /// Writes the sheet's clauses at a size as DIMACS text; the text's length.

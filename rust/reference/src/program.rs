@@ -1,6 +1,6 @@
-//! The finder program as a function from standard input to standard output.
+//! The programs as functions from standard input to standard output.
 
-use crate::{find, Reason, Refusal, Search};
+use crate::{explain, find, Reason, Refusal, Search};
 
 const WORK: usize = 16_000;
 const OUTPUT: usize = 24_902;
@@ -20,12 +20,34 @@ pub fn program(input: &[u8]) -> Vec<u8> {
             let mark = if settled { "yes" } else { "no" };
             format!("answer=none\nsettled={mark}\n").into_bytes()
         }
-        Err(refusal) => {
-            let number = refusal.reason.number();
-            let (line, column) = (refusal.line, refusal.column);
-            format!("answer=refused\nreason={number}\nline={line}\ncolumn={column}\n").into_bytes()
-        }
+        Err(refusal) => refusal_lines(refusal),
     }
+}
+
+/// What the explainer program prints for this input.
+pub fn explainer(input: &[u8]) -> Vec<u8> {
+    let (sheet, case) = input.split_at(start_of_case(input));
+    match explain(sheet, case) {
+        Ok(None) => b"answer=yes\n".to_vec(),
+        Ok(Some(failure)) => {
+            let choice = failure.choice().iter();
+            let values: String = choice.map(|(letter, value)| format!("{letter}={value}\n")).collect();
+            format!("answer=no\nclause={}\n{values}", failure.clause).into_bytes()
+        }
+        Err(refusal) => refusal_lines(refusal),
+    }
+}
+
+fn refusal_lines(refusal: Refusal) -> Vec<u8> {
+    let number = refusal.reason.number();
+    let (line, column) = (refusal.line, refusal.column);
+    format!("answer=refused\nreason={number}\nline={line}\ncolumn={column}\n").into_bytes()
+}
+
+/// Where the first line `case=1` with its LF starts; the input's end if there is none.
+fn start_of_case(input: &[u8]) -> usize {
+    let lines = input.split_inclusive(|&b| b == b'\n');
+    lines.take_while(|&line| line != b"case=1\n").map(<[u8]>::len).sum()
 }
 
 /// The two digit lines and the sheet after them.

@@ -3,7 +3,7 @@
 //! One vector a line: the operation, its inputs, `->`, its answer. Each field is `key=value`; a byte string stands in
 //! double quotes, with `\n`, `\"`, `\\` and `\xHH` in it.
 
-use crate::{Operations, Refusal, Search};
+use crate::{FirstFailure, Operations, Refusal, Search};
 use std::collections::HashMap;
 
 /// The stored vectors.
@@ -14,6 +14,17 @@ pub struct Vector {
     pub operation: String,
     pub inputs: Fields,
     pub answer: Fields,
+}
+
+impl Vector {
+    /// The name of the program whose standard input and output these are; nothing where they are a call's.
+    pub fn program(&self) -> Option<&'static str> {
+        match self.operation.as_str() {
+            "program" => Some("finder"),
+            "explainer" => Some("explainer"),
+            _ => None,
+        }
+    }
 }
 
 /// Fields by key, numbers and byte strings alike as bytes.
@@ -113,6 +124,7 @@ pub fn run(operations: &Operations, vector: &Vector) -> Result<(), String> {
             )
         }),
         "judge" => (operations.judge)(sheet, given.bytes("case")).map(|yes| format!("judged={}", yes_no(yes))),
+        "explain" => (operations.explain)(sheet, given.bytes("case")).map(explained),
         "write" => (operations.write)(sheet, given.number("size"), &mut out).map(|n| format!("length={n}")),
         "read-back" => (operations.read_back)(sheet, given.number("size"), given.bytes("setting"), &mut out)
             .map(|n| format!("length={n}")),
@@ -150,6 +162,9 @@ fn expected(answer: &Fields) -> String {
         "predicates",
         "clauses",
         "judged",
+        "fits",
+        "clause",
+        "choice",
         "settled",
         "found",
         "length",
@@ -157,6 +172,16 @@ fn expected(answer: &Fields) -> String {
     let shown = keys.into_iter().filter(|key| answer.has(key));
     let shown = shown.map(|key| format!("{key}={}", String::from_utf8_lossy(answer.bytes(key))));
     shown.collect::<Vec<_>>().join(" ")
+}
+
+/// The choice as letters, each with its digit after it.
+fn explained(failure: Option<FirstFailure>) -> String {
+    let Some(failure) = failure else {
+        return "fits=yes".to_string();
+    };
+    let choice = failure.choice().iter();
+    let choice: String = choice.map(|(letter, value)| format!("{letter}{value}")).collect();
+    format!("fits=no clause={} choice={choice}", failure.clause)
 }
 
 fn found(search: Search) -> String {

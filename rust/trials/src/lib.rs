@@ -8,3 +8,4 @@ pub mod problems;
 pub mod random;
 pub mod tally;
 pub mod tptp;
+pub mod truth;

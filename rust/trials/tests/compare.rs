@@ -3,7 +3,7 @@
 //! Inputs are generated from fixed seeds. Each test also counts what came out, so that a generator that no longer reaches
 //! a result or a refusal fails.
 
-use nesskettle::raw::{self, FindAnswer, JudgeAnswer, ReadAnswer, WriteAnswer};
+use nesskettle::raw::{self, ExplainAnswer, FindAnswer, JudgeAnswer, ReadAnswer, WriteAnswer};
 use nesskettle_reference::{self as reference, Refusal, Search};
 use nesskettle_trials::buffers::{length_around, Lent};
 use nesskettle_trials::damage::damaged;
@@ -111,6 +111,53 @@ fn check_judge(tally: &mut Tally, sheet: &[u8], case: &[u8]) {
     tally.add(if answer.outcome == 1 { "yes" } else { "no" }, answer.reason);
     let refused = if answer.reason == 12 { case } else { sheet };
     add_place(tally, refused, answer.reason, answer.line, answer.column);
+}
+
+fn check_explain(tally: &mut Tally, sheet: &[u8], case: &[u8]) {
+    let nothing = ExplainAnswer {
+        outcome: 0,
+        reason: 0,
+        line: 0,
+        column: 0,
+        clause: 0,
+        count: 0,
+        letters: [0; 8],
+        values: [0; 8],
+    };
+    let expected = match reference::explain(sheet, case) {
+        Err(refusal) => ExplainAnswer {
+            reason: refusal.reason.number(),
+            line: refusal.line,
+            column: refusal.column,
+            ..nothing
+        },
+        Ok(None) => ExplainAnswer { outcome: 1, ..nothing },
+        Ok(Some(failure)) => {
+            let mut shown = ExplainAnswer {
+                outcome: 2,
+                clause: failure.clause,
+                count: failure.choice().len() as u64,
+                ..nothing
+            };
+            for (i, &(letter, value)) in failure.choice().iter().enumerate() {
+                (shown.letters[i], shown.values[i]) = (letter as u8, value);
+            }
+            shown
+        }
+    };
+    let (lent, lent_case) = (sheet.to_vec(), case.to_vec());
+    let answer = unsafe { raw::nk_explain(lent.as_ptr(), lent.len(), lent_case.as_ptr(), lent_case.len()) };
+    assert_eq!(answer, expected, "explain\n{}\n{}", text(sheet), text(case));
+    assert!(
+        lent == sheet && lent_case == case,
+        "explain changed its inputs\n{}",
+        text(sheet)
+    );
+    let outcome = match (answer.outcome, answer.count) {
+        (1, _) => "yes".to_string(),
+        (_, letters) => format!("no, letters: {letters}"),
+    };
+    tally.add(&outcome, answer.reason);
 }
 
 fn check_write(tally: &mut Tally, sheet: &[u8], size: u64, output_length: usize) {
@@ -340,21 +387,27 @@ fn every_short_input_is_read_alike() {
     tally.covers(2, &["read", "2", "3", "4", "5", "6"]);
 }
 
+/// A sheet and a case, each damaged now and then; some of the cases are models.
+fn sheet_and_case(random: &mut Random) -> (Vec<u8>, Vec<u8>) {
+    let draft = draft(random, &[SMALL, SMALL, BROAD, LONG_CLAUSES]);
+    let sheet = sheet_of(random, &draft, 10);
+    let size = size_of(random, &sheet, 20_000).clamp(1, 9) as usize;
+    let mut case = draft.case(random, size);
+    if random.once_in(4) {
+        case = model(&sheet).unwrap_or(case);
+    }
+    if random.once_in(4) {
+        case = damaged(random, &case);
+    }
+    (sheet, case)
+}
+
 #[test]
 fn cases_are_judged_alike() {
     let mut tally = Tally::default();
     let mut random = Random::new(2);
     for _ in 0..60_000 {
-        let draft = draft(&mut random, &[SMALL, SMALL, BROAD, LONG_CLAUSES]);
-        let sheet = sheet_of(&mut random, &draft, 10);
-        let size = size_of(&mut random, &sheet, 20_000).clamp(1, 9) as usize;
-        let mut case = draft.case(&mut random, size);
-        if random.once_in(4) {
-            case = model(&sheet).unwrap_or(case);
-        }
-        if random.once_in(4) {
-            case = damaged(&mut random, &case);
-        }
+        let (sheet, case) = sheet_and_case(&mut random);
         check_judge(&mut tally, &sheet, &case);
     }
     tally.covers(50, &["yes", "no", "2", "5"]);
@@ -362,22 +415,89 @@ fn cases_are_judged_alike() {
 }
 
 #[test]
-fn every_short_case_is_judged_alike() {
+fn failures_are_explained_alike() {
     let mut tally = Tally::default();
+    let mut random = Random::new(20);
+    for _ in 0..60_000 {
+        let (sheet, case) = sheet_and_case(&mut random);
+        check_explain(&mut tally, &sheet, &case);
+    }
+    tally.covers(50, &["yes", "2", "3", "4", "5", "6", "7", "12"]);
+    tally.covers(
+        50,
+        &["no, letters: 0", "no, letters: 1", "no, letters: 2", "no, letters: 3"],
+    );
+}
+
+/// A clause with up to eight letters in any order, and a case in which it fails under few choices or none.
+fn many_letters(random: &mut Random) -> (Vec<u8>, Vec<u8>) {
+    let words = ["A", "B", "C", "D", "E", "F", "G", "H"];
+    let mut literal = || {
+        format!(
+            "+ t {} {} {}",
+            random.pick(&words),
+            random.pick(&words),
+            random.pick(&words)
+        )
+    };
+    let clause = [literal(), literal(), literal(), literal()].join(" ");
+    let size = random.between(1, 3);
+    let entries: Vec<&str> = (0..size.pow(3))
+        .map(|_| if random.once_in(6) { "0" } else { "1" })
+        .collect();
+    let case = format!("case=1\nsize={size}\nt={}\n", entries.join(" "));
+    (reference::sheet_of(&[], &["t/3"], &[&clause]), case.into_bytes())
+}
+
+#[test]
+fn failures_with_many_letters_are_explained_alike() {
+    let mut tally = Tally::default();
+    let mut random = Random::new(21);
+    for _ in 0..5_000 {
+        let (sheet, case) = many_letters(&mut random);
+        check_explain(&mut tally, &sheet, &case);
+    }
+    tally.covers(
+        50,
+        &[
+            "yes",
+            "no, letters: 5",
+            "no, letters: 6",
+            "no, letters: 7",
+            "no, letters: 8",
+        ],
+    );
+}
+
+/// A sheet, and cases that begin as one of its cases does, with any byte after that and perhaps with the rest of it.
+fn every_short_case(mut check: impl FnMut(&[u8], &[u8])) {
     let sheet = b"sheet=1\nfuns=1\nfun=f/1\npreds=1\npred=p/0\nclauses=1\nclause=+ p - = f A A\n";
     let whole = b"case=1\nsize=2\nf=2 1\np=0\n";
     for length in 0..=whole.len() {
-        check_judge(&mut tally, sheet, &whole[..length]);
+        check(sheet, &whole[..length]);
         for byte in 0..=255 {
             let mut case = whole[..length].to_vec();
             case.push(byte);
-            check_judge(&mut tally, sheet, &case);
+            check(sheet, &case);
             case.extend_from_slice(&whole[(length + 1).min(whole.len())..]);
-            check_judge(&mut tally, sheet, &case);
+            check(sheet, &case);
         }
     }
+}
+
+#[test]
+fn every_short_case_is_judged_alike() {
+    let mut tally = Tally::default();
+    every_short_case(|sheet, case| check_judge(&mut tally, sheet, case));
     tally.covers(2, &["yes", "no"]);
     tally.covers(2, &IN_CASES);
+}
+
+#[test]
+fn every_short_case_is_explained_alike() {
+    let mut tally = Tally::default();
+    every_short_case(|sheet, case| check_explain(&mut tally, sheet, case));
+    tally.covers(2, &["yes", "no, letters: 1", "12"]);
 }
 
 /// A small model of the sheet, if one is found quickly.

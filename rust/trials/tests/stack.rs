@@ -1,7 +1,7 @@
 //! Every call does with 192 kB of stack, also on the deepest terms that a clause of 64 words has, and on TPTP terms of any
 //! depth.
 
-use nesskettle::{find, from_tptp, judge, read, read_back, write, Reason};
+use nesskettle::{explain, find, from_tptp, judge, read, read_back, write, FirstFailure, Reason};
 use nesskettle_reference::sheet_of;
 
 const STACK: usize = 192 * 1024;
@@ -26,6 +26,7 @@ fn the_deepest_terms_are_refused() {
         let mut work = vec![0; 1000];
         assert_eq!(read(&sheet).unwrap_err().reason, Reason::ClauseTooLarge);
         assert_eq!(judge(&sheet, b"").unwrap_err().reason, Reason::ClauseTooLarge);
+        assert_eq!(explain(&sheet, b"").unwrap_err().reason, Reason::ClauseTooLarge);
         assert_eq!(
             write(&sheet, 2, &mut output).unwrap_err().reason,
             Reason::ClauseTooLarge
@@ -47,7 +48,9 @@ fn the_deepest_terms_are_taken() {
     on_a_small_stack(move || {
         let mut output = vec![0; 1_000_000];
         let mut work = vec![0; 1_000_000];
-        assert_eq!(judge(&sheet, b"case=1\nsize=2\nf=1 2\np=0 1\n"), Ok(false));
+        let case = b"case=1\nsize=2\nf=2 1\np=0 1\n";
+        assert_eq!(judge(&sheet, case), Ok(false));
+        assert_eq!(explain(&sheet, case), Ok(Some(FirstFailure::new(1, [('A', 2)]))));
         assert!(write(&sheet, 2, &mut output).is_ok());
         assert!(read_back(&sheet, 1, &[1, 1], &mut output).is_ok());
         assert!(find(&sheet, 1, 2, &mut work, &mut output).is_ok());

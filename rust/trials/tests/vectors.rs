@@ -1,4 +1,4 @@
-//! The proved library answers every stored vector as stored, and so does the finder program.
+//! The proved library answers every stored vector as stored, and so do the programs.
 
 use nesskettle_reference::vectors;
 use std::io::Write;
@@ -8,25 +8,35 @@ use std::process::{Command, Stdio};
 #[test]
 fn the_operations_answer_as_stored() {
     for (line, vector) in (1..).zip(vectors::stored()) {
-        if vector.operation != "program" {
+        if vector.program().is_none() {
             vectors::run(&nesskettle::OPERATIONS, &vector).unwrap_or_else(|e| panic!("vector {line}: {e}"));
         }
     }
 }
 
 #[test]
-fn the_program_prints_as_stored() {
-    let finder = Path::new(env!("CARGO_MANIFEST_DIR")).join("../../target/bin/finder");
-    if !finder.is_file() {
+fn the_finder_prints_as_stored() {
+    prints_as_stored("finder");
+}
+
+#[test]
+fn the_explainer_prints_as_stored() {
+    prints_as_stored("explainer");
+}
+
+fn prints_as_stored(name: &str) {
+    let folder = Path::new(env!("CARGO_MANIFEST_DIR")).join("../../target/bin");
+    let program = folder.join(name);
+    if !program.is_file() {
         eprintln!(
-            "left out: {} is missing (`rt check finder` writes it)",
-            finder.display()
+            "left out: {} is missing (`rt check {name}` writes it)",
+            program.display()
         );
         return;
     }
     for (line, vector) in (1..).zip(vectors::stored()) {
-        if vector.operation == "program" {
-            let printed = run(&finder, vector.inputs.bytes("stdin"));
+        if vector.program() == Some(name) {
+            let printed = run(&program, vector.inputs.bytes("stdin"));
             assert_eq!(printed, vector.answer.bytes("stdout"), "vector {line}");
         }
     }

@@ -2,11 +2,14 @@
 //!
 //! It reads files, lends buffers and prints; every answer is the library's.
 
+mod explain;
 mod find;
 mod options;
 mod report;
 mod room;
+mod symbols;
 mod tables;
+mod values;
 
 use options::{Command, Sheet};
 use report::{Failure, File};
@@ -36,6 +39,7 @@ fn run(command: Command) -> Result<u8, Failure> {
         Command::Tptp { file } => print(&from_tptp(File::read(&file)?)?.bytes),
         Command::Check { sheet } => check(&read_sheet(&sheet)?),
         Command::Judge { sheet, case } => judge(&read_sheet(&sheet)?, &File::read(&case)?),
+        Command::Explain { sheet, case } => explain::explain(&read_sheet(&sheet)?, &File::read(&case)?),
         Command::Clauses { sheet, size } => clauses(&read_sheet(&sheet)?, size),
         Command::ReadBack {
             sheet,
@@ -65,7 +69,10 @@ fn read_sheet(sheet: &Sheet) -> Result<File, Failure> {
 /// are not needed any more.
 fn from_tptp(file: File) -> Result<File, Failure> {
     let sheet = room::text(|output| nesskettle::from_tptp(&file.bytes, output)).map_err(|r| file.refused(r))?;
-    Ok(File { bytes: sheet, ..file })
+    Ok(File {
+        name: format!("the sheet of {}", file.name),
+        bytes: sheet,
+    })
 }
 
 fn check(sheet: &File) -> Result<u8, Failure> {

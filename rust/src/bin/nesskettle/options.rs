@@ -10,6 +10,10 @@ nesskettle: a finite model finder. Every answer is the proved library's.
       prints answer=found and the case, or answer=none and settled=yes or settled=no
   nesskettle judge SHEET CASE
       is the case a model of the sheet? prints yes or no
+  nesskettle explain SHEET CASE
+      why is the case no model? prints answer=no, the first clause that fails, its
+      letters with the first choice of values under which it does, and what its
+      terms and literals come to; or answer=yes
   nesskettle clauses SHEET --size N
       prints the sheet's clauses at a size, as DIMACS text for a SAT solver
   nesskettle read-back SHEET --size N SETTING [--tables]
@@ -38,6 +42,9 @@ Where standard error is a terminal, find tells there which size it is at.
 A refused sheet, case or TPTP file is told with the refusal's number, line and
 column, what is wrong, and the file's line with a mark under the column.
 
+explain counts clauses from 1 in the order of the sheet, and takes choices with
+the last letter of a clause fastest, letters in order of first appearance.
+
 Exit status: 0 found, yes, or printed; 1 none or no; 2 refused or called wrongly.
 ";
 
@@ -59,6 +66,10 @@ pub enum Command {
         sheet: Sheet,
     },
     Judge {
+        sheet: Sheet,
+        case: String,
+    },
+    Explain {
         sheet: Sheet,
         case: String,
     },
@@ -109,6 +120,13 @@ pub fn parse(arguments: impl Iterator<Item = String>) -> Result<Command, Failure
         "judge" => {
             let [sheet, case] = rest.files("SHEET CASE")?;
             Ok(Command::Judge {
+                sheet: sheet_in(sheet),
+                case,
+            })
+        }
+        "explain" => {
+            let [sheet, case] = rest.files("SHEET CASE")?;
+            Ok(Command::Explain {
                 sheet: sheet_in(sheet),
                 case,
             })

@@ -120,7 +120,7 @@ fn shown(bytes: &[u8]) -> String {
     bytes.iter().map(shown).collect()
 }
 
-/// A refusal of Judge: 12 speaks of the case, the others of the sheet.
+/// A refusal of Judge or Explain: 12 speaks of the case, the others of the sheet.
 pub fn judge_refused(refusal: Refusal, sheet: &File, case: &File) -> Failure {
     let file = if refusal.reason == Reason::BadCase { case } else { sheet };
     file.refused(refusal)

@@ -1,5 +1,7 @@
 //! A case as tables that people can read.
 
+use crate::symbols::{symbols, Symbol};
+
 /// A symbol of the sheet with the values that the case gives it.
 struct Table<'a> {
     name: &'a str,
@@ -11,13 +13,8 @@ struct Table<'a> {
 /// The case's tables. Sheet and case are as the library takes and writes them.
 pub fn tables(sheet: &[u8], case: &[u8]) -> String {
     let (sheet, case) = (String::from_utf8_lossy(sheet), String::from_utf8_lossy(case));
-    let mut lines = case.lines().skip(1);
-    let size = lines
-        .next()
-        .and_then(|line| line.strip_prefix("size="))
-        .and_then(|s| s.parse().ok())
-        .unwrap_or(1);
-    let tables: Vec<Table> = sheet.lines().filter_map(declared).zip(lines).map(table).collect();
+    let (size, symbols) = symbols(&sheet, &case);
+    let tables: Vec<Table> = symbols.into_iter().map(table).collect();
     let mut text = String::new();
     for (i, table) in tables.iter().enumerate() {
         let both_single = i > 0 && table.arity == 0 && tables[i - 1].arity == 0;
@@ -29,25 +26,16 @@ pub fn tables(sheet: &[u8], case: &[u8]) -> String {
     text
 }
 
-/// Name, arity and kind of a line that declares a symbol.
-fn declared(line: &str) -> Option<(&str, usize, bool)> {
-    let function = line.strip_prefix("fun=").map(|rest| (rest, false));
-    let (rest, is_predicate) = function.or(line.strip_prefix("pred=").map(|rest| (rest, true)))?;
-    let (name, arity) = rest.rsplit_once('/')?;
-    Some((name, arity.parse().ok()?, is_predicate))
-}
-
-fn table<'a>(((name, arity, is_predicate), line): ((&'a str, usize, bool), &str)) -> Table<'a> {
-    let values = line.split_once('=').map_or("", |(_, values)| values);
+fn table(symbol: Symbol) -> Table {
     let shown = |value: &str| match value {
         "0" => '.',
         _ => value.chars().next().unwrap_or('?'),
     };
     Table {
-        name,
-        arity,
-        is_predicate,
-        values: values.split(' ').map(shown).collect(),
+        name: symbol.name,
+        arity: symbol.arity,
+        is_predicate: symbol.is_predicate,
+        values: symbol.entries.split(' ').map(shown).collect(),
     }
 }
 

@@ -104,10 +104,14 @@ fn read(bench: &Bench) {
     });
 }
 
+/// Judge and Explain on the same cases.
 fn judge(bench: &Bench) {
     let group = sheet("group");
     bench.row("judge, group of 6", 1_000, None, |o| {
         assert_eq!((o.judge)(group, GROUP_CASE), Ok(true))
+    });
+    bench.row("explain, group of 6", 1_000, None, |o| {
+        assert_eq!((o.explain)(group, GROUP_CASE), Ok(None))
     });
     let clause = "+ p A B C + p D E F - = G H + = f G H f H G";
     let sheet = sheet_of(&["f/2"], &["p/3"], &[clause]);
@@ -117,13 +121,13 @@ fn judge(bench: &Bench) {
         values.join(" ")
     };
     let case = format!("case=1\nsize=8\nf={}\np={}\n", values(64, 1, 8), values(512, 0, 1));
-    let choices = 8f64.powi(8) / 1e6;
-    bench.row(
-        "judge, 8 letters at size 8",
-        1,
-        Some((choices, "million choices")),
-        |o| assert_eq!((o.judge)(&sheet, case.as_bytes()), Ok(true)),
-    );
+    let choices = Some((8f64.powi(8) / 1e6, "million choices"));
+    bench.row("judge, 8 letters at size 8", 1, choices, |o| {
+        assert_eq!((o.judge)(&sheet, case.as_bytes()), Ok(true))
+    });
+    bench.row("explain, 8 letters at size 8", 1, choices, |o| {
+        assert_eq!((o.explain)(&sheet, case.as_bytes()), Ok(None))
+    });
 }
 
 fn write(bench: &Bench) {

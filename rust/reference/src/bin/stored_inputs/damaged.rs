@@ -13,7 +13,7 @@ pub fn of(operation: &str) -> Vec<Call> {
     let good = b"case=1\nsize=2\na=1\nb=2\n";
     match operation {
         "read" => sheets().iter().chain(&longer()).map(reading).collect(),
-        "judge" => {
+        "judge" | "explain" => {
             let refused = one_of_each().into_iter().map(|s| judging(s, "case=2\n"));
             refused.chain(cases()).collect()
         }

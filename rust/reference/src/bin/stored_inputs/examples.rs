@@ -12,6 +12,7 @@ pub fn of(operation: &str) -> Vec<Call> {
         "read_back" => read_backs(),
         "find" => finds(),
         "from_tptp" => imports(),
+        "explain" => judges().into_iter().chain(explains()).collect(),
         other => panic!("no operation {other}"),
     }
 }
@@ -142,6 +143,50 @@ fn judges() -> Vec<Call> {
             &eight,
             format!("case=1\nsize=8\nf={}\nr={}\n", values("8"), values("1")),
         ),
+    ]
+}
+
+/// Cases that do not fit, in which a usual mistake shows another clause or choice.
+fn explains() -> Vec<Call> {
+    let one = |clause: &str, size: usize, table: &str| {
+        let sheet = sheet_of(&["f/1"], &["r/2"], &[clause]);
+        let successors: Vec<String> = (0..size).map(|d| ((d + 1) % size + 1).to_string()).collect();
+        judging(
+            sheet,
+            format!("case=1\nsize={size}\nf={}\nr={table}\n", successors.join(" ")),
+        )
+    };
+    let ones = |count: usize| vec!["1"; count].join(" ");
+    let all_but_last = |count: usize| ones(count - 1) + " 0";
+    let several = |clauses: &[&str]| judging(sheet_of(&[], &["p/1"], clauses), "case=1\nsize=3\np=0 1 0\n");
+    let last_of_many = [&["+ p A - p A"; 63][..], &["- p B"]].concat();
+    vec![
+        // letters in order of first appearance, as written, the last one fastest
+        one("+ r A B", 2, "1 0 0 1"),
+        one("+ r B A", 2, "1 0 0 1"),
+        one("+ r B A", 2, "1 1 0 1"),
+        one("+ r H A + r A H", 3, "1 1 0 1 1 1 0 1 1"),
+        one("+ r C C", 3, "1 0 0 0 1 0 0 0 0"),
+        one("+ r A B + r C D", 2, "1 1 0 1"),
+        one("+ r D C + r B A", 2, "1 1 0 1"),
+        // equalities of letters, turned and merged by steps 1 and 2, not here
+        one("- = A B", 3, &ones(9)),
+        one("- = B A + = A C", 3, &ones(9)),
+        one("+ = A f B", 3, &ones(9)),
+        one("- = C f B - r B A", 3, &ones(9)),
+        // letters inside of terms, and one that the value does not depend on
+        one("- r f f B f A", 3, "0 0 0 0 1 0 0 0 0"),
+        one("- = A A - = B f f f B", 3, &ones(9)),
+        one("- = B f f f B - = A A", 3, &ones(9)),
+        // eight letters: the last of their choices, and one in the middle
+        one("+ r A B + r C D + r E F + r G H", 3, &all_but_last(9)),
+        one("+ r H G + r F E + r D C + r B A", 2, "1 0 1 1"),
+        // the first of several clauses, though a later one fails sooner
+        several(&["- p A", "+ p A"]),
+        several(&["+ p A - p A", "- p B", ""]),
+        several(&["+ p A - p A", "- p B + p B", "", "+ p A"]),
+        several(&["+ p A + = A B"]),
+        several(&last_of_many),
     ]
 }
 

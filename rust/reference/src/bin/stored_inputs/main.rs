@@ -11,7 +11,8 @@ mod examples;
 
 use calls::Call;
 use nesskettle_reference::vectors::{self, patterned_bytes, patterned_numbers};
-use nesskettle_reference::{find, from_tptp, judge, read, read_back, write, Refusal, Search, OPERATIONS};
+use nesskettle_reference::{explain, find, from_tptp, judge, read, read_back, write};
+use nesskettle_reference::{FirstFailure, Refusal, Search, OPERATIONS};
 use std::path::Path;
 use std::{fs, io};
 
@@ -26,7 +27,7 @@ const MOST_SHEET: usize = 700;
 fn main() -> io::Result<()> {
     let folder = Path::new(env!("CARGO_MANIFEST_DIR")).join("../../crates/vectors");
     let mut printed = Vec::new();
-    for operation in ["read", "judge", "write", "read_back", "find", "from_tptp"] {
+    for operation in ["read", "judge", "write", "read_back", "find", "from_tptp", "explain"] {
         let mut inputs = examples::of(operation);
         inputs.extend(damaged::of(operation));
         inputs.extend(stored(operation));
@@ -88,6 +89,7 @@ fn answer(operation: &str, call: &Call) -> Vec<u8> {
             return line(read(sheet).map_or_else(refusal, told));
         }
         "judge" => return line(judge(sheet, beside).map_or_else(refusal, |yes| format!(" {}", yes_no(yes)))),
+        "explain" => return line(explain(sheet, beside).map_or_else(refusal, explained)),
         "write" => write(sheet, call.low, &mut output).map(|length| (String::new(), length)),
         "read_back" => read_back(sheet, call.low, beside, &mut output).map(|length| (String::new(), length)),
         "from_tptp" => from_tptp(sheet, &mut output).map(|length| (String::new(), length)),
@@ -136,6 +138,15 @@ fn told_refused(says: &str) -> bool {
 fn line(mut says: String) -> Vec<u8> {
     says.push('\n');
     says.into_bytes()
+}
+
+fn explained(failure: Option<FirstFailure>) -> String {
+    let Some(failure) = failure else {
+        return " yes".to_string();
+    };
+    let choice = failure.choice().iter();
+    let choice: String = choice.map(|(letter, value)| format!(" {letter} {value}")).collect();
+    format!(" no clause {}{choice}", failure.clause)
 }
 
 fn found(search: Search) -> (String, usize) {
