@@ -33,7 +33,7 @@ enum {
     NK_READ = 1,    /* nk_read: the sheet is accepted */
     NK_YES = 1,     /* nk_judge, nk_explain: the case is a model */
     NK_NO = 2,      /* nk_judge, nk_explain: it is none */
-    NK_WRITTEN = 1, /* nk_write, nk_read_back, nk_from_tptp: the text stands in the output */
+    NK_WRITTEN = 1, /* nk_write, nk_read_back, nk_setting, nk_from_tptp: what is written stands in the output */
     NK_FOUND = 1,   /* nk_find: the least model stands in the output */
     NK_NONE = 2     /* nk_find: no case of a searched size is a model */
 };
@@ -111,13 +111,13 @@ typedef struct {
     uint8_t values[8];  /*        and the elements that they stand for, numbers from 1 (not digits); 0 past `count` */
 } nk_explain_answer;
 
-/* The answer of nk_write, nk_read_back and nk_from_tptp. */
+/* The answer of nk_write, nk_read_back, nk_setting and nk_from_tptp. */
 typedef struct {
     uint32_t outcome; /* NK_WRITTEN or NK_REFUSED */
     uint32_t reason;
     uint64_t line;
     uint64_t column;
-    uint64_t length; /* NK_WRITTEN: the text's length; refused 11: the length that is needed */
+    uint64_t length; /* NK_WRITTEN: how many bytes are written; refused 11: how many are needed */
 } nk_write_answer;
 
 /* The answer of nk_find. */
@@ -175,6 +175,19 @@ nk_write_answer nk_write(const uint8_t *sheet, size_t sheet_length, uint64_t siz
 nk_write_answer nk_read_back(const uint8_t *sheet, size_t sheet_length, uint64_t size,
                              const uint8_t *setting, size_t setting_length,
                              uint8_t *output, size_t output_length);
+
+/*
+ * The other way of nk_read_back: writes the setting of a case, at the case's own size. Of the variables of a function cell
+ * the one of its value is 1, the others are 0; a predicate cell's variable is its value. nk_read_back of the setting, at
+ * that size, writes the same case. The case need not be a model: the setting satisfies the clauses that nk_write writes at
+ * that size exactly if it is one.
+ * Afterwards the output's first `length` bytes are the setting, each the number 0 or 1; the bytes after it are as they
+ * were.
+ * Refused: as nk_judge, 1 to 7, then 12; then 11; every byte of the output is then as it was.
+ */
+nk_write_answer nk_setting(const uint8_t *sheet, size_t sheet_length,
+                           const uint8_t *case_, size_t case_length,
+                           uint8_t *output, size_t output_length);
 
 /*
  * Searches the sizes low, low + 1, .., high for a model, and answers the least one at the smallest size that has one,

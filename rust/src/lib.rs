@@ -7,6 +7,7 @@
 //! | [`explain`] | why it is none: the first clause that fails, and the first choice of values under which it does |
 //! | [`write`] | a sheet's clauses at a size, as DIMACS text |
 //! | [`read_back`] | the case that a setting of the propositional variables stands for |
+//! | [`setting`] | the setting of a case, the other way of [`read_back`] |
 //! | [`find`] | the least model at the smallest size, or that there is none |
 //! | [`from_tptp`] | the sheet that a file of TPTP clauses is read into |
 //!
@@ -24,6 +25,7 @@ pub const OPERATIONS: Operations = Operations {
     explain,
     write,
     read_back,
+    setting,
     find,
     from_tptp,
 };
@@ -87,6 +89,24 @@ pub fn read_back(sheet: &[u8], size: u64, setting: &[u8], output: &mut [u8]) -> 
             size,
             setting.as_ptr(),
             setting.len(),
+            output.as_mut_ptr(),
+            output.len(),
+        )
+    })
+}
+
+/// Writes the setting of a case at its own size and answers its length. The bytes after it are unchanged.
+///
+/// The setting has one byte, 0 or 1, for each propositional variable, and [`read_back`] of it gives the case. The case need
+/// not be a model.
+pub fn setting(sheet: &[u8], case: &[u8], output: &mut [u8]) -> Result<usize, Refusal> {
+    // SAFETY: pointers and lengths are slices', and the output is lent to this call alone.
+    written(unsafe {
+        raw::nk_setting(
+            sheet.as_ptr(),
+            sheet.len(),
+            case.as_ptr(),
+            case.len(),
             output.as_mut_ptr(),
             output.len(),
         )

@@ -37,7 +37,7 @@ pub struct ExplainAnswer {
     pub values: [u8; 8],
 }
 
-/// The answer of [`nk_write`], [`nk_read_back`] and [`nk_from_tptp`].
+/// The answer of [`nk_write`], [`nk_read_back`], [`nk_setting`] and [`nk_from_tptp`].
 #[repr(C)]
 #[derive(Clone, Copy, Debug, PartialEq, Eq)]
 pub struct WriteAnswer {
@@ -82,6 +82,15 @@ extern "C" {
         size: u64,
         setting: *const u8,
         setting_length: usize,
+        output: *mut u8,
+        output_length: usize,
+    ) -> WriteAnswer;
+
+    pub fn nk_setting(
+        sheet: *const u8,
+        sheet_length: usize,
+        case: *const u8,
+        case_length: usize,
         output: *mut u8,
         output_length: usize,
     ) -> WriteAnswer;

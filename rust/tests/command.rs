@@ -78,6 +78,7 @@ fn a_refused_sheet_is_marked() {
             "clauses - --size 2",
             "judge - group-6.case",
             "explain - group-6.case",
+            "setting - group-6.case",
         ] {
             marks(verb, input, refused, shown);
         }
@@ -209,7 +210,7 @@ fn explain_the_empty_clause() {
 
 #[test]
 fn a_refused_case_is_marked() {
-    for verb in ["judge", "explain"] {
+    for verb in ["judge", "explain", "setting"] {
         marks_cases(verb);
     }
 }
@@ -271,6 +272,45 @@ fn read_back() {
         "01-0",
         "nesskettle: standard input: byte 3 is neither a digit nor a blank\n",
     );
+}
+
+#[test]
+fn setting() {
+    // one line for each symbol; the case is no model
+    prints(
+        "setting two-constants.sheet -",
+        "case=1\nsize=2\na=2\nb=2\n",
+        0,
+        "01\n01\n",
+    );
+    prints(
+        "setting ../../../examples/both-eyes.sheet ../../../examples/by-hand.case",
+        "",
+        0,
+        "100\n100\n010\n001\n000 100 010\n0\n1\n0\n1\n",
+    );
+    // no clause, so no symbol
+    prints("setting --tptp /dev/null -", "case=1\nsize=3\n", 0, "");
+}
+
+/// What `setting` prints is what `read-back` takes.
+#[test]
+fn a_setting_is_read_back() {
+    let read_back_again = |sheet: &str, case: &str, size: usize| {
+        let setting = run(&format!("setting {sheet} -"), case);
+        assert_eq!(setting.status.code(), Some(0), "{case}");
+        let digits = String::from_utf8(setting.stdout).expect("digits are text");
+        prints(&format!("read-back {sheet} --size {size} -"), &digits, 0, case);
+    };
+    read_back_again("two-constants.sheet", "case=1\nsize=1\na=1\nb=1\n", 1);
+    read_back_again("group.sheet", include_str!("../data/sheets/group-6.case"), 6);
+    let ones = "c1=1\nc2=2\nc3=1\nc4=2\nc5=1\nc6=2\nc7=1\n";
+    let zeros = "p1=0\np2=1\np3=0\np4=1\np5=0\np6=1\np7=0\np8=1\n";
+    let case = format!(
+        "case=1\nsize=2\n{ones}x=2\nf=1 1 1 1 1 2 1 2\nclause=2 1\ny=1 1 2 1\np=1\n\
+         {zeros}z=0 0 0 0 0 0 0 1\ncase=1\nsize=0 1\nq=1 1 0 1\n"
+    );
+    read_back_again("kinds-of-literals.sheet", &case, 2);
 }
 
 #[test]
@@ -377,6 +417,12 @@ fn every_verb_takes_a_tptp_file() {
         0,
         case,
     );
+    prints(
+        &format!("setting {examples}/both-eyes.p -"),
+        case,
+        0,
+        "1\n1\n1\n1\n0\n0\n1\n0\n1\n",
+    );
 }
 
 #[test]
@@ -440,6 +486,11 @@ fn wrong_calls_are_told() {
         "judge group.sheet",
         "",
         &format!("nesskettle: the command takes SHEET CASE{more}"),
+    );
+    fails(
+        "setting group.sheet --size 2 group-6.case",
+        "",
+        &format!("nesskettle: --size is no option of this command, or stands there twice{more}"),
     );
     fails(
         "clauses group.sheet",

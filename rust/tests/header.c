@@ -62,6 +62,16 @@ int main(void) {
     written = nk_read_back(sheet, sheet_length, 2, setting, sizeof setting, output, sizeof output);
     expect(text_is(output, written.length, "case=1\nsize=2\na=2\nb=1\n"), "the setting is read back");
 
+    output[4] = 9;
+    written = nk_setting(sheet, sheet_length, (const uint8_t *)least, strlen(least), output, sizeof output);
+    expect(written.outcome == NK_WRITTEN && written.length == 4, "the least model has a setting of four bytes");
+    expect(memcmp(output, "\1\0\0\1\11", 5) == 0, "it is 1 0 0 1, and the byte after it is as it was");
+    written = nk_setting(sheet, sheet_length, (const uint8_t *)least, strlen(least), output, 3);
+    expect(written.reason == NK_OUTPUT_TOO_SHORT && written.length == 4, "three bytes are too few for it");
+    written = nk_setting(sheet, sheet_length, (const uint8_t *)least, 18, output, sizeof output);
+    expect(written.outcome == NK_REFUSED && written.reason == NK_BAD_CASE, "a case without its last line is refused");
+    expect(written.line == 4 && written.column == 1 && written.length == 0, "where the line is missing");
+
     nk_find_answer found = nk_find(sheet, sheet_length, 1, 3, work, 1000, output, sizeof output);
     expect(found.outcome == NK_FOUND && found.size == 2 && found.settled == 0, "a model of size 2 is found");
     expect(text_is(output, found.length, least), "it is the least one");

@@ -81,7 +81,7 @@ reasonBeside (refused r) = noReason
 abbrev pub unreasoned : JudgeAnswer → ExplainAnswer
 unreasoned v = record { verdict = v; reason = noReason }
 
--- the length that Write and Read back answer
+-- the length that Write, Read back, Setting and From TPTP answer
 abbrev pub lengthIn : WriteAnswer → Answer ℕ
 lengthIn (write.Written n) = answer n
 lengthIn (write.Refused r) = refused (refusalIn r)

@@ -6,7 +6,7 @@ use mathlib.Core.Option.{Option}
 use mathlib.Core.List.{List}
 use lib.ListN.{length}
 use Rattle.theory.specs.Refusals.{Answer}
-use Rattle.theory.specs.Operations.{readAnswer, judgeAnswer, Reason, explainAnswer, lengthAnswer, outputAfter, writtenText, readBackText, Search, findResult, findAnswer, findWork, findOutput}
+use Rattle.theory.specs.Operations.{readAnswer, judgeAnswer, Reason, explainAnswer, lengthAnswer, outputAfter, writtenText, readBackText, settingText, Search, findResult, findAnswer, findWork, findOutput}
 use Rattle.answers.specs.declared.ReadAnswer.{ReadAnswer}
 use Rattle.answers.specs.declared.JudgeAnswer.{JudgeAnswer}
 use Rattle.answers.specs.declared.ExplainAnswer.{ExplainAnswer}
@@ -43,6 +43,10 @@ WriteCall sheet size r output output′ = WritingCall (writtenText sheet size (l
 -- Read back
 abbrev pub ReadBackCall : List ℕ → ℕ → List ℕ → WriteAnswer → List ℕ → List ℕ → Type 0
 ReadBackCall sheet size setting r output output′ = WritingCall (readBackText sheet size setting (length output)) r output output′
+
+-- Setting
+abbrev pub SettingCall : List ℕ → List ℕ → WriteAnswer → List ℕ → List ℕ → Type 0
+SettingCall sheet case r output output′ = WritingCall (settingText sheet case (length output)) r output output′
 
 -- a call that searches with this result, or is refused
 pub record SearchingCall (result : Answer Search) (r : FindAnswer) (work work′ output output′ : List ℕ) : Type 0 where

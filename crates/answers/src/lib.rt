@@ -39,7 +39,7 @@ pub struct ExplainAnswer {
     pub reason: Reason,
 }
 
-// Write and Read back: the length of the text.
+// Write, Read back, Setting and From TPTP: the length of the text.
 pub enum WriteAnswer {
     Written(usize),
     Refused(Refusal),

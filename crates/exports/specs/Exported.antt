@@ -4,7 +4,7 @@ use mathlib.Core.Path.{_≡_}
 use mathlib.Core.List.{List}
 use lib.ListN.{length}
 use Rattle.theory.specs.Refusals.{Answer}
-use Rattle.theory.specs.Operations.{lengthAnswer, outputAfter, writtenText, readBackText, Search, findResult, findAnswer, findWork, findOutput}
+use Rattle.theory.specs.Operations.{lengthAnswer, outputAfter, writtenText, readBackText, settingText, Search, findResult, findAnswer, findWork, findOutput}
 use Rattle.tptp.specs.Tptp.{tptpText}
 use Rattle.exports.specs.declared.WriteOut.{WriteOut}
 use Rattle.exports.specs.declared.FindOut.{FindOut}
@@ -22,6 +22,10 @@ WriteExport sheet size r output output′ = WritingExport (writtenText sheet siz
 -- Read back
 abbrev pub ReadBackExport : List ℕ → ℕ → List ℕ → WriteOut → List ℕ → List ℕ → Type 0
 ReadBackExport sheet size setting r output output′ = WritingExport (readBackText sheet size setting (length output)) r output output′
+
+-- Setting
+abbrev pub SettingExport : List ℕ → List ℕ → WriteOut → List ℕ → List ℕ → Type 0
+SettingExport sheet case r output output′ = WritingExport (settingText sheet case (length output)) r output output′
 
 -- a call that searches with this result, or is refused
 pub record SearchingExport (result : Answer Search) (r : FindOut) (work work′ output output′ : List ℕ) : Type 0 where

@@ -13,7 +13,7 @@ ghost use Rattle.answers.specs.Answers.{readIn, judgeIn, lengthIn, findIn};
 ghost use Rattle.answers.specs.Calls.{ReasoningCall};
 ghost use Rattle.theory.specs.Refusals.{Answer};
 ghost use Rattle.theory.specs.Operations as theory;
-ghost use Rattle.exports.specs.Exported.{FindExport, ReadBackExport, TptpExport, WriteExport};
+ghost use Rattle.exports.specs.Exported.{FindExport, ReadBackExport, SettingExport, TptpExport, WriteExport};
 ghost use Rattle.exports.specs.Layouts.{readOut, judgeOut, explainOut, writeOut, findOut};
 
 #[repr(C)]
@@ -197,6 +197,13 @@ pub extern "C" fn nk_read_back(
     ensures { λ r. ⌜ ReadBackExport (now (sheet .entry)) size (now (setting .entry)) r (now (output .entry)) (now (output .exit)) ⌝ }
 {
     write_out(nesskettle::read_back(sheet, size, setting, output))
+}
+
+#[no_mangle]
+pub extern "C" fn nk_setting(sheet: &[u8], case: &[u8], output: &mut [u8]) -> WriteOut
+    ensures { λ r. ⌜ SettingExport (now (sheet .entry)) (now (case .entry)) r (now (output .entry)) (now (output .exit)) ⌝ }
+{
+    write_out(nesskettle::setting(sheet, case, output))
 }
 
 #[no_mangle]

@@ -7,6 +7,7 @@ use mathlib.Core.List.{List}
 use native.Mathlib.Omega.{arith}
 use lib.Dec.{leb}
 use lib.ListN.{length}
+use Rattle.theory.specs.Propositional.{propCount}
 use Rattle.theory.specs.PropClauses.{instanceCount, workNeeded}
 use Rattle.theory.specs.Syntax.{Signature}
 use Rattle.theory.specs.Valuation.{isValuation, isFunctional}
@@ -14,7 +15,7 @@ use Rattle.theory.specs.Refusals.{Refusal, Answer, answer, refused, atLine, unp
 use Rattle.theory.specs.Problem.{Problem, readProblem}
 use Rattle.theory.specs.CaseText.{caseLength}
 use Rattle.theory.specs.Columns.{sheetColumn, caseColumn, placedProblem, placedCase}
-use Rattle.theory.specs.Operations.{maxSize, maxInstances, isSize, readAnswer, judgeAnswer, contentOf, writtenText, readBackText, Search, found, nothing, findResult, findAnswer}
+use Rattle.theory.specs.Operations.{maxSize, maxInstances, isSize, readAnswer, judgeAnswer, contentOf, writtenText, readBackText, settingText, Search, found, nothing, findResult, findAnswer}
 use Rattle.theory.specs.LineForms.{LineForm}
 use Rattle.theory.specs.DueLines.{firstLine, fromLine, dueInSheet, sheetSymbols}
 use Rattle.theory.specs.Claims.Columns.{twoOn, twelveOn, ByteBeyondHelp, OverNumber, BadName, WordBeyondHelp, FirstUnknown, OverLimit}
@@ -73,15 +74,18 @@ of-the-case sheet case p q read e =
           (columns .twelve sheet case p l read (r .refuses ∙ ap refused (c .is) ∙ ap (λ (l : ℕ). refused (atLine 12 l)) (line ∙ h)));
     }
 
--- what refuses is the sheet, or a check that names no place
+-- a check without a place
+no-place : (b : Bool) (p q : Refusal) → NoPlace p → check b p ≡ refused q → NoPlace q
+no-place true p q n e = absurd (answer≢refused tt q e)
+no-place false p q n e = subst NoPlace (refused-inj {A = Unit {0}} p q e) n
+
+-- what refuses is the sheet, or such a check
 abbrev Placed : List ℕ → Refusal → Type 0
 Placed sheet q = OfTheSheet sheet q ⊎ NoPlace q
 
 -- a check without a place, and what follows it
 checked : {B : Type 0} (sheet : List ℕ) (b : Bool) (p : Refusal) (k : Unit {0} → Answer B) (q : Refusal) → NoPlace p → (check b p >>= k) ≡ refused q → (k tt ≡ refused q → Placed sheet q) → Placed sheet q
-unfolding _>>=_
-checked sheet true p k q n e f = f e
-checked {B = B} sheet false p k q n e f = inr (subst NoPlace (refused-inj {A = B} p q e) n)
+checked sheet b p k q n e f = unrefused (check b p) k q e (λ h. inr (no-place b p q n h)) λ u _ e₁. f e₁
 
 content-placed : (sheet : List ℕ) (size : ℕ) (q : Refusal) → contentOf sheet size ≡ refused q → Placed sheet q
 unfolding contentOf
@@ -124,6 +128,14 @@ judge-placed sheet case q e =
     unrefused (placedProblem sheet) _ q e (λ h. inl (of-the-sheet sheet q h)) λ (p : Problem) h₁ e₁.
     unrefused (placedCase (p .symbols) case) _ q e₁ (λ h. inr (of-the-case sheet case p q (problem-read sheet p h₁) h)) λ k _ e₂. absurd (answer≢refused _ q e₂)
 
+setting-placed : (sheet case : List ℕ) (room : ℕ) (q : Refusal) → settingText sheet case room ≡ refused q → OfTheSheet sheet q ⊎ (OfTheCase sheet case q ⊎ NoPlace q)
+unfolding settingText
+setting-placed sheet case room q e =
+    unrefused (placedProblem sheet) _ q e (λ h. inl (of-the-sheet sheet q h)) λ (p : Problem) h₁ e₁.
+    unrefused (placedCase (p .symbols) case) _ q e₁ (λ h. inr (inl (of-the-case sheet case p q (problem-read sheet p h₁) h))) λ k _ e₂.
+    let n : ℕ = propCount (k .size) (p .symbols) in
+    unrefused (check (leb n room) (needing 11 n)) _ q e₂ (λ h. inr (inr (no-place (leb n room) (needing 11 n) q (refl, refl) h))) λ u _ e₃. absurd (answer≢refused _ q e₃)
+
 -- a search whose answer is refused is refused
 search-refused : (a : Answer Search) (q : Refusal) → findAnswer a ≡ refused q → a ≡ refused q
 search-refused (answer (found s t)) q e = absurd (answer≢refused _ q e)
@@ -138,5 +150,6 @@ columns-of-calls =
       explain = λ sheet case r c q e. judge-placed sheet case q (explaining sheet case .refuses q .0 (sym (c .answer) ∙ e));
       write = λ sheet size r output output′ c q e. write-placed sheet size (length output) q (refused-text _ q (sym (c .answer) ∙ e));
       readBack = λ sheet size setting r output output′ c q e. read-back-placed sheet size setting (length output) q (refused-text _ q (sym (c .answer) ∙ e));
+      setting = λ sheet case r output output′ c q e. setting-placed sheet case (length output) q (refused-text _ q (sym (c .answer) ∙ e));
       find = λ sheet low high r work work′ output output′ c q e. find-placed sheet low high (length work) (length output) q (search-refused _ q (sym (c .answer) ∙ e));
     }

@@ -8,13 +8,14 @@ use lib.Dec.{eqb, leb}
 use lib.ListN.{length}
 use Rattle.theory.specs.Lists.{all, upFrom, elem, same}
 use Rattle.theory.specs.Syntax.{Signature}
+use Rattle.theory.specs.Propositional.{propCount}
 use Rattle.theory.specs.PropClauses.{instanceCount, workNeeded}
 use Rattle.theory.specs.Valuation.{isValuation, isFunctional}
 use Rattle.theory.specs.Refusals.{Refusal, Answer, answer, refused, atPlace, unplaced, needing, _>>=_, check}
 use Rattle.theory.specs.Columns.{placedProblem, placedCase}
 use Rattle.theory.specs.SheetText.{sheetText}
 use Rattle.theory.specs.CaseText.{caseLength}
-use Rattle.theory.specs.Operations.{maxSize, maxInstances, isSize, readAnswer, judgeAnswer, explainAnswer, lengthAnswer, outputAfter, contentOf, writtenText, readBackText, Search, found, nothing, findResult, findAnswer, findWork, findOutput}
+use Rattle.theory.specs.Operations.{maxSize, maxInstances, isSize, readAnswer, judgeAnswer, explainAnswer, lengthAnswer, outputAfter, contentOf, writtenText, readBackText, settingText, Search, found, nothing, findResult, findAnswer, findWork, findOutput}
 use Rattle.theory.proofs.Tests.{leb-true, and-left, and-right, or-left, or-right}
 use Rattle.theory.proofs.Lists.{elem-append, upFrom-elem}
 use Rattle.theory.proofs.Answers.{answer≢refused, refused-inj, unrefused}
@@ -29,7 +30,7 @@ use Rattle.answers.specs.declared.FindAnswer.{FindAnswer}
 use Rattle.answers.specs.Answers.{lengthIn, findIn}
 use Rattle.answers.specs.Calls.{WritingCall, SearchingCall}
 use Rattle.writing.specs.Texts.{clausesText}
-use Rattle.nesskettle.specs.Demand1.{readNumbers, judgeNumbers, writeNumbers, readBackNumbers, findNumbers, tptpNumbers, NumberOf, ResultOr, Demand1}
+use Rattle.nesskettle.specs.Demand1.{readNumbers, judgeNumbers, writeNumbers, readBackNumbers, settingNumbers, findNumbers, tptpNumbers, NumberOf, ResultOr, Demand1}
 use Rattle.nesskettle.proofs.TptpNumbers.{isTptpNumber, text-numbers}
 
 -- the number of every refusal of the answer is one of these
@@ -72,26 +73,26 @@ unfolding readAnswer
 read-within sheet = then readNumbers _ _ (sheet-within [] sheet) λ p. ends readNumbers _
 
 -- a case is refused with 12
-case-within : (g : Signature) (text : List ℕ) → Within judgeNumbers (placedCase g text)
-case-within g text q e =
+case-within : (numbers : List ℕ) → elem 12 numbers ≡ true → (g : Signature) (text : List ℕ) → Within numbers (placedCase g text)
+case-within numbers h g text q e =
     let r = plain-case g text q e in
     let number : Refusal → ℕ = λ (q : Refusal). q .number in
     let twelve : 12 ≡ q .number = ap number (sym (case-refusal g text (r .plain) (r .refuses) .is)) ∙ ap number (r .placed) in
-    subst (λ (n : ℕ). elem n judgeNumbers ≡ true) twelve refl
+    subst (λ (n : ℕ). elem n numbers ≡ true) twelve h
 
 -- Judge
 judge-within : (sheet case : List ℕ) → Within judgeNumbers (judgeAnswer sheet case)
 unfolding judgeAnswer
 judge-within sheet case =
     then judgeNumbers _ _ (sheet-within (12 ∷ []) sheet) λ p.
-    then judgeNumbers _ _ (case-within (p .symbols) case) λ k. ends judgeNumbers _
+    then judgeNumbers _ _ (case-within judgeNumbers refl (p .symbols) case) λ k. ends judgeNumbers _
 
 -- Explain
 explain-within : (sheet case : List ℕ) → Within judgeNumbers (explainAnswer sheet case)
 unfolding explainAnswer
 explain-within sheet case =
     then judgeNumbers _ _ (sheet-within (12 ∷ []) sheet) λ p.
-    then judgeNumbers _ _ (case-within (p .symbols) case) λ k. ends judgeNumbers _
+    then judgeNumbers _ _ (case-within judgeNumbers refl (p .symbols) case) λ k. ends judgeNumbers _
 
 -- Write
 content-within : (sheet : List ℕ) (size : ℕ) → Within writeNumbers (contentOf sheet size)
@@ -116,6 +117,14 @@ read-back-within sheet size setting room =
     (checks readBackNumbers (isValuation size (p .symbols) setting) (unplaced 13) _ refl
     (checks readBackNumbers (isFunctional size (p .symbols) setting) (unplaced 14) _ refl
     (checks readBackNumbers (leb (caseLength size (p .symbols)) room) (needing 11 (caseLength size (p .symbols))) _ refl (ends readBackNumbers _))))
+
+-- Setting
+setting-within : (sheet case : List ℕ) (room : ℕ) → Within settingNumbers (settingText sheet case room)
+unfolding settingText
+setting-within sheet case room =
+    then settingNumbers _ _ (sheet-within (11 ∷ 12 ∷ []) sheet) λ p.
+    then settingNumbers _ _ (case-within settingNumbers refl (p .symbols) case) λ k.
+    checks settingNumbers (leb (propCount (k .size) (p .symbols)) room) (needing 11 (propCount (k .size) (p .symbols))) _ refl (ends settingNumbers _)
 
 -- Find
 find-within : (sheet : List ℕ) (low high work room : ℕ) → Within findNumbers (findResult sheet low high work room)
@@ -176,6 +185,8 @@ demand1-of-calls =
       write = λ sheet size r output output′ c. writing-kept writeNumbers (writtenText sheet size (length output)) r output output′ c (write-within sheet size (length output));
       readBack = λ sheet size setting r output output′ c.
           writing-kept readBackNumbers (readBackText sheet size setting (length output)) r output output′ c (read-back-within sheet size setting (length output));
+      setting = λ sheet case r output output′ c.
+          writing-kept settingNumbers (settingText sheet case (length output)) r output output′ c (setting-within sheet case (length output));
       find = λ sheet low high r work work′ output output′ c.
           searching-kept findNumbers (findResult sheet low high (length work) (length output)) r work work′ output output′ c (find-within sheet low high (length work) (length output));
       fromTptp = λ text r output output′ c. writing-kept tptpNumbers (tptpText text (length output)) r output output′ c (tptp-within text (length output));

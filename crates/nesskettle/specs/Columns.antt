@@ -14,7 +14,7 @@ use Rattle.answers.specs.declared.ExplainAnswer.{ExplainAnswer}
 use Rattle.answers.specs.declared.WriteAnswer.{WriteAnswer}
 use Rattle.answers.specs.declared.FindAnswer.{FindAnswer}
 use Rattle.answers.specs.Answers.{readIn, judgeIn, explainIn, lengthIn, findIn}
-use Rattle.answers.specs.Calls.{ReadCall, JudgeCall, ExplainCall, WriteCall, ReadBackCall, FindCall}
+use Rattle.answers.specs.Calls.{ReadCall, JudgeCall, ExplainCall, WriteCall, ReadBackCall, SettingCall, FindCall}
 
 -- of the column that a sheet's refusal on line l names, the first being line 0
 pub record InSheet (sheet : List ℕ) (l number column : ℕ) : Type 0 where
@@ -52,5 +52,7 @@ pub record Columns : Type 0 where
       → (q : Refusal) → lengthIn r ≡ refused q → OfTheSheet sheet q ⊎ NoPlace q
   pub readBack : (sheet : List ℕ) (size : ℕ) (setting : List ℕ) (r : WriteAnswer) (output output′ : List ℕ) → ReadBackCall sheet size setting r output output′
       → (q : Refusal) → lengthIn r ≡ refused q → OfTheSheet sheet q ⊎ NoPlace q
+  pub setting : (sheet case : List ℕ) (r : WriteAnswer) (output output′ : List ℕ) → SettingCall sheet case r output output′
+      → (q : Refusal) → lengthIn r ≡ refused q → OfTheSheet sheet q ⊎ (OfTheCase sheet case q ⊎ NoPlace q)
   pub find : (sheet : List ℕ) (low high : ℕ) (r : FindAnswer) (work work′ output output′ : List ℕ) → FindCall sheet low high r work work′ output output′
       → (q : Refusal) → findIn r ≡ refused q → OfTheSheet sheet q ⊎ NoPlace q

@@ -12,7 +12,7 @@ use Rattle.answers.specs.declared.ExplainAnswer.{ExplainAnswer}
 use Rattle.answers.specs.declared.WriteAnswer.{WriteAnswer}
 use Rattle.answers.specs.declared.FindAnswer.{FindAnswer}
 use Rattle.answers.specs.Answers.{readIn, judgeIn, explainIn, lengthIn, findIn}
-use Rattle.answers.specs.Calls.{ReadCall, JudgeCall, ExplainCall, WriteCall, ReadBackCall, FindCall}
+use Rattle.answers.specs.Calls.{ReadCall, JudgeCall, ExplainCall, WriteCall, ReadBackCall, SettingCall, FindCall}
 use Rattle.importing.specs.Calls.{TptpCall}
 
 -- The numbers that documents 01 and 02 give each operation. Read: 1 to 7
@@ -30,6 +30,10 @@ writeNumbers = upFrom 1 9 ++ (11 ∷ [])
 -- Read back: 1 to 8, 11, 13 and 14
 abbrev pub readBackNumbers : List ℕ
 readBackNumbers = upFrom 1 8 ++ (11 ∷ 13 ∷ 14 ∷ [])
+
+-- Setting: 1 to 7, 11 and 12
+abbrev pub settingNumbers : List ℕ
+settingNumbers = upFrom 1 7 ++ (11 ∷ 12 ∷ [])
 
 -- Find: 1 to 11
 abbrev pub findNumbers : List ℕ
@@ -57,6 +61,8 @@ pub record Demand1 : Type 0 where
       → ResultOr (λ q. NumberOf writeNumbers q × (output′ ≡ output)) (lengthIn r)
   pub readBack : (sheet : List ℕ) (size : ℕ) (setting : List ℕ) (r : WriteAnswer) (output output′ : List ℕ) → ReadBackCall sheet size setting r output output′
       → ResultOr (λ q. NumberOf readBackNumbers q × (output′ ≡ output)) (lengthIn r)
+  pub setting : (sheet case : List ℕ) (r : WriteAnswer) (output output′ : List ℕ) → SettingCall sheet case r output output′
+      → ResultOr (λ q. NumberOf settingNumbers q × (output′ ≡ output)) (lengthIn r)
   pub find : (sheet : List ℕ) (low high : ℕ) (r : FindAnswer) (work work′ output output′ : List ℕ) → FindCall sheet low high r work work′ output output′
       → ResultOr (λ q. NumberOf findNumbers q × (work′ ≡ work) × (output′ ≡ output)) (findIn r)
   pub fromTptp : (text : List ℕ) (r : WriteAnswer) (output output′ : List ℕ) → TptpCall text r output output′

@@ -1,4 +1,4 @@
--- The text that a call of Write or Read back leaves: the output up to the answered length.
+-- The text that a call of Write, Read back or Setting leaves: the output up to the answered length.
 use Prim.Native.Nat.{ℕ}
 use mathlib.Core.Path.{_≡_}
 use mathlib.Core.List.{List}

@@ -2,7 +2,8 @@
 // ends. A promise is a record of `answers/specs/Calls` (From TPTP's of `importing/specs/Calls`): equations with the definitions of
 // `theory/specs/Operations` and `tptp/specs/Tptp`, where `answers/specs/Answers` says what each answer means. What is lent as `&` cannot
 // change; what is lent as `&mut` is told to the last byte and number. The demands (`specs/Demand1` to `specs/Demand3`) and what is asked of
-// From TPTP (`specs/FromTptp`) and Explain (`specs/Explains`), and where refusals point (`specs/Columns`), are proved of these records.
+// From TPTP (`specs/FromTptp`), Explain (`specs/Explains`) and Setting (`specs/Settings`), and where refusals point (`specs/Columns`), are
+// proved of these records.
 mod reading;
 
 use answers::ExplainAnswer;
@@ -15,8 +16,9 @@ use importing::import_clauses;
 use judging::explain::explain_case;
 use judging::verdict::judge_case;
 use reading_back::setting::read_setting_back;
+use settings::setting::write_case_setting;
 use writing::write_clauses;
-ghost use Rattle.answers.specs.Calls.{ExplainCall, FindCall, JudgeCall, ReadBackCall, ReadCall, WriteCall};
+ghost use Rattle.answers.specs.Calls.{ExplainCall, FindCall, JudgeCall, ReadBackCall, ReadCall, SettingCall, WriteCall};
 ghost use Rattle.importing.specs.Calls.{TptpCall};
 
 // Read: the sheet's counts.
@@ -52,6 +54,13 @@ pub fn read_back(sheet: &[u8], size: u64, setting: &[u8], output: &mut [u8]) -> 
     ensures { λ r. ⌜ ReadBackCall (now (sheet .entry)) size (now (setting .entry)) r (now (output .entry)) (now (output .exit)) ⌝ }
 {
     read_setting_back(sheet, size, setting, output)
+}
+
+// Setting: the setting of the case, a model or not, at the front of the output.
+pub fn setting(sheet: &[u8], case: &[u8], output: &mut [u8]) -> WriteAnswer
+    ensures { λ r. ⌜ SettingCall (now (sheet .entry)) (now (case .entry)) r (now (output .entry)) (now (output .exit)) ⌝ }
+{
+    write_case_setting(sheet, case, output)
 }
 
 // Find: the least model at the smallest size from low to high that has one, as a case at the front of the output; or none.

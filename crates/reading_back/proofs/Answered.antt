@@ -25,28 +25,28 @@ use Rattle.syntax.specs.Signatures.{signatureIn}
 use Rattle.problem.specs.declared.sheet.Reading.{Reading}
 use Rattle.problem.specs.Problems.{problemIn, readingOf}
 use Rattle.problem.proofs.SheetRead.{sheet-accepted, sheet-placed}
-use Rattle.reading_back.specs.Settings.{settingText}
+use Rattle.reading_back.specs.Settings.{textSaid}
 
 module _ (s : ℕ) (g : Signature) (setting : List ℕ) (room : ℕ) where
-  pub no-valuation : isValuation s g setting ≡ false → settingText s g setting room ≡ refused (unplaced 13)
-  unfolding settingText
+  pub no-valuation : isValuation s g setting ≡ false → textSaid s g setting room ≡ refused (unplaced 13)
+  unfolding textSaid
   no-valuation h = bind-refused _ _ (unplaced 13) (check-of-false _ (unplaced 13) h)
 
   module _ (valuation : isValuation s g setting ≡ true) where
-    pub not-functional : isFunctional s g setting ≡ false → settingText s g setting room ≡ refused (unplaced 14)
-    unfolding settingText
+    pub not-functional : isFunctional s g setting ≡ false → textSaid s g setting room ≡ refused (unplaced 14)
+    unfolding textSaid
     not-functional h = bind-step _ _ tt _ (check-of-true _ (unplaced 13) valuation) (bind-refused _ _ (unplaced 14) (check-of-false _ (unplaced 14) h))
 
     module _ (functional : isFunctional s g setting ≡ true) where
-      pub no-room : room < caseLength s g → settingText s g setting room ≡ refused (needing 11 (caseLength s g))
-      unfolding settingText
+      pub no-room : room < caseLength s g → textSaid s g setting room ≡ refused (needing 11 (caseLength s g))
+      unfolding textSaid
       no-room h =
           bind-step _ _ tt _ (check-of-true _ (unplaced 13) valuation)
           (bind-step _ _ tt _ (check-of-true _ (unplaced 14) functional)
           (bind-refused _ _ (needing 11 (caseLength s g)) (check-of-false _ (needing 11 (caseLength s g)) (leb-of-< (caseLength s g) room h))))
 
-      pub text-said : caseLength s g ≤ room → settingText s g setting room ≡ answer (caseText s g (readBack s g setting))
-      unfolding settingText
+      pub text-said : caseLength s g ≤ room → textSaid s g setting room ≡ answer (caseText s g (readBack s g setting))
+      unfolding textSaid
       text-said h =
           bind-step _ _ tt _ (check-of-true _ (unplaced 13) valuation)
           (bind-step _ _ tt _ (check-of-true _ (unplaced 14) functional)
@@ -79,8 +79,8 @@ module _ (sheet : List ℕ) (r : Reading) (read : readingOf sheet r ≡ readProb
         pub size-taken : (1 ≤ d .0) × (d .0 ≤ 8)
         size-taken = rw (taken .1) (size-within n (taken .0))
 
-        pub setting-left : (setting : List ℕ) (room : ℕ) → readBackText sheet n setting room ≡ settingText (d .0) (signatureIn sheet (r .problem .signature)) setting room
-        unfolding readBackText settingText problemIn
+        pub setting-left : (setting : List ℕ) (room : ℕ) → readBackText sheet n setting room ≡ textSaid (d .0) (signatureIn sheet (r .problem .signature)) setting room
+        unfolding readBackText textSaid problemIn
         setting-left setting room =
             bind-step _ _ _ _ accepted (bind-step _ _ tt _ (check-of-true _ (unplaced 8) (taken .0)) refl)
-            ∙ ap (λ (j : ℕ). settingText j (signatureIn sheet (r .problem .signature)) setting room) (sym (taken .1))
+            ∙ ap (λ (j : ℕ). textSaid j (signatureIn sheet (r .problem .signature)) setting room) (sym (taken .1))

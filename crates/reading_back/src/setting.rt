@@ -16,7 +16,7 @@ ghost use Prim.Native.Nat.{_≤_};
 ghost use lib.ListN.{length};
 ghost use Rattle.answers.specs.Calls.{ReadBackCall};
 ghost use Rattle.clauses.specs.Names.{Readable};
-ghost use Rattle.reading_back.specs.Settings.{SettingCall};
+ghost use Rattle.reading_back.specs.Settings.{WriteSettingCall};
 
 // The sheet's refusals, 8, then those of the setting and the output.
 pub fn read_setting_back(sheet: &[u8], size: u64, setting: &[u8], output: &mut [u8]) -> WriteAnswer
@@ -42,7 +42,7 @@ fn write_setting(
     output: &mut [u8],
 ) -> WriteAnswer
     requires { ⌜ Readable (now sheet) signature × ((length (now sheet) ≤ 16384) × ((1 ≤ size .0) × (size .0 ≤ 8))) ⌝ }
-    ensures { λ r. ⌜ SettingCall (now (sheet .entry)) signature (size .0) (now (setting .entry)) r (now (output .entry)) (now (output .exit)) ⌝ }
+    ensures { λ r. ⌜ WriteSettingCall (now (sheet .entry)) signature (size .0) (now (setting .entry)) r (now (output .entry)) (now (output .exit)) ⌝ }
 {
     let n = numbering_of(signature, size);
     if !is_valuation(setting, n) {

@@ -6,11 +6,11 @@ use mathlib.Core.List.{List, [], _∷_}
 use Rattle.theory.specs.Lists.{all}
 use Rattle.theory.specs.Syntax.{Signature, Clause, clauseOk}
 use Rattle.theory.specs.Truth.{Interpretation}
-use Rattle.theory.specs.Cells.{cellKinds, interpretation, isModel}
+use Rattle.theory.specs.Cells.{interpretation, isModel}
 use Rattle.theory.specs.Flattening.{flatten}
 use Rattle.theory.specs.Instances.{instances}
 use Rattle.theory.specs.PropClauses.{propClauses}
-use Rattle.theory.specs.Valuation.{satisfiesClause, satisfies, isValuation, isFunctional, readBack}
+use Rattle.theory.specs.Valuation.{satisfiesClause, satisfies, isValuation, isFunctional, readBack, valuationOf}
 use Rattle.theory.specs.Claims.Encoding.{Encoding, EncodingHolds}
 use Rattle.theory.proofs.Tests.{iff→≡, and-left, and-right}
 use Rattle.theory.proofs.Truth.{isValid, isValid→Valid, Valid→isValid, isModel-all}
@@ -18,7 +18,7 @@ use Rattle.theory.proofs.FlatForm.{flatten-ok}
 use Rattle.theory.proofs.Flattening.{flattening}
 use Rattle.theory.proofs.Parts.{all-propClauses}
 use Rattle.theory.proofs.Interpretations.{interpretation-closed}
-use Rattle.theory.proofs.Valuations.{functional, valuationOf, readBack-isInterpretation, valuationOf-readBack, readBack-valuationOf}
+use Rattle.theory.proofs.Valuations.{functional, readBack-isInterpretation, valuationOf-readBack, readBack-valuationOf}
 use Rattle.theory.proofs.CellClauses.{tables-satisfied}
 use Rattle.theory.proofs.Instances.{instances-true}
 
@@ -64,8 +64,8 @@ module _ (s : ℕ) (g : Signature) (pos : zero < s) where
         record {
           satisfying = satisfying;
           readsBack = readBack-isInterpretation s g;
-          oneToOne = λ σ τ h v k w e. sym (valuationOf-readBack s g σ h v) ∙ ap (valuationOf s (cellKinds s g)) e ∙ valuationOf-readBack s g τ k w;
-          onto = λ vs i. let r = readBack-valuationOf s g vs i in (valuationOf s (cellKinds s g) vs, r .0, r .1, r .2);
+          oneToOne = λ σ τ h v k w e. sym (valuationOf-readBack s g σ h v) ∙ ap (valuationOf s g) e ∙ valuationOf-readBack s g τ k w;
+          onto = λ vs i. let r = readBack-valuationOf s g vs i in (valuationOf s g vs, r .0, r .1, r .2);
         }
 
 pub encoding : EncodingHolds

@@ -1,6 +1,7 @@
 pub mod Examples
 pub mod ExplainExamples
 pub mod ExplainerExamples
+pub mod SettingExamples
 pub mod ColumnExamples
 pub mod Tests
 pub mod Lists
@@ -51,6 +52,7 @@ pub mod Letters
 pub mod Limits
 pub mod Monotone
 pub mod ModelTexts
+pub mod Settings
 pub mod FindsLeast
 pub mod SheetWords
 pub mod SheetRead

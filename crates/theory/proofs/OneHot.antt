@@ -1,7 +1,7 @@
 -- One-hot bytes: exactly one byte is 1, the others are 0. So a valuation gives a function's cell its result.
 use Prim.Native.Nat.{ℕ, zero, suc, _<_}
 use mathlib.Core.Path.{_≡_, refl, sym, ap, _∙_}
-use mathlib.Core.Bool.{Bool, true, true≢false, false≢true}
+use mathlib.Core.Bool.{Bool, true, false, cond, true≢false, false≢true}
 use mathlib.Core.List.{List, [], _∷_}
 use native.Mathlib.Omega.{arith}
 use lib.Dec.{eqb, ltb, eqb·zero-suc, eqb·suc-zero, eqb·suc-suc}
@@ -9,7 +9,7 @@ use lib.ListN.{length, getD, replicate, length-replicate, getD-replicate}
 use lib.Seq.{ext-getD}
 use Rattle.theory.specs.Lists.{all, select}
 use Rattle.theory.specs.Syntax.{function}
-use Rattle.theory.specs.Valuation.{hasValue, firstOne}
+use Rattle.theory.specs.Valuation.{hasValue, firstOne, oneHot}
 use Rattle.theory.proofs.Tests.{eqb-true, ltb-true, and-left}
 use Rattle.theory.proofs.Lists.{all-getD}
 
@@ -17,23 +17,25 @@ use Rattle.theory.proofs.Lists.{all-getD}
 abbrev pub areBits : List ℕ → Bool
 areBits bs = all (λ b. ltb b 2) bs
 
--- n bytes, 1 at place d and 0 elsewhere
-abbrev pub oneHot : ℕ → ℕ → List ℕ
-oneHot zero d = []
-oneHot (suc n) zero = 1 ∷ replicate n 0
-oneHot (suc n) (suc d) = 0 ∷ oneHot n d
-
 pub length-oneHot : (n d : ℕ) → length (oneHot n d) ≡ n
 length-oneHot zero d = refl
 length-oneHot (suc n) zero = ap suc (length-replicate n 0)
 length-oneHot (suc n) (suc d) = ap suc (length-oneHot n d)
 
+-- byte e: 1 for e itself
+pub oneHot-byte : (n d e : ℕ) → e < n → getD (oneHot n d) e 0 ≡ cond (eqb d e) 1 0
+oneHot-byte zero d e h = absurd (omega arith)
+oneHot-byte (suc n) zero zero h = refl
+oneHot-byte (suc n) zero (suc e) h = getD-replicate n e 0 0 (omega arith) ∙ ap (λ (b : Bool). cond b 1 0) (sym (eqb·zero-suc e))
+oneHot-byte (suc n) (suc d) zero h = ap (λ (b : Bool). cond b 1 0) (sym (eqb·suc-zero d))
+oneHot-byte (suc n) (suc d) (suc e) h = oneHot-byte n d e (omega arith) ∙ ap (λ (b : Bool). cond b 1 0) (sym (eqb·suc-suc d e))
+
 pub oneHot-at : (n d e : ℕ) → e < n → eqb (getD (oneHot n d) e 0) 1 ≡ eqb d e
-oneHot-at zero d e h = absurd (omega arith)
-oneHot-at (suc n) zero zero h = refl
-oneHot-at (suc n) zero (suc e) h = ap (λ (b : ℕ). eqb b 1) (getD-replicate n e 0 0 (omega arith)) ∙ sym (eqb·zero-suc e)
-oneHot-at (suc n) (suc d) zero h = sym (eqb·suc-zero d)
-oneHot-at (suc n) (suc d) (suc e) h = oneHot-at n d e (omega arith) ∙ sym (eqb·suc-suc d e)
+oneHot-at n d e h = ap (λ (b : ℕ). eqb b 1) (oneHot-byte n d e h) ∙ is-one (eqb d e)
+  where
+    is-one : (b : Bool) → eqb (cond b 1 0) 1 ≡ b
+    is-one true = refl
+    is-one false = refl
 
 zeros-are-bits : (n : ℕ) → areBits (replicate n 0) ≡ true
 zeros-are-bits zero = refl

@@ -45,6 +45,20 @@ written-text sheet size room p text c e =
     ap (λ (p : Problem). dimacs (propCount size (p .symbols)) (propClauses size (p .symbols) (p .clauses))) same
     ∙ answer-inj (dimacs (propCount size (q .symbols)) (propClauses size (q .symbols) (q .clauses))) text e₂
 
+-- the case that Read back leaves, in an output that is large enough
+pub case-left : (sheet : List ℕ) (p : Problem) (size : ℕ) → readProblem sheet ≡ answer p → isSize size ≡ true
+    → (σ : List ℕ) → isValuation size (p .symbols) σ ≡ true → isFunctional size (p .symbols) σ ≡ true
+    → (room : ℕ) → caseLength size (p .symbols) ≤ room → readBackText sheet size σ room ≡ answer (caseText size (p .symbols) (readBack size (p .symbols) σ))
+unfolding readBackText
+case-left sheet p size read sized σ v f room fits =
+    let n : ℕ = caseLength size (p .symbols) in
+    let r = answer (caseText size (p .symbols) (readBack size (p .symbols) σ)) in
+    bind-step _ _ p r (placed-problem sheet p read)
+    (bind-step _ _ tt r (check-of-true _ (unplaced 8) sized)
+    (bind-step _ _ tt r (check-of-true _ (unplaced 13) v)
+    (bind-step _ _ tt r (check-of-true _ (unplaced 14) f)
+    (bind-step _ _ tt r (check-of-true _ (needing 11 n) (leb-of-≤ n room fits)) refl))))
+
 module _ (sheet : List ℕ) (p : Problem) (size : ℕ) (text : List ℕ) (room : ℕ)
     (read : readProblem sheet ≡ answer p) (sized : isSize size ≡ true)
     (written : dimacs (propCount size (p .symbols)) (propClauses size (p .symbols) (p .clauses)) ≡ text)
@@ -88,14 +102,7 @@ module _ (sheet : List ℕ) (p : Problem) (size : ℕ) (text : List ℕ) (room :
       }
 
   read-back : (σ : List ℕ) → isValuation size g σ ≡ true → isFunctional size g σ ≡ true → readBackText sheet size σ room ≡ answer (caseText size g (readBack size g σ))
-  unfolding readBackText
-  read-back σ v f =
-      let r = answer (caseText size g (readBack size g σ)) in
-      bind-step _ _ p r (placed-problem sheet p read)
-      (bind-step _ _ tt r (check-of-true _ (unplaced 8) sized)
-      (bind-step _ _ tt r (check-of-true _ (unplaced 13) v)
-      (bind-step _ _ tt r (check-of-true _ (unplaced 14) f)
-      (bind-step _ _ tt r (check-of-true _ (needing 11 (caseLength size g)) (leb-of-≤ (caseLength size g) room fits)) refl))))
+  read-back σ v f = case-left sheet p size read sized σ v f room fits
 
   own : (vs : List ℕ) → isInterpretation size g vs ≡ true → readCase g (caseText size g vs) ≡ answer (record { size = size; values = vs })
   own vs h = read-own sheet p read size vs pos le-8 h

@@ -11,11 +11,11 @@ use Rattle.theory.specs.Lists.{sum}
 use Rattle.theory.specs.Syntax.{Kind, function, predicate, Signature}
 use Rattle.theory.specs.Cells.{cellKinds, valueCount, inRange, isInterpretation}
 use Rattle.theory.specs.Propositional.{width, propCount}
-use Rattle.theory.specs.Valuation.{says, isValuation, hasValue, firstOne, valueOf, allHaveValues, isFunctional, valuesOf, readBack}
+use Rattle.theory.specs.Valuation.{says, isValuation, hasValue, firstOne, valueOf, allHaveValues, isFunctional, valuesOf, readBack, oneHot, bitsOf, bitsOfCells, valuationOf}
 use Rattle.theory.proofs.Tests.{eqb-true, eqb-of-≡, ltb-true, ltb-of-<, and-left, and-right, and-join}
 use Rattle.theory.proofs.Lists.{all-append, all-take, all-drop}
 use Rattle.theory.proofs.Numbering.{offset, widths-total}
-use Rattle.theory.proofs.OneHot.{areBits, oneHot, length-oneHot, oneHot-at, oneHot-areBits, oneHot-hasValue, firstOne-oneHot, hasValue→oneHot}
+use Rattle.theory.proofs.OneHot.{areBits, length-oneHot, oneHot-at, oneHot-areBits, oneHot-hasValue, firstOne-oneHot, hasValue→oneHot}
 
 module _ (s : ℕ) where
   -- the bytes of cell c, for cells of these kinds
@@ -65,32 +65,27 @@ module _ (s : ℕ) where
       and-join (hasValue k (take (width s k) σ)) (allHaveValues s ks (drop (width s k) σ)) (h 0 (omega arith))
       (all-have-values ks (drop (width s k) σ) (λ c lt. ap (hasValue (getD ks c predicate)) (sym (chunk-suc k ks c σ)) ∙ h (suc c) (omega arith)))
 
-  -- the bytes that give a cell the value d
-  abbrev pub chunkOf : Kind → ℕ → List ℕ
-  chunkOf function d = oneHot s d
-  chunkOf predicate d = d ∷ []
+  pub length-bitsOf : (k : Kind) (d : ℕ) → length (bitsOf s k d) ≡ width s k
+  length-bitsOf function d = length-oneHot s d
+  length-bitsOf predicate d = refl
 
-  length-chunkOf : (k : Kind) (d : ℕ) → length (chunkOf k d) ≡ width s k
-  length-chunkOf function d = length-oneHot s d
-  length-chunkOf predicate d = refl
+  bitsOf-areBits : (k : Kind) (d : ℕ) → d < valueCount s k → areBits (bitsOf s k d) ≡ true
+  bitsOf-areBits function d h = oneHot-areBits s d
+  bitsOf-areBits predicate d h = and-join (ltb d 2) true (ltb-of-< d 2 h) refl
 
-  chunkOf-areBits : (k : Kind) (d : ℕ) → d < valueCount s k → areBits (chunkOf k d) ≡ true
-  chunkOf-areBits function d h = oneHot-areBits s d
-  chunkOf-areBits predicate d h = and-join (ltb d 2) true (ltb-of-< d 2 h) refl
+  bitsOf-hasValue : (k : Kind) (d : ℕ) → d < valueCount s k → hasValue k (bitsOf s k d) ≡ true
+  bitsOf-hasValue function d h = oneHot-hasValue s d h
+  bitsOf-hasValue predicate d h = refl
 
-  chunkOf-hasValue : (k : Kind) (d : ℕ) → d < valueCount s k → hasValue k (chunkOf k d) ≡ true
-  chunkOf-hasValue function d h = oneHot-hasValue s d h
-  chunkOf-hasValue predicate d h = refl
+  valueOf-bitsOf : (k : Kind) (d : ℕ) → d < valueCount s k → valueOf k (bitsOf s k d) ≡ d
+  valueOf-bitsOf function d h = firstOne-oneHot s d h
+  valueOf-bitsOf predicate d h = refl
 
-  valueOf-chunkOf : (k : Kind) (d : ℕ) → d < valueCount s k → valueOf k (chunkOf k d) ≡ d
-  valueOf-chunkOf function d h = firstOne-oneHot s d h
-  valueOf-chunkOf predicate d h = refl
-
-  chunkOf-valueOf : (k : Kind) (bs : List ℕ) → areBits bs ≡ true → length bs ≡ width s k → hasValue k bs ≡ true → chunkOf k (valueOf k bs) ≡ bs
-  chunkOf-valueOf function bs h e v = ap (λ (n : ℕ). oneHot n (firstOne bs)) (sym e) ∙ sym (hasValue→oneHot bs h v .0)
-  chunkOf-valueOf predicate [] h e v = absurd (omega arith)
-  chunkOf-valueOf predicate (b ∷ []) h e v = refl
-  chunkOf-valueOf predicate (b ∷ c ∷ bs) h e v = absurd (omega arith)
+  bitsOf-valueOf : (k : Kind) (bs : List ℕ) → areBits bs ≡ true → length bs ≡ width s k → hasValue k bs ≡ true → bitsOf s k (valueOf k bs) ≡ bs
+  bitsOf-valueOf function bs h e v = ap (λ (n : ℕ). oneHot n (firstOne bs)) (sym e) ∙ sym (hasValue→oneHot bs h v .0)
+  bitsOf-valueOf predicate [] h e v = absurd (omega arith)
+  bitsOf-valueOf predicate (b ∷ []) h e v = refl
+  bitsOf-valueOf predicate (b ∷ c ∷ bs) h e v = absurd (omega arith)
 
   valueOf-below : (k : Kind) (bs : List ℕ) → areBits bs ≡ true → length bs ≡ width s k → hasValue k bs ≡ true → valueOf k bs < valueCount s k
   valueOf-below function bs h e v = omega (arith, hasValue→oneHot bs h v .1)
@@ -136,39 +131,32 @@ module _ (s : ℕ) where
       and-join (ltb d (valueCount s k)) (inRange s ks (valuesOf s ks (rest k ks σ f))) (ltb-of-< d (valueCount s k) lt)
       (valuesOf-inRange ks (rest k ks σ f) (rest-functional k ks σ f))
 
-  -- the valuation that gives the cells these values
-  abbrev pub valuationOf : List Kind → List ℕ → List ℕ
-  valuationOf [] [] = []
-  valuationOf [] (d ∷ ds) = []
-  valuationOf (k ∷ ks) [] = []
-  valuationOf (k ∷ ks) (d ∷ ds) = chunkOf k d ++ valuationOf ks ds
-
-  pub valuationOf-valuesOf : (ks : List Kind) (σ : List ℕ) → Functional ks σ → valuationOf ks (valuesOf s ks σ) ≡ σ
-  valuationOf-valuesOf [] [] f = refl
-  valuationOf-valuesOf [] (b ∷ σ) f = absurd (omega (arith, f .sized))
-  valuationOf-valuesOf (k ∷ ks) σ f =
-      ap₂ (λ (a b : List ℕ). a ++ b) (chunkOf-valueOf k (first k ks σ f) (first-bits k ks σ f) (first-sized k ks σ f) (first-value k ks σ f))
-      (valuationOf-valuesOf ks (rest k ks σ f) (rest-functional k ks σ f))
+  pub bitsOfCells-valuesOf : (ks : List Kind) (σ : List ℕ) → Functional ks σ → bitsOfCells s ks (valuesOf s ks σ) ≡ σ
+  bitsOfCells-valuesOf [] [] f = refl
+  bitsOfCells-valuesOf [] (b ∷ σ) f = absurd (omega (arith, f .sized))
+  bitsOfCells-valuesOf (k ∷ ks) σ f =
+      ap₂ (λ (a b : List ℕ). a ++ b) (bitsOf-valueOf k (first k ks σ f) (first-bits k ks σ f) (first-sized k ks σ f) (first-value k ks σ f))
+      (bitsOfCells-valuesOf ks (rest k ks σ f) (rest-functional k ks σ f))
       ∙ take-append-drop (width s k) σ
 
-  pub valuesOf-valuationOf : (ks : List Kind) (vs : List ℕ) → inRange s ks vs ≡ true → Functional ks (valuationOf ks vs) × (valuesOf s ks (valuationOf ks vs) ≡ vs)
-  valuesOf-valuationOf [] [] h = (record { sized = refl; bits = refl; values = refl }, refl)
-  valuesOf-valuationOf [] (d ∷ ds) h = absurd (false≢true h)
-  valuesOf-valuationOf (k ∷ ks) [] h = absurd (false≢true h)
-  valuesOf-valuationOf (k ∷ ks) (d ∷ ds) h =
+  pub valuesOf-bitsOfCells : (ks : List Kind) (vs : List ℕ) → inRange s ks vs ≡ true → Functional ks (bitsOfCells s ks vs) × (valuesOf s ks (bitsOfCells s ks vs) ≡ vs)
+  valuesOf-bitsOfCells [] [] h = (record { sized = refl; bits = refl; values = refl }, refl)
+  valuesOf-bitsOfCells [] (d ∷ ds) h = absurd (false≢true h)
+  valuesOf-bitsOfCells (k ∷ ks) [] h = absurd (false≢true h)
+  valuesOf-bitsOfCells (k ∷ ks) (d ∷ ds) h =
       let lt : d < valueCount s k = ltb-true d (valueCount s k) (and-left (ltb d (valueCount s k)) (inRange s ks ds) h) in
-      let r = valuesOf-valuationOf ks ds (and-right (ltb d (valueCount s k)) (inRange s ks ds) h) in
-      let here : List ℕ = chunkOf k d in
-      let later : List ℕ = valuationOf ks ds in
-      let front : take (width s k) (here ++ later) ≡ here = take-at here later (width s k) (length-chunkOf k d) in
-      let back : drop (width s k) (here ++ later) ≡ later = drop-at here later (width s k) (length-chunkOf k d) in (
+      let r = valuesOf-bitsOfCells ks ds (and-right (ltb d (valueCount s k)) (inRange s ks ds) h) in
+      let here : List ℕ = bitsOf s k d in
+      let later : List ℕ = bitsOfCells s ks ds in
+      let front : take (width s k) (here ++ later) ≡ here = take-at here later (width s k) (length-bitsOf k d) in
+      let back : drop (width s k) (here ++ later) ≡ later = drop-at here later (width s k) (length-bitsOf k d) in (
         record {
-          sized = length-append here later ∙ omega (arith, length-chunkOf k d, r .0 .sized);
-          bits = all-append (λ b. ltb b 2) here later ∙ and-join (areBits here) (areBits later) (chunkOf-areBits k d lt) (r .0 .bits);
+          sized = length-append here later ∙ omega (arith, length-bitsOf k d, r .0 .sized);
+          bits = all-append (λ b. ltb b 2) here later ∙ and-join (areBits here) (areBits later) (bitsOf-areBits k d lt) (r .0 .bits);
           values = and-join (hasValue k (take (width s k) (here ++ later))) (allHaveValues s ks (drop (width s k) (here ++ later)))
-              (ap (hasValue k) front ∙ chunkOf-hasValue k d lt) (ap (allHaveValues s ks) back ∙ r .0 .values);
+              (ap (hasValue k) front ∙ bitsOf-hasValue k d lt) (ap (allHaveValues s ks) back ∙ r .0 .values);
         },
-        ap₂ (λ (v : ℕ) (l : List ℕ). v ∷ l) (ap (valueOf k) front ∙ valueOf-chunkOf k d lt) (ap (valuesOf s ks) back ∙ r .1),
+        ap₂ (λ (v : ℕ) (l : List ℕ). v ∷ l) (ap (valueOf k) front ∙ valueOf-bitsOf k d lt) (ap (valuesOf s ks) back ∙ r .1),
       )
 
   -- what a valuation says of a cell is what its value is
@@ -209,15 +197,15 @@ module _ (s : ℕ) (g : Signature) where
   readBack-isInterpretation σ h v = valuesOf-inRange s (cellKinds s g) σ (functional σ h v)
 
   -- a functional valuation is that of the interpretation read back from it
-  pub valuationOf-readBack : (σ : List ℕ) → isValuation s g σ ≡ true → isFunctional s g σ ≡ true → valuationOf s (cellKinds s g) (readBack s g σ) ≡ σ
-  unfolding readBack
-  valuationOf-readBack σ h v = valuationOf-valuesOf s (cellKinds s g) σ (functional σ h v)
+  pub valuationOf-readBack : (σ : List ℕ) → isValuation s g σ ≡ true → isFunctional s g σ ≡ true → valuationOf s g (readBack s g σ) ≡ σ
+  unfolding readBack valuationOf
+  valuationOf-readBack σ h v = bitsOfCells-valuesOf s (cellKinds s g) σ (functional σ h v)
 
   -- an interpretation is read back from its valuation
   pub readBack-valuationOf : (vs : List ℕ) → isInterpretation s g vs ≡ true
-      → (isValuation s g (valuationOf s (cellKinds s g) vs) ≡ true) × (isFunctional s g (valuationOf s (cellKinds s g) vs) ≡ true)
-      × (readBack s g (valuationOf s (cellKinds s g) vs) ≡ vs)
-  unfolding isInterpretation isFunctional readBack
+      → (isValuation s g (valuationOf s g vs) ≡ true) × (isFunctional s g (valuationOf s g vs) ≡ true)
+      × (readBack s g (valuationOf s g vs) ≡ vs)
+  unfolding isInterpretation isFunctional readBack valuationOf
   readBack-valuationOf vs h =
-      let r = valuesOf-valuationOf s (cellKinds s g) vs h in
-      (isValuation← (valuationOf s (cellKinds s g) vs) (r .0 .sized) (r .0 .bits), r .0 .values, r .1)
+      let r = valuesOf-bitsOfCells s (cellKinds s g) vs h in
+      (isValuation← (valuationOf s g vs) (r .0 .sized) (r .0 .bits), r .0 .values, r .1)

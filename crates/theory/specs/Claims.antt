@@ -12,5 +12,6 @@ pub mod Counts
 pub mod SheetRead
 pub mod Columns
 pub mod Explaining
+pub mod Settings
 pub mod Program
 pub mod Explainer

@@ -30,4 +30,5 @@ pub mod Examples
 pub mod ColumnExamples
 pub mod ExplainExamples
 pub mod ExplainerExamples
+pub mod SettingExamples
 pub mod Claims

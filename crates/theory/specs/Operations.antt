@@ -11,7 +11,7 @@ use Rattle.theory.specs.Cells.{judged, isModel}
 use Rattle.theory.specs.Propositional.{propCount}
 use Rattle.theory.specs.PropClauses.{propClauses, instanceCount, workNeeded}
 use Rattle.theory.specs.Dimacs.{dimacs}
-use Rattle.theory.specs.Valuation.{isValuation, isFunctional, readBack}
+use Rattle.theory.specs.Valuation.{isValuation, isFunctional, readBack, valuationOf}
 use Rattle.theory.specs.Refusals.{Answer, answer, refused, unplaced, needing, _>>=_, check}
 use Rattle.theory.specs.Problem.{Problem}
 use Rattle.theory.specs.CaseText.{Case, caseText, caseLength}
@@ -116,6 +116,14 @@ readBackText sheet size setting room = do
   _ ← check (isFunctional size (p .symbols) setting) (unplaced 14)
   _ ← check (leb (caseLength size (p .symbols)) room) (needing 11 (caseLength size (p .symbols)))
   answer (caseText size (p .symbols) (readBack size (p .symbols) setting))
+
+-- the text that Setting leaves, given an output of so many bytes: the V bytes of the case's setting, at the case's own size
+unfoldable pub settingText : List ℕ → List ℕ → ℕ → Answer (List ℕ)
+settingText sheet case room = do
+  p ← placedProblem sheet
+  k ← placedCase (p .symbols) case
+  _ ← check (leb (propCount (k .size) (p .symbols)) room) (needing 11 (propCount (k .size) (p .symbols)))
+  answer (valuationOf (k .size) (p .symbols) (k .values))
 
 -- Find's result: the size and the text of the case found, or none with the mark settled
 pub data Search : Type 0 where

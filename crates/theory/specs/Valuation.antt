@@ -1,9 +1,10 @@
--- Valuations (document 01: settings): a byte for each propositional variable; which clauses they satisfy, and the interpretation that they are read back as.
+-- Valuations (document 01: settings): a byte for each propositional variable; which clauses they satisfy, the interpretation that they are read back as, and
+-- the valuation that an interpretation has.
 use Prim.Native.Nat.{ℕ, zero, suc, _+_}
 use mathlib.Core.Bool.{Bool, true, false, cond, _&&_, Bool·beq}
 use mathlib.Core.List.{List, [], _∷_, _++_, map}
 use lib.Dec.{eqb, ltb}
-use lib.ListN.{length, getD, take, drop}
+use lib.ListN.{length, getD, take, drop, replicate}
 use Rattle.theory.specs.Lists.{any, all, select, upTo}
 use Rattle.theory.specs.Syntax.{Kind, function, predicate, Signature}
 use Rattle.theory.specs.Cells.{cellKinds}
@@ -66,6 +67,27 @@ valuesOf s (k ∷ ks) σ = valueOf k (take (width s k) σ) ∷ valuesOf s ks (dr
 -- the interpretation that a valuation is read back as: its cell values
 unfoldable pub readBack : ℕ → Signature → List ℕ → List ℕ
 readBack s g σ = valuesOf s (cellKinds s g) σ
+
+-- n bytes, 1 at place d and 0 elsewhere
+abbrev pub oneHot : ℕ → ℕ → List ℕ
+oneHot zero d = []
+oneHot (suc n) zero = 1 ∷ replicate n 0
+oneHot (suc n) (suc d) = 0 ∷ oneHot n d
+
+-- the bytes that give a cell the value d: 1 for the one result of a function's cell, the value itself for a predicate's
+abbrev pub bitsOf : ℕ → Kind → ℕ → List ℕ
+bitsOf s function d = oneHot s d
+bitsOf s predicate d = d ∷ []
+
+-- the bytes that give the cells of these kinds these values
+abbrev pub bitsOfCells : ℕ → List Kind → List ℕ → List ℕ
+bitsOfCells s [] vs = []
+bitsOfCells s (k ∷ ks) [] = []
+bitsOfCells s (k ∷ ks) (d ∷ ds) = bitsOf s k d ++ bitsOfCells s ks ds
+
+-- the valuation of an interpretation, given by its cell values: the one that is read back as it
+unfoldable pub valuationOf : ℕ → Signature → List ℕ → List ℕ
+valuationOf s g vs = bitsOfCells s (cellKinds s g) vs
 
 -- the bytes of a search's values: 1 for yes
 abbrev pub settingOf : List ℕ → List ℕ

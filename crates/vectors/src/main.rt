@@ -1,4 +1,4 @@
-// Runs the stored inputs of `data/` through the public calls and prints each answer as a line, with its text below where that is short; `stdout` has what must come.
+// Runs the stored inputs of `data/` through the public calls and prints each answer as a line, with its text below where that is short (a setting is no text); `stdout` has what must come.
 // What is lent is patterned before each call, and the line says whether what follows the answered length still has its pattern, and what is left in the work.
 mod inputs;
 mod lending;
@@ -46,4 +46,5 @@ fn main() {
     run_file(b"find", Operation::Find);
     run_file(b"from_tptp", Operation::FromTptp);
     run_file(b"explain", Operation::Explain);
+    run_file(b"setting", Operation::Setting);
 }

@@ -27,6 +27,7 @@ pub enum Operation {
     Find,
     FromTptp,
     Explain,
+    Setting,
 }
 
 fn read(sheet: &[u8]) {
@@ -119,6 +120,23 @@ fn explain(sheet: &[u8], case: &[u8]) {
     say(b"\n");
 }
 
+// What Setting answers and leaves. The bytes of a setting are no characters: their sum tells them.
+fn bytes(answer: WriteAnswer, output: &[u8]) {
+    match answer {
+        WriteAnswer::Written(n) => length(output, n),
+        WriteAnswer::Refused(r) => {
+            refusal(r);
+            rest(output, 0);
+        }
+    }
+    say(b"\n");
+}
+
+fn setting(sheet: &[u8], case: &[u8], output: &mut [u8]) {
+    let answer = nesskettle::setting(sheet, case, output);
+    bytes(answer, output);
+}
+
 fn name(operation: Operation) {
     match operation {
         Operation::Read => say(b"read"),
@@ -128,6 +146,7 @@ fn name(operation: Operation) {
         Operation::Find => say(b"find"),
         Operation::FromTptp => say(b"from_tptp"),
         Operation::Explain => say(b"explain"),
+        Operation::Setting => say(b"setting"),
     }
 }
 
@@ -149,6 +168,7 @@ fn answer(
         Operation::Find => find(sheet, x.low, x.high, work, output),
         Operation::FromTptp => from_tptp(sheet, output),
         Operation::Explain => explain(sheet, beside),
+        Operation::Setting => setting(sheet, beside, output),
     }
 }
 

@@ -1,4 +1,4 @@
-//! The answers of the operations: read, judge, explain, write, read back, find, and from TPTP.
+//! The answers of the operations: read, judge, explain, write, read back, setting, find, and from TPTP.
 //!
 //! Each call answers a result or a [`Refusal`]. A refusal has the number that the specification gives it.
 
@@ -214,6 +214,7 @@ pub struct Operations {
     pub explain: fn(&[u8], &[u8]) -> Answer<Option<FirstFailure>>,
     pub write: fn(&[u8], u64, &mut [u8]) -> Answer<usize>,
     pub read_back: fn(&[u8], u64, &[u8], &mut [u8]) -> Answer<usize>,
+    pub setting: fn(&[u8], &[u8], &mut [u8]) -> Answer<usize>,
     pub find: fn(&[u8], u64, u64, &mut [u32], &mut [u8]) -> Answer<Search>,
     pub from_tptp: fn(&[u8], &mut [u8]) -> Answer<usize>,
 }

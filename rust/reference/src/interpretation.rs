@@ -54,6 +54,19 @@ impl Interpretation {
         text
     }
 
+    /// One byte for each propositional variable: a function cell has one for each result, and that of its value is 1; a
+    /// predicate cell has its own.
+    pub fn setting(&self, problem: &Problem) -> Vec<u8> {
+        let function_cells = problem.functions.iter().map(|f| power(self.size, f.arity)).sum();
+        let (functions, predicates) = self.cells.split_at(function_cells);
+        let results = |&value: &u8| (1..=self.size as u8).map(move |result| u8::from(result == value));
+        functions
+            .iter()
+            .flat_map(results)
+            .chain(predicates.iter().copied())
+            .collect()
+    }
+
     /// The first clause with no true literal for some elements that its letters stand for, and the first such elements.
     pub fn first_failure(&self, problem: &Problem) -> Option<FirstFailure> {
         let tables = Tables::new(problem, self);

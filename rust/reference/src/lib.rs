@@ -36,6 +36,7 @@ pub const OPERATIONS: Operations = Operations {
     explain,
     write,
     read_back,
+    setting,
     find,
     from_tptp,
 };
@@ -83,6 +84,13 @@ pub fn read_back(sheet: &[u8], size: u64, setting: &[u8], out: &mut [u8]) -> Res
     let yes = |variable: usize| setting[variable] == 1;
     let cells = numbering.cells(&problem, yes).ok_or(refused(Reason::NotOneResult))?;
     put(&Interpretation::new(size, cells).text(&problem), out)
+}
+
+/// Writes the setting of a case, which need not be a model; the setting's length.
+pub fn setting(sheet: &[u8], case: &[u8], out: &mut [u8]) -> Result<usize, Refusal> {
+    let problem = Problem::read(sheet)?;
+    let interpretation = Interpretation::read(&problem, case)?;
+    put(&interpretation.setting(&problem), out)
 }
 
 /// Searches the sizes from low to high for the least model at the smallest size.

@@ -128,6 +128,7 @@ pub fn run(operations: &Operations, vector: &Vector) -> Result<(), String> {
         "write" => (operations.write)(sheet, given.number("size"), &mut out).map(|n| format!("length={n}")),
         "read-back" => (operations.read_back)(sheet, given.number("size"), given.bytes("setting"), &mut out)
             .map(|n| format!("length={n}")),
+        "setting" => (operations.setting)(sheet, given.bytes("case"), &mut out).map(|n| format!("length={n}")),
         "find" => (operations.find)(sheet, given.number("low"), given.number("high"), &mut work, &mut out).map(found),
         "from-tptp" => (operations.from_tptp)(given.bytes("text"), &mut out).map(|n| format!("length={n}")),
         other => panic!("no operation {other}"),

@@ -141,6 +141,22 @@ impl Draft {
         draft
     }
 
+    /// As many symbols as a sheet can have, all with three arguments, and no clause: no case has more cells than its cases.
+    pub fn most_cells() -> Draft {
+        let symbols = |letter: char| {
+            let symbol = |i: usize| Symbol {
+                name: format!("{letter}{i}"),
+                arity: 3,
+            };
+            (0..12).map(symbol).collect()
+        };
+        Draft {
+            functions: symbols('f'),
+            predicates: symbols('p'),
+            clauses: Vec::new(),
+        }
+    }
+
     /// A symbol with a name that is not taken.
     fn symbol(&self, random: &mut Random, style: Style) -> Symbol {
         let arity = random.between(0, style.arity).min(random.between(0, style.arity + 1));

@@ -2,7 +2,9 @@
 
 pub mod buffers;
 pub mod damage;
+pub mod dimacs;
 pub mod draft;
+pub mod models;
 pub mod places;
 pub mod problems;
 pub mod random;

@@ -8,13 +8,11 @@ use nesskettle_reference::{self as reference, Refusal, Search};
 use nesskettle_trials::buffers::{length_around, Lent};
 use nesskettle_trials::damage::damaged;
 use nesskettle_trials::draft::{long_sheet, Draft, Style, BROAD, LIMITS, LONG_CLAUSES, SMALL};
+use nesskettle_trials::models::{small_model, CHOICES};
 use nesskettle_trials::places::pointed_at;
 use nesskettle_trials::problems::{self, MILLION};
 use nesskettle_trials::random::Random;
 use nesskettle_trials::tally::Tally;
-
-/// Generated searches that need more choices than this are left out.
-const CHOICES: u64 = 2_000;
 
 /// Sizes that no call takes, those that a narrower number would take among them.
 const BAD_SIZES: [u64; 6] = [0, 9, 10, 258, (1 << 32) + 2, u64::MAX];
@@ -203,6 +201,32 @@ fn check_read_back(tally: &mut Tally, sheet: &[u8], size: u64, setting: &[u8], o
         call()
     );
     tally.add("written", answer.reason);
+}
+
+fn check_setting(tally: &mut Tally, sheet: &[u8], case: &[u8], output_length: usize) {
+    let mut should = vec![0; output_length];
+    let (expected, front) = expected_text(reference::setting(sheet, case, &mut should), &should);
+    let (lent, lent_case) = (sheet.to_vec(), case.to_vec());
+    let mut output = Lent::bytes(output_length);
+    let out = output.lend();
+    let answer = unsafe {
+        raw::nk_setting(
+            lent.as_ptr(),
+            lent.len(),
+            lent_case.as_ptr(),
+            lent_case.len(),
+            out.as_mut_ptr(),
+            out.len(),
+        )
+    };
+    let call = || format!("setting, output {output_length}\n{}\n{}", text(sheet), text(case));
+    assert_eq!(answer, expected, "{}", call());
+    assert!(
+        lent == sheet && lent_case == case && output.holds(front),
+        "lent bytes: {}",
+        call()
+    );
+    tally.add(if front.is_empty() { "no byte" } else { "written" }, answer.reason);
 }
 
 /// The answer of a call that writes a text, and the text.
@@ -394,7 +418,7 @@ fn sheet_and_case(random: &mut Random) -> (Vec<u8>, Vec<u8>) {
     let size = size_of(random, &sheet, 20_000).clamp(1, 9) as usize;
     let mut case = draft.case(random, size);
     if random.once_in(4) {
-        case = model(&sheet).unwrap_or(case);
+        case = small_model(&sheet).unwrap_or(case);
     }
     if random.once_in(4) {
         case = damaged(random, &case);
@@ -500,17 +524,6 @@ fn every_short_case_is_explained_alike() {
     tally.covers(2, &["yes", "no, letters: 1", "12"]);
 }
 
-/// A small model of the sheet, if one is found quickly.
-fn model(sheet: &[u8]) -> Option<Vec<u8>> {
-    let (work, output) = reference::needed(sheet, 3).ok()?;
-    let mut work = vec![0; work.min(100_000) as usize];
-    let mut output = vec![0; output as usize];
-    match reference::find_within(sheet, 1, 3, &mut work, &mut output, CHOICES) {
-        Ok(Some(Search::Found { length, .. })) => Some(output[..length].to_vec()),
-        _ => None,
-    }
-}
-
 #[test]
 fn clauses_are_written_alike() {
     let mut tally = Tally::default();
@@ -577,6 +590,28 @@ fn settings_are_read_back_alike() {
         check_read_back(&mut tally, &sheet, size, &setting, length);
     }
     tally.covers(50, &["written", "2", "8", "11", "13", "14"]);
+}
+
+#[test]
+fn settings_of_cases_are_written_alike() {
+    let mut tally = Tally::default();
+    let mut random = Random::new(40);
+    for _ in 0..60_000 {
+        let (sheet, case) = sheet_and_case(&mut random);
+        let needed = reference::setting(&sheet, &case, &mut []).map_or_else(|refusal| refusal.needed, |_| 0);
+        let length = length_around(&mut random, needed);
+        check_setting(&mut tally, &sheet, &case, length);
+    }
+    tally.covers(50, &["written", "no byte", "2", "3", "4", "5", "6", "7", "11", "12"]);
+}
+
+#[test]
+fn the_setting_of_every_short_case_is_written_alike() {
+    let mut tally = Tally::default();
+    every_short_case(|sheet, case| check_setting(&mut tally, sheet, case, 5));
+    tally.covers(2, &["written", "12"]);
+    every_short_case(|sheet, case| check_setting(&mut tally, sheet, case, 4));
+    tally.covers(2, &["11"]);
 }
 
 /// Other lengths, other bytes, other results.

@@ -1,6 +1,6 @@
 //! The specification's examples, executed on the proved library.
 
-use nesskettle::{find, judge, read, read_back, write, Counts, Reason, Refusal, Search};
+use nesskettle::{find, judge, read, read_back, setting, write, Counts, Reason, Refusal, Search};
 use nesskettle_reference::sheet_of;
 use nesskettle_trials::problems::{sheet, GROUP_CASE};
 
@@ -57,6 +57,41 @@ fn two_constants() {
     let back = |setting: &[u8]| text_of(|output| read_back(sheet, 2, setting, output));
     assert_eq!(back(&[0, 1, 1, 0]).as_deref(), Ok("case=1\nsize=2\na=2\nb=1\n"));
     assert_eq!(back(&[1, 1, 0, 0]), refused(Reason::NotOneResult, NO_PLACE));
+}
+
+#[test]
+fn settings_of_cases() {
+    let mut output = [7; 6];
+    let constants = sheet("two-constants");
+    assert_eq!(setting(constants, b"case=1\nsize=2\na=2\nb=1\n", &mut output), Ok(4));
+    assert_eq!(output, [0, 1, 1, 0, 7, 7]);
+    // no model
+    assert_eq!(setting(constants, b"case=1\nsize=2\na=2\nb=2\n", &mut output), Ok(4));
+    assert_eq!(output, [0, 1, 0, 1, 7, 7]);
+    // V is that of the case's own size
+    let short = Refusal {
+        reason: Reason::OutputTooShort,
+        line: 0,
+        column: 0,
+        needed: 8,
+    };
+    assert_eq!(
+        setting(constants, b"case=1\nsize=4\na=1\nb=1\n", &mut output),
+        Err(short)
+    );
+    assert_eq!(
+        setting(constants, b"case=1\nsize=2\na=2\nb=3\n", &mut output),
+        refused(Reason::BadCase, (4, 3))
+    );
+    assert_eq!(output, [0, 1, 0, 1, 7, 7]);
+    let with_predicate = sheet_of(&["a/0"], &["p/1"], &["+ p a", "- p A + = A a"]);
+    assert_eq!(
+        setting(&with_predicate, b"case=1\nsize=2\na=1\np=0 1\n", &mut output),
+        Ok(4)
+    );
+    assert_eq!(output, [1, 0, 0, 1, 7, 7]);
+    let nothing = sheet_of(&[], &[], &[""]);
+    assert_eq!(setting(&nothing, b"case=1\nsize=8\n", &mut []), Ok(0));
 }
 
 #[test]

@@ -1,8 +1,10 @@
 //! Every call does with 192 kB of stack, also on the deepest terms that a clause of 64 words has, and on TPTP terms of any
 //! depth.
 
-use nesskettle::{explain, find, from_tptp, judge, read, read_back, write, FirstFailure, Reason};
+use nesskettle::{explain, find, from_tptp, judge, read, read_back, setting, write, FirstFailure, Reason};
 use nesskettle_reference::sheet_of;
+use nesskettle_trials::draft::Draft;
+use nesskettle_trials::random::Random;
 
 const STACK: usize = 192 * 1024;
 
@@ -28,6 +30,10 @@ fn the_deepest_terms_are_refused() {
         assert_eq!(judge(&sheet, b"").unwrap_err().reason, Reason::ClauseTooLarge);
         assert_eq!(explain(&sheet, b"").unwrap_err().reason, Reason::ClauseTooLarge);
         assert_eq!(
+            setting(&sheet, b"", &mut output).unwrap_err().reason,
+            Reason::ClauseTooLarge
+        );
+        assert_eq!(
             write(&sheet, 2, &mut output).unwrap_err().reason,
             Reason::ClauseTooLarge
         );
@@ -51,9 +57,23 @@ fn the_deepest_terms_are_taken() {
         let case = b"case=1\nsize=2\nf=2 1\np=0 1\n";
         assert_eq!(judge(&sheet, case), Ok(false));
         assert_eq!(explain(&sheet, case), Ok(Some(FirstFailure::new(1, [('A', 2)]))));
+        assert_eq!(setting(&sheet, case, &mut output), Ok(6));
         assert!(write(&sheet, 2, &mut output).is_ok());
         assert!(read_back(&sheet, 1, &[1, 1], &mut output).is_ok());
         assert!(find(&sheet, 1, 2, &mut work, &mut output).is_ok());
+    });
+}
+
+#[test]
+fn the_most_cells_are_taken() {
+    let draft = Draft::most_cells();
+    let (sheet, case) = (draft.sheet(), draft.case(&mut Random::new(9), 8));
+    on_a_small_stack(move || {
+        let (mut bytes, mut again) = (vec![0; 60_000], vec![0; 60_000]);
+        assert_eq!(judge(&sheet, &case), Ok(true));
+        assert_eq!(setting(&sheet, &case, &mut bytes), Ok(55_296));
+        assert_eq!(read_back(&sheet, 8, &bytes[..55_296], &mut again), Ok(case.len()));
+        assert_eq!(again[..case.len()], case);
     });
 }
 

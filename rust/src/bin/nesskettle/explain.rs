@@ -1,13 +1,13 @@
 //! `nesskettle explain`: the first failure, and what the terms and literals of its clause come to.
 
-use crate::report::{judge_refused, Failure, File};
+use crate::report::{sheet_or_case_refused, Failure, File};
 use crate::values::Values;
 use crate::{print, NO};
 use nesskettle::FirstFailure;
 
 pub fn explain(sheet: &File, case: &File) -> Result<u8, Failure> {
-    let explained = nesskettle::explain(&sheet.bytes, &case.bytes).map_err(|r| judge_refused(r, sheet, case))?;
-    match explained {
+    let explained = nesskettle::explain(&sheet.bytes, &case.bytes);
+    match explained.map_err(|r| sheet_or_case_refused(r, sheet, case))? {
         None => print(b"answer=yes\n"),
         Some(failure) => {
             let text = answer(&failure) + "\n" + &clause(sheet, case, &failure);

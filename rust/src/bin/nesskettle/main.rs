@@ -7,6 +7,7 @@ mod find;
 mod options;
 mod report;
 mod room;
+mod setting;
 mod symbols;
 mod tables;
 mod values;
@@ -47,6 +48,7 @@ fn run(command: Command) -> Result<u8, Failure> {
             setting,
             tables,
         } => read_back(&read_sheet(&sheet)?, size, &File::read(&setting)?, tables),
+        Command::Setting { sheet, case } => setting::setting(&read_sheet(&sheet)?, &File::read(&case)?),
         Command::Find {
             sheet,
             low,
@@ -89,7 +91,8 @@ fn counted(count: u64, what: &str) -> String {
 }
 
 fn judge(sheet: &File, case: &File) -> Result<u8, Failure> {
-    let yes = nesskettle::judge(&sheet.bytes, &case.bytes).map_err(|r| report::judge_refused(r, sheet, case))?;
+    let judged = nesskettle::judge(&sheet.bytes, &case.bytes);
+    let yes = judged.map_err(|r| report::sheet_or_case_refused(r, sheet, case))?;
     print(if yes { b"yes\n" } else { b"no\n" })?;
     Ok(if yes { YES } else { NO })
 }

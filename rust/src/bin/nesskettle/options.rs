@@ -18,6 +18,9 @@ nesskettle: a finite model finder. Every answer is the proved library's.
       prints the sheet's clauses at a size, as DIMACS text for a SAT solver
   nesskettle read-back SHEET --size N SETTING [--tables]
       prints the case that a setting of the propositional variables stands for
+  nesskettle setting SHEET CASE
+      the other way: prints the setting of a case, as read-back takes it, with a line
+      for each symbol; it satisfies the clauses exactly if the case is a model
   nesskettle check SHEET
       is it a sheet? prints how many functions, predicates and clauses it has
   nesskettle tptp FILE
@@ -31,7 +34,9 @@ comments: one whose name ends in .p or .tptp, or any file with --tptp. A case
 has the symbols in the order in which they first appear in the clauses.
 
 A SETTING file holds one digit, 0 or 1, for each propositional variable, in
-order. Spaces, tabs and line ends between the digits do not count.
+order. Spaces, tabs and line ends between the digits do not count. The variables
+of a function's entry are one for each value that it could have; a predicate's
+entry is a variable itself.
 
 --tables prints a case as tables: rows are first arguments, columns are last
 ones, and three arguments make one table for each first argument. A predicate's
@@ -83,6 +88,10 @@ pub enum Command {
         setting: String,
         tables: bool,
     },
+    Setting {
+        sheet: Sheet,
+        case: String,
+    },
     Find {
         sheet: Sheet,
         low: u64,
@@ -117,18 +126,13 @@ pub fn parse(arguments: impl Iterator<Item = String>) -> Result<Command, Failure
             let [sheet] = rest.files("SHEET")?;
             Ok(Command::Check { sheet: sheet_in(sheet) })
         }
-        "judge" => {
+        verb @ ("judge" | "explain" | "setting") => {
             let [sheet, case] = rest.files("SHEET CASE")?;
-            Ok(Command::Judge {
-                sheet: sheet_in(sheet),
-                case,
-            })
-        }
-        "explain" => {
-            let [sheet, case] = rest.files("SHEET CASE")?;
-            Ok(Command::Explain {
-                sheet: sheet_in(sheet),
-                case,
+            let sheet = sheet_in(sheet);
+            Ok(match verb {
+                "judge" => Command::Judge { sheet, case },
+                "explain" => Command::Explain { sheet, case },
+                _ => Command::Setting { sheet, case },
             })
         }
         "clauses" => {

@@ -120,8 +120,8 @@ fn shown(bytes: &[u8]) -> String {
     bytes.iter().map(shown).collect()
 }
 
-/// A refusal of Judge or Explain: 12 speaks of the case, the others of the sheet.
-pub fn judge_refused(refusal: Refusal, sheet: &File, case: &File) -> Failure {
+/// A refusal of a call that takes a sheet and a case: 12 speaks of the case, the others of the sheet.
+pub fn sheet_or_case_refused(refusal: Refusal, sheet: &File, case: &File) -> Failure {
     let file = if refusal.reason == Reason::BadCase { case } else { sheet };
     file.refused(refusal)
 }

@@ -5,6 +5,7 @@
 //!     cargo run --release -p nesskettle-trials --bin bench [RUNS]
 
 use nesskettle_reference as reference;
+use nesskettle_trials::draft::Draft;
 use nesskettle_trials::problems::{sheet, GROUP_CASE, MILLION};
 use nesskettle_trials::random::Random;
 use reference::{sheet_of, Operations, Search};
@@ -144,24 +145,22 @@ fn write_row(bench: &Bench, name: &str, sheet: &[u8], size: u64, times: u32) {
     });
 }
 
+/// Read back and Setting, the one on what the other leaves.
 fn read_back(bench: &Bench) {
-    let functions: Vec<String> = (0..12).map(|i| format!("f{i}/3")).collect();
-    let predicates: Vec<String> = (0..12).map(|i| format!("p{i}/3")).collect();
-    let functions: Vec<&str> = functions.iter().map(String::as_str).collect();
-    let predicates: Vec<&str> = predicates.iter().map(String::as_str).collect();
-    let sheet = sheet_of(&functions, &predicates, &[]);
-    let mut random = Random::new(7);
-    let mut setting = Vec::new();
-    for _ in 0..12 * 512 {
-        let result = random.below(8);
-        setting.extend((0..8).map(|d| (d == result) as u8));
-    }
-    setting.extend((0..12 * 512).map(|_| random.below(2) as u8));
-    let mut output = vec![0; 24_902];
+    let draft = Draft::most_cells();
+    let sheet = draft.sheet();
+    let setting = draft.setting(&mut Random::new(7), 8);
+    let mut case = vec![0; 24_902];
     let amount = Some((setting.len() as f64 / 1e6, "million variables"));
+    let mut length = 0;
     bench.row("read back, 24 tables of 512 at size 8", 20, amount, |o| {
-        assert!((o.read_back)(&sheet, 8, &setting, &mut output).is_ok())
+        length = (o.read_back)(&sheet, 8, &setting, &mut case).expect("it is a setting")
     });
+    let mut output = vec![0; setting.len()];
+    bench.row("setting, 24 tables of 512 at size 8", 20, amount, |o| {
+        assert_eq!((o.setting)(&sheet, &case[..length], &mut output), Ok(setting.len()))
+    });
+    assert_eq!(output, setting);
 }
 
 fn find(bench: &Bench) {

@@ -58,6 +58,13 @@ pub fn reading_back(sheet: impl AsRef<[u8]>, size: u64, setting: &[u8], output: 
     }
 }
 
+pub fn setting_of(sheet: impl AsRef<[u8]>, case: impl AsRef<[u8]>, output: u64) -> Call {
+    Call {
+        output,
+        ..judging(sheet, case)
+    }
+}
+
 pub fn finding(sheet: impl AsRef<[u8]>, low: u64, high: u64, work: u64, output: u64) -> Call {
     Call {
         low,

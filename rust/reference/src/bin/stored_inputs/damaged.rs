@@ -1,6 +1,6 @@
 //! Damaged inputs: each refusal several times, several faults at once, bytes at the edges of what is allowed.
 
-use crate::calls::{file, finding, importing, judging, reading, reading_back, writing, Call};
+use crate::calls::{file, finding, importing, judging, reading, reading_back, setting_of, writing, Call};
 use crate::examples::{full, two_constants};
 use nesskettle_reference::sheet_of;
 
@@ -13,10 +13,12 @@ pub fn of(operation: &str) -> Vec<Call> {
     let good = b"case=1\nsize=2\na=1\nb=2\n";
     match operation {
         "read" => sheets().iter().chain(&longer()).map(reading).collect(),
-        "judge" | "explain" => {
-            let refused = one_of_each().into_iter().map(|s| judging(s, "case=2\n"));
-            refused.chain(cases()).collect()
-        }
+        "judge" | "explain" => judged(),
+        // eleven bytes are a setting of most of the cases
+        "setting" => judged()
+            .into_iter()
+            .map(|c| setting_of(c.sheet, c.beside, 11))
+            .collect(),
         "write" => one_of_each().into_iter().map(|s| writing(s, 0, 10)).collect(),
         "read_back" => one_of_each()
             .into_iter()
@@ -37,6 +39,12 @@ fn whole() -> String {
 fn damage(old: &str, new: &str) -> Vec<u8> {
     assert_eq!(whole().matches(old).count(), 1, "{old}");
     whole().replace(old, new).into_bytes()
+}
+
+/// Refusals 1 to 7 and 12.
+fn judged() -> Vec<Call> {
+    let refused = one_of_each().into_iter().map(|s| judging(s, "case=2\n"));
+    refused.chain(cases()).collect()
 }
 
 /// Refusals 1 to 7.

@@ -1,8 +1,8 @@
 //! Good inputs: the specification's examples, the limits from both sides, and sheets whose answer a usual mistake changes.
 
-use crate::calls::{file, finding, importing, judging, reading, reading_back, searching, writing, Call};
+use crate::calls::{file, finding, importing, judging, reading, reading_back, searching, setting_of, writing, Call};
 use nesskettle_reference::sheet_of;
-use nesskettle_reference::{from_tptp, instances_and_variables, needed, write};
+use nesskettle_reference::{from_tptp, instances_and_variables, needed, setting, write};
 
 pub fn of(operation: &str) -> Vec<Call> {
     match operation {
@@ -12,6 +12,7 @@ pub fn of(operation: &str) -> Vec<Call> {
         "read_back" => read_backs(),
         "find" => finds(),
         "from_tptp" => imports(),
+        "setting" => settings(),
         "explain" => judges().into_iter().chain(explains()).collect(),
         other => panic!("no operation {other}"),
     }
@@ -317,6 +318,49 @@ fn read_backs() -> Vec<Call> {
         calls.push(reading_back(&two, size, &[0, 1, 1, 0], 22));
     }
     calls
+}
+
+/// Cases, models or not, most with just the output that their setting needs, one byte less, and more.
+fn settings() -> Vec<Call> {
+    let mixed = sheet_of(&["a/0", "f/1"], &["p/0", "r/2"], &["+ p"]);
+    let constant_second = sheet_of(&["f/1", "a/0", "g/2"], &["r/1"], &[]);
+    let mut cases = judges();
+    cases.extend([
+        judging(&mixed, "case=1\nsize=1\na=1\nf=1\np=0\nr=1\n"),
+        judging(&mixed, "case=1\nsize=3\na=3\nf=2 1 3\np=1\nr=0 1 1 0 0 0 1 0 1\n"),
+        judging(&constant_second, "case=1\nsize=2\nf=2 1\na=1\ng=1 2 2 1\nr=0 1\n"),
+        judging(sheet_of(&[], &["p/1"], &[]), "case=1\nsize=8\np=0 1 0 1 1 1 0 0\n"),
+        judging(sheet_of(&["a/0"], &[], &[]), "case=1\nsize=8\na=8\n"),
+        largest_case(),
+        // Setting takes a sheet that Write refuses by 9
+        judging(triples(4), format!("case=1\nsize=8\nq={}\n", vec!["1"; 512].join(" "))),
+    ]);
+    let mut calls = Vec::new();
+    for case in cases {
+        let needed = setting(&case.sheet, &case.beside, &mut []).map_or_else(|refusal| refusal.needed, |_| 0);
+        let outputs = [Some(needed), needed.checked_sub(1), Some(needed + 9)];
+        let lent = |output: u64| setting_of(&case.sheet, &case.beside, output);
+        calls.extend(outputs.into_iter().flatten().map(lent));
+    }
+    calls
+}
+
+/// As many cells as a case can have, each table another.
+fn largest_case() -> Call {
+    let declared = |key: &str| -> String {
+        let lines: String = (0..12).map(|n| format!("{key}={key}{n}/3\n")).collect();
+        format!("{key}s=12\n{lines}")
+    };
+    let sheet = format!("sheet=1\n{}{}clauses=0\n", declared("fun"), declared("pred"));
+    let line = |key: &str, n: usize, least: usize, values: usize| {
+        let entries: Vec<String> = (0..512)
+            .map(|i| (least + (i * n + i / 7) % values).to_string())
+            .collect();
+        format!("{key}{n}={}\n", entries.join(" "))
+    };
+    let functions: String = (0..12).map(|n| line("fun", n, 1, 8)).collect();
+    let predicates: String = (0..12).map(|n| line("pred", n, 0, 2)).collect();
+    judging(sheet, format!("case=1\nsize=8\n{functions}{predicates}"))
 }
 
 fn finds() -> Vec<Call> {

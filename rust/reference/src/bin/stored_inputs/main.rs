@@ -11,7 +11,7 @@ mod examples;
 
 use calls::Call;
 use nesskettle_reference::vectors::{self, patterned_bytes, patterned_numbers};
-use nesskettle_reference::{explain, find, from_tptp, judge, read, read_back, write};
+use nesskettle_reference::{explain, find, from_tptp, judge, read, read_back, setting, write};
 use nesskettle_reference::{FirstFailure, Refusal, Search, OPERATIONS};
 use std::path::Path;
 use std::{fs, io};
@@ -24,10 +24,22 @@ const MOST_OUTPUT: u64 = 65_536;
 const MOST_STORED: usize = 100;
 const MOST_SHEET: usize = 700;
 
+/// The files of inputs, in the order in which the program takes them.
+const OPERATIONS_IN_ORDER: [&str; 8] = [
+    "read",
+    "judge",
+    "write",
+    "read_back",
+    "find",
+    "from_tptp",
+    "explain",
+    "setting",
+];
+
 fn main() -> io::Result<()> {
     let folder = Path::new(env!("CARGO_MANIFEST_DIR")).join("../../crates/vectors");
     let mut printed = Vec::new();
-    for operation in ["read", "judge", "write", "read_back", "find", "from_tptp", "explain"] {
+    for operation in OPERATIONS_IN_ORDER {
         let mut inputs = examples::of(operation);
         inputs.extend(damaged::of(operation));
         inputs.extend(stored(operation));
@@ -90,13 +102,14 @@ fn answer(operation: &str, call: &Call) -> Vec<u8> {
         }
         "judge" => return line(judge(sheet, beside).map_or_else(refusal, |yes| format!(" {}", yes_no(yes)))),
         "explain" => return line(explain(sheet, beside).map_or_else(refusal, explained)),
-        "write" => write(sheet, call.low, &mut output).map(|length| (String::new(), length)),
-        "read_back" => read_back(sheet, call.low, beside, &mut output).map(|length| (String::new(), length)),
-        "from_tptp" => from_tptp(sheet, &mut output).map(|length| (String::new(), length)),
+        "write" => write(sheet, call.low, &mut output).map(written),
+        "read_back" => read_back(sheet, call.low, beside, &mut output).map(written),
+        "setting" => setting(sheet, beside, &mut output).map(written),
+        "from_tptp" => from_tptp(sheet, &mut output).map(written),
         "find" => find(sheet, call.low, call.high, &mut work, &mut output).map(found),
         other => panic!("no operation {other}"),
     };
-    let length = told.as_ref().map_or(0, |(_, length)| *length);
+    let length = told.as_ref().map_or(0, |(_, length)| length.unwrap_or(0));
     assert_eq!(
         output[length..],
         patterned_bytes(call.output)[length..],
@@ -104,8 +117,8 @@ fn answer(operation: &str, call: &Call) -> Vec<u8> {
     );
     let mut says = match told {
         Err(r) => refusal(r),
-        Ok((first, 0)) => first,
-        Ok((first, _)) => format!("{first} length {length} sum {}", sum(&output[..length])),
+        Ok((first, None)) => first,
+        Ok((first, Some(_))) => format!("{first} length {length} sum {}", sum(&output[..length])),
     };
     says += " rest same";
     if operation == "find" {
@@ -125,7 +138,8 @@ fn answer(operation: &str, call: &Call) -> Vec<u8> {
         };
     }
     let mut text = line(says);
-    if length <= SHORT {
+    // the bytes of a setting are no characters: their sum tells them
+    if length <= SHORT && operation != "setting" {
         text.extend(&output[..length]);
     }
     text
@@ -149,10 +163,14 @@ fn explained(failure: Option<FirstFailure>) -> String {
     format!(" no clause {}{choice}", failure.clause)
 }
 
-fn found(search: Search) -> (String, usize) {
+fn written(length: usize) -> (String, Option<usize>) {
+    (String::new(), Some(length))
+}
+
+fn found(search: Search) -> (String, Option<usize>) {
     match search {
-        Search::Found { size, length } => (format!(" found {size}"), length),
-        Search::None { settled } => (format!(" none settled {}", yes_no(settled)), 0),
+        Search::Found { size, length } => (format!(" found {size}"), Some(length)),
+        Search::None { settled } => (format!(" none settled {}", yes_no(settled)), None),
     }
 }
 

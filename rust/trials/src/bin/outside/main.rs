@@ -3,19 +3,18 @@
 //!
 //! Checked for each sheet and size:
 //! - a solver satisfies the clauses exactly if Find finds a model of that size;
-//! - a solver's assignment, as a setting, is read back as a case that Judge calls a model;
+//! - a solver's assignment, as a setting, is read back as a case that Judge calls a model, and whose setting it is;
 //! - no model comes before the found one: with the cells before some cell as found, no smaller value of that cell is
 //!   satisfiable, and with all cells as found the clauses are;
 //!
 //! for each sheet that the smallest size found is cvc5's; and for each TPTP text that what Find says of the sheet left is
 //! what cvc5 says of the text: whether there is a model, and its smallest size.
 
-mod dimacs;
 mod sheet;
 mod solvers;
 
-use dimacs::Dimacs;
 use nesskettle::{Reason, Search};
+use nesskettle_trials::dimacs::Dimacs;
 use nesskettle_trials::draft::{Draft, BROAD, SMALL};
 use nesskettle_trials::problems;
 use nesskettle_trials::random::Random;
@@ -155,7 +154,8 @@ impl Trial {
 
     fn reads_back_as_model(&self, sheet: &Sheet, size: u64, setting: &[u8]) -> bool {
         let case = text(|output| nesskettle::read_back(&sheet.bytes, size, setting, output));
-        nesskettle::judge(&sheet.bytes, &case) == Ok(true)
+        let again = text(|output| nesskettle::setting(&sheet.bytes, &case, output));
+        nesskettle::judge(&sheet.bytes, &case) == Ok(true) && again == setting
     }
 
     /// Asks a solver, for each cell of the found model that could be smaller, for a model with the cells before as found

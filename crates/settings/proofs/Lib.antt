@@ -1,0 +1,3 @@
+pub mod CellBits
+pub mod Blocks
+pub mod Answered
