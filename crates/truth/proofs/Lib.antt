@@ -1,4 +1,8 @@
 pub mod Signs
+pub mod Standing
 pub mod Stack
-pub mod Lending
+pub mod Variables
+pub mod SymbolCells
+pub mod InsideOut
+pub mod Atoms
 pub mod Clausewise

@@ -1,22 +1,21 @@
--- What the functions of truth are lent, and what stands in the stack when words have been read.
+-- What valuing a clause is lent, and what the values of a variable, a function, a predicate and a clause are.
 use Prim.Native.Nat.{ℕ, _≤_, _<_}
 use mathlib.Core.Path.{_≡_}
 use mathlib.Core.Bool.{Bool, true}
-use mathlib.Core.List.{List, _∷_, map}
-use lib.ListN.{length, drop}
+use mathlib.Core.List.{List, map}
+use lib.ListN.{length}
 use Rattle.theory.specs.Lists.{all, elem}
 use Rattle.theory.specs.Vectors.{AllBelow}
 use Rattle.theory.specs.Syntax.{Signature, Clause, Terms, variable, apply, holds}
 use Rattle.theory.specs.Truth.{Interpretation, Assignment, value, values, atomTrue, clauseTrue, assign}
 use Rattle.theory.specs.Cells.{cell, interpretation, isInterpretation}
-use Rattle.theory.specs.Grammar.{Word, Due, atom, clause, grammarFrom, grammar, readWords}
+use Rattle.theory.specs.Grammar.{Word, clause, grammar, readWords}
 use Rattle.indices.specs.declared.Cell.{Cell}
 use Rattle.indices.specs.declared.Element.{Element}
 use Rattle.syntax.specs.Signatures.{Small}
 use Rattle.syntax.specs.Codes.{codeWord, isKnown}
 use Rattle.syntax.specs.Variables.{lettersOf, Places}
 use Rattle.interpretation.specs.declared.tables.Tables.{Tables}
-use Rattle.truth.specs.declared.values.Machine.{Machine}
 use Rattle.interpretation.specs.Tables.{TablesOf}
 
 -- the places of the variables xs
@@ -60,35 +59,6 @@ pub record Chosen (xs : List ℕ) (s : ℕ) (choice : List ℕ) : Type 0 where
 -- every letter of the words is one of the variables xs
 abbrev pub lettersAmong : List ℕ → List Word → Bool
 lettersAmong xs ws = all (λ x. elem x xs) (lettersOf ws)
-
--- after the words ws the stack has the values of the terms read, m the truth of the atom and of the clause
-pub record ValuesHeld (g : Signature) (I : Interpretation) (ρ : Assignment) (s : ℕ) (ws : List Word) (stack : List ℕ) (m : Machine) : Type 0 where
-  pub within : m .top ≤ length stack
-  pub terms : drop (m .top) stack ≡ values I ρ (readWords g ws .terms)
-  pub below : AllBelow s (drop (m .top) stack)
-  pub atom : (i : ℕ) → grammarFrom g i atom ws ≡ clause → m .atom ≡ atomTrue I ρ (readWords g ws .atom)
-  pub clause : m .holds ≡ clauseTrue I ρ (readWords g ws .clause)
-
--- a word of a clause, where the words behind it have been read
-pub record WordLent (word : ℕ) (place arities : List ℕ) (functions : List Bool) (bases cells : List ℕ) (s : ℕ) (choice stack : List ℕ) (m : Machine) : Type 0 where
-  pub signature : Signature
-  pub variables : List ℕ
-  pub lent : Lent signature variables place (tablesIn arities functions bases cells) cells s
-  pub chosen : Chosen variables s choice
-  pub behind : List Word
-  pub known : all (isKnown signature) (codeWord word ∷ behind) ≡ true
-  pub letters : lettersAmong variables (codeWord word ∷ behind) ≡ true
-  pub index : ℕ
-  pub due : Due
-  pub good : grammarFrom signature index due (codeWord word ∷ behind) ≡ clause
-  pub room : length behind < length stack
-  pub held : ValuesHeld signature (interpretation s signature cells) (assign variables choice) s behind stack m
-
--- with the word read as well the stack and m have what they should
-abbrev pub WordTaken : ℕ → List ℕ → List ℕ → List Bool → List ℕ → List ℕ → ℕ → List ℕ → List ℕ → Machine → List ℕ → Machine → Type 0
-WordTaken word place arities functions bases cells s choice stack m stack′ m′ =
-    (w : WordLent word place arities functions bases cells s choice stack m)
-    → ValuesHeld (w .signature) (interpretation s (w .signature) cells) (assign (w .variables) choice) s (codeWord word ∷ w .behind) stack′ m′
 
 -- the words of a clause
 pub record ClauseLent (words place arities : List ℕ) (functions : List Bool) (bases cells : List ℕ) (s : ℕ) : Type 0 where

@@ -1,5 +1,5 @@
 // The truth of a clause under a choice of values, in the order of source 004: variables, terms from inside out, atoms, signs, the clause.
-// The words are read from the last to the first. The values of the terms read stand in a stack, the first term's on top.
+// The literals are valued from the left, each one whole. The values of a literal's terms stand in a buffer that has a place for each word of the clause.
 use indices::Cell;
 use indices::Element;
 use syntax::limits::Problem;
@@ -13,14 +13,13 @@ ghost use Rattle.theory.specs.Syntax.{Literal, Term, equal};
 ghost use Rattle.theory.specs.Truth.{Assignment, Interpretation, atomTrue, literalTrue, value};
 ghost use Rattle.theory.specs.Grammar as words;
 ghost use Rattle.syntax.specs.Codes.{codeWord};
-ghost use Rattle.truth.specs.Values.{Chosen, ClauseLent, IsClauseValue, IsFunctionValue, IsPredicateValue, IsVariableValue, WordLent, WordTaken};
+ghost use Rattle.truth.specs.Values.{Chosen, ClauseLent, IsClauseValue, IsFunctionValue, IsPredicateValue, IsVariableValue};
+ghost use Rattle.truth.specs.Steps.{AtomLent, IsAtomValue, TermsLent, TermsValued, VariablesLent, VariablesValued};
 
-// The top of the stack, and the truth of the atom read last.
-pub struct Machine {
-    pub top: usize,
-    pub atom: bool,
-    // a literal read is true
-    pub holds: bool,
+// Where the terms of a literal end, and a place from which on they are variables.
+pub struct TermsSpan {
+    pub tail: usize,
+    pub end: usize,
 }
 
 // Variables: the value that the choice has for the letter.
@@ -33,7 +32,37 @@ pub fn variable_value(choice: &[u8], place: &[u8], letter: u8) -> Element
     Element(choice[p])
 }
 
-// The cell of the symbol with this first cell at the values of its terms.
+// Variables: the value of each variable of a literal's terms, at its own place. The terms end before the next sign.
+fn variable_values(
+    words: &[u8],
+    from: usize,
+    place: &[u8],
+    choice: &[u8],
+    values: &mut [u8],
+) -> TermsSpan
+    requires { ⌜ VariablesLent (now words) from (now place) (now choice) × (length (now words) ≤ length (now values)) ⌝ }
+    ensures { λ r. ⌜ ((v : VariablesLent (now (words .entry)) from (now (place .entry)) (now (choice .entry))) → VariablesValued v r (now (values .exit))) ⌝ }
+{
+    let mut tail = from;
+    let mut i = from;
+    while i < words.len() {
+        let word = words[i];
+        if ClauseWords::LETTER <= word {
+            let v = variable_value(choice, place, word);
+            values[i] = v.0;
+            i += 1;
+            continue;
+        }
+        if ClauseWords::PLUS <= word {
+            return TermsSpan { tail, end: i };
+        }
+        i += 1;
+        tail = i;
+    }
+    TermsSpan { tail, end: i }
+}
+
+// Functions: the cell of the symbol with this first cell at the values of its terms. The loop's bound is fixed, so that it is compiled to straight code.
 pub fn cell_at(base: Cell, arguments: &[u8], size: DomainSize) -> Cell
     requires { ⌜ (base .0 ≤ 12288) × ((size .0 ≤ 8) × ((length (now arguments) ≤ 3) × AllBelow (size .0) (now arguments))) ⌝ }
     ensures { λ r. ⌜ r .0 ≡ base .0 + rank (size .0) (now (arguments .entry)) ⌝ }
@@ -41,7 +70,10 @@ pub fn cell_at(base: Cell, arguments: &[u8], size: DomainSize) -> Cell
     let s = size.0;
     let mut rank: usize = 0;
     let mut i: usize = 0;
-    while i < arguments.len() {
+    while i < Problem::MAX_ARITY {
+        if arguments.len() <= i {
+            return Cell(base.0 + rank);
+        }
         rank = rank * s + arguments[i] as usize;
         i += 1;
     }
@@ -55,6 +87,45 @@ pub fn function_value(cells: &[u8], c: Cell) -> Element
 {
     let i = c.0;
     Element(cells[i])
+}
+
+// Functions: the values of a literal's terms, from inside out: the words are taken from the last to the first, so that a function finds the values of its terms.
+// They stand one after the other, from the place that is answered up to where the terms end.
+fn term_values(
+    words: &[u8],
+    from: usize,
+    tail: usize,
+    arities: &[u8],
+    bases: &[usize],
+    cells: &[u8],
+    size: DomainSize,
+    values: &mut [u8],
+) -> usize
+    requires { ⌜ TermsLent (now words) from tail (now arities) (now bases) (now cells) (size .0) (now values) ⌝ }
+    ensures { λ r. ⌜ ((t : TermsLent (now (words .entry)) from tail (now (arities .entry)) (now (bases .entry)) (now (cells .entry)) (size .0) (now (values .entry)))
+        → TermsValued t r (now (values .exit))) ⌝ }
+{
+    let mut top = tail;
+    let mut done = tail;
+    while from < done {
+        let i = done - 1;
+        let word = words[i];
+        if ClauseWords::LETTER <= word {
+            top -= 1;
+            values[top] = values[i];
+            done = i;
+            continue;
+        }
+        let f = word as usize;
+        let rest = top + arities[f] as usize;
+        let base = Cell(bases[f]);
+        let c = cell_at(base, &values[top..rest], size);
+        let v = function_value(cells, c);
+        top = rest - 1;
+        values[top] = v.0;
+        done = i;
+    }
+    top
 }
 
 // Atomic formulas: the truth of a predicate at the values of its terms.
@@ -73,6 +144,22 @@ pub fn equality_value(left: Element, right: Element) -> bool
     left.0 == right.0
 }
 
+// Atomic formulas: the truth of the atom with this first word at the values of its terms.
+fn atom_value(word: u8, bases: &[usize], cells: &[u8], size: DomainSize, terms: &[u8]) -> bool
+    requires { ⌜ AtomLent word (now bases) (now cells) (size .0) (now terms) ⌝ }
+    ensures { λ r. ⌜ IsAtomValue word (now (bases .entry)) (now (cells .entry)) (size .0) (now (terms .entry)) r ⌝ }
+{
+    if word == ClauseWords::EQUALS {
+        let left = Element(terms[0]);
+        let right = Element(terms[1]);
+        return equality_value(left, right);
+    }
+    let p = word as usize;
+    let base = Cell(bases[p]);
+    let c = cell_at(base, terms, size);
+    predicate_value(cells, c)
+}
+
 // Signs: a literal is true if its sign agrees with its atom.
 pub fn literal_value(code: u8, atom: bool) -> bool
     ensures { λ r. ⌜ ((I : Interpretation) (ρ : Assignment) (l : Literal) → codeWord code ≡ words.sign (l .sign) → atom ≡ atomTrue I ρ (l .atom) → r ≡ literalTrue I ρ l) ⌝ }
@@ -83,106 +170,7 @@ pub fn literal_value(code: u8, atom: bool) -> bool
     !atom
 }
 
-// The machine after a function or a predicate.
-fn read_symbol(
-    word: u8,
-    place: &[u8],
-    arities: &[u8],
-    functions: &[bool],
-    bases: &[usize],
-    cells: &[u8],
-    size: DomainSize,
-    choice: &[u8],
-    stack: &mut [u8],
-    m: Machine,
-) -> Machine
-    requires { ⌜ (word < 43) × WordLent word (now place) (now arities) (now functions) (now bases) (now cells) (size .0) (now choice) (now stack) m ⌝ }
-    ensures { λ r. ⌜ WordTaken word (now (place .entry)) (now (arities .entry)) (now (functions .entry)) (now (bases .entry)) (now (cells .entry)) (size .0)
-        (now (choice .entry)) (now (stack .entry)) m (now (stack .exit)) r ⌝ }
-{
-    let f = word as usize;
-    let top = m.top;
-    let rest = top + arities[f] as usize;
-    let base = Cell(bases[f]);
-    let c = cell_at(base, &stack[top..rest], size);
-    if functions[f] {
-        let v = function_value(cells, c);
-        stack[rest - 1] = v.0;
-        return Machine {
-            top: rest - 1,
-            atom: m.atom,
-            holds: m.holds,
-        };
-    }
-    Machine {
-        top: rest,
-        atom: predicate_value(cells, c),
-        holds: m.holds,
-    }
-}
-
-// The machine after one more word.
-fn read_word(
-    word: u8,
-    place: &[u8],
-    arities: &[u8],
-    functions: &[bool],
-    bases: &[usize],
-    cells: &[u8],
-    size: DomainSize,
-    choice: &[u8],
-    stack: &mut [u8],
-    m: Machine,
-) -> Machine
-    requires { ⌜ WordLent word (now place) (now arities) (now functions) (now bases) (now cells) (size .0) (now choice) (now stack) m ⌝ }
-    ensures { λ r. ⌜ WordTaken word (now (place .entry)) (now (arities .entry)) (now (functions .entry)) (now (bases .entry)) (now (cells .entry)) (size .0)
-        (now (choice .entry)) (now (stack .entry)) m (now (stack .exit)) r ⌝ }
-{
-    if word < ClauseWords::PLUS {
-        return read_symbol(
-            word,
-            place,
-            arities,
-            functions,
-            bases,
-            cells,
-            size,
-            choice,
-            stack,
-            m,
-        );
-    }
-    if ClauseWords::LETTER <= word {
-        let v = variable_value(choice, place, word);
-        let top = m.top - 1;
-        stack[top] = v.0;
-        return Machine {
-            top,
-            atom: m.atom,
-            holds: m.holds,
-        };
-    }
-    let top = m.top;
-    if word == ClauseWords::EQUALS {
-        let left = Element(stack[top]);
-        let right = Element(stack[top + 1]);
-        return Machine {
-            top: top + 2,
-            atom: equality_value(left, right),
-            holds: m.holds,
-        };
-    }
-    if literal_value(word, m.atom) {
-        return Machine {
-            top,
-            atom: m.atom,
-            holds: true,
-        };
-    }
-    m
-}
-
-// The clause: one of its literals is true.
+// The clause: one of its literals is true. Behind a sign stands the atom's own word, a predicate or =, then its terms, so that no word's kind is asked for among `functions`.
 pub fn clause_value(
     words: &[u8],
     place: &[u8],
@@ -197,30 +185,27 @@ pub fn clause_value(
     ensures { λ r. ⌜ IsClauseValue (now (words .entry)) (now (place .entry)) (now (arities .entry)) (now (functions .entry)) (now (bases .entry)) (now (cells .entry)) (size .0)
         (now (choice .entry)) r ⌝ }
 {
-    let mut stack = [0; Problem::MAX_WORDS];
-    let mut m = Machine {
-        top: Problem::MAX_WORDS,
-        atom: false,
-        holds: false,
-    };
-    let mut i = words.len();
-    while 0 < i {
-        i -= 1;
-        m = read_word(
-            words[i],
-            place,
+    let mut values = [0; Problem::MAX_WORDS];
+    let mut at: usize = 0;
+    while at < words.len() {
+        let from = at + 2;
+        let span = variable_values(words, from, place, choice, &mut values);
+        let top = term_values(
+            words,
+            from,
+            span.tail,
             arities,
-            functions,
             bases,
             cells,
             size,
-            choice,
-            &mut stack,
-            m,
+            &mut values,
         );
-        if m.holds {
+        let end = span.end;
+        let atom = atom_value(words[at + 1], bases, cells, size, &values[top..end]);
+        if literal_value(words[at], atom) {
             return true;
         }
+        at = end;
     }
     false
 }
