@@ -128,8 +128,8 @@ typedef struct {
     uint64_t column;
     uint64_t size;    /* NK_FOUND: the model's size */
     uint64_t length;  /* NK_FOUND: the case's length; refused 10 or 11: the length that is needed */
-    uint32_t settled; /* NK_NONE: 1 exactly if no function has arity above 0 and high is at least the number of
-                         constants; else 0 */
+    uint32_t settled; /* NK_NONE: 1 exactly if low is 1, no function has arity above 0 and high is at least the number
+                         of constants; then the sheet has no model of any size, above 8 included; else 0 */
 } nk_find_answer;
 
 /*
@@ -191,7 +191,8 @@ nk_write_answer nk_setting(const uint8_t *sheet, size_t sheet_length,
 
 /*
  * Searches the sizes low, low + 1, .., high for a model, and answers the least one at the smallest size that has one,
- * or that no case of these sizes is a model. The caller lends the work area; what stands in it before does not matter.
+ * or that no case of these sizes is a model; where that is settled, the sheet has no model of any other size either.
+ * The caller lends the work area; what stands in it before does not matter.
  * Afterwards every number of the work area is 0, on both results. Found: the output's first `length` bytes are the
  * case, and the bytes after it are as they were. None: every byte of the output is as it was.
  * Refused: 1 to 7, then 8, 9 (at high), 10, 11 (output shorter than a case of size high); every byte of the output and

@@ -115,6 +115,9 @@ pub fn setting(sheet: &[u8], case: &[u8], output: &mut [u8]) -> Result<usize, Re
 
 /// Searches the sizes from low to high for the least model at the smallest size.
 ///
+/// None is settled where low is 1, no function has arguments and high is at least the number of constants; then the
+/// sheet has no model of any size.
+///
 /// On both results `work` holds zeros. Found, the case stands at the output's front, and the bytes after it are
 /// unchanged; none, the whole output is.
 pub fn find(sheet: &[u8], low: u64, high: u64, work: &mut [u32], output: &mut [u8]) -> Result<Search, Refusal> {

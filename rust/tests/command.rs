@@ -1,37 +1,8 @@
 //! The command `nesskettle` on the sheets of `data/sheets`: what it prints, and its exit status.
 
-use std::io::Write;
-use std::process::{Command, Output, Stdio};
+mod running;
 
-/// Runs the command in `data/sheets` with this standard input.
-fn run(arguments: &str, input: &str) -> Output {
-    let mut child = Command::new(env!("CARGO_BIN_EXE_nesskettle"))
-        .args(arguments.split(' ').filter(|word| !word.is_empty()))
-        .current_dir(concat!(env!("CARGO_MANIFEST_DIR"), "/data/sheets"))
-        .stdin(Stdio::piped())
-        .stdout(Stdio::piped())
-        .stderr(Stdio::piped())
-        .spawn()
-        .expect("the command starts");
-    let _ = child.stdin.take().expect("it was piped").write_all(input.as_bytes());
-    child.wait_with_output().expect("the command ends")
-}
-
-/// It prints this on standard output, nothing on standard error, and ends with this status.
-fn prints(arguments: &str, input: &str, status: i32, text: &str) {
-    let output = run(arguments, input);
-    assert_eq!(String::from_utf8_lossy(&output.stdout), text, "{arguments}");
-    assert_eq!(String::from_utf8_lossy(&output.stderr), "", "{arguments}");
-    assert_eq!(output.status.code(), Some(status), "{arguments}");
-}
-
-/// It prints nothing on standard output, this on standard error, and ends with status 2.
-fn fails(arguments: &str, input: &str, text: &str) {
-    let output = run(arguments, input);
-    assert_eq!(String::from_utf8_lossy(&output.stdout), "", "{arguments}");
-    assert_eq!(String::from_utf8_lossy(&output.stderr), text, "{arguments}");
-    assert_eq!(output.status.code(), Some(2), "{arguments}");
-}
+use running::{fails, prints, run};
 
 #[test]
 fn check() {
@@ -331,13 +302,25 @@ fn find() {
         "find two-constants.sheet --high 1 --tables",
         "",
         1,
-        "none: no case of size 1 is a model\nsettled: no\n",
+        "none: no case of size 1 is a model\nsettled: no, another size may have a model\n",
     );
     prints(
         "find serial-order.sheet --high 4 --tables",
         "",
         1,
-        "none: no case of a size from 1 to 4 is a model\nsettled: no\n",
+        "none: no case of a size from 1 to 4 is a model\nsettled: no, another size may have a model\n",
+    );
+    let all_equal = "sheet=1\nfuns=0\npreds=0\nclauses=1\nclause=+ = A B\n";
+    prints("find - --low 3 --high 5", all_equal, 1, "answer=none\nsettled=no\n");
+    prints("find -", all_equal, 0, "answer=found\ncase=1\nsize=1\n");
+    let never = "sheet=1\nfuns=0\npreds=0\nclauses=1\nclause=\n";
+    prints("find - --high 1", never, 1, "answer=none\nsettled=yes\n");
+    prints("find - --low 2", never, 1, "answer=none\nsettled=no\n");
+    prints(
+        "find - --tables",
+        never,
+        1,
+        "none: no case of a size from 1 to 8 is a model\nsettled: yes, no other size has a model either\n",
     );
     fails(
         "find two-constants.sheet --low 3 --high 2",

@@ -80,6 +80,12 @@ int main(void) {
     found = nk_find(sheet + 1, sheet_length - 1, 1, 1, work, 1000, output, sizeof output);
     expect(found.reason == NK_LAYOUT && found.line == 1 && found.column == 1, "a sheet without its first byte is refused");
 
+    static const char never[] = "sheet=1\nfuns=0\npreds=0\nclauses=1\nclause=\n";
+    found = nk_find((const uint8_t *)never, strlen(never), 1, 1, work, 1000, output, sizeof output);
+    expect(found.outcome == NK_NONE && found.settled == 1, "a search from size 1 settles that there is none");
+    found = nk_find((const uint8_t *)never, strlen(never), 2, 3, work, 1000, output, sizeof output);
+    expect(found.outcome == NK_NONE && found.settled == 0, "a search from size 2 does not");
+
     static const char clauses[] = "% two constants\ncnf(1, axiom, a != b).\n";
     written = nk_from_tptp((const uint8_t *)clauses, strlen(clauses), output, sizeof output);
     expect(written.outcome == NK_WRITTEN && written.line == 0 && written.column == 0, "the clause is taken");

@@ -1,11 +1,11 @@
--- Whether the functions from a place on are all constants: what is left gives what all give.
+-- Whether the functions from a place on are all constants: what is left gives what all give; and with it the mark settled.
 use Prim.Native.Nat.{ℕ, suc, _≤_, _<_}
 use mathlib.Core.Path.{_≡_, refl, sym, ap, _∙_}
-use mathlib.Core.Bool.{Bool, true, false, cond, not, _&&_}
+use mathlib.Core.Bool.{Bool, true, false, cond, not, _&&_, and-true, and-false}
 use mathlib.Core.List.{List, _∷_}
 use native.Mathlib.Omega.{arith}
-use borrow.Author.Tests.{lt-leb, le-leb}
-use lib.Dec.{eqb}
+use borrow.Author.Tests.{lt-leb, le-leb, eq-eqb, ne-eqb}
+use lib.Dec.{eqb, leb}
 use lib.ListN.{length, drop}
 use lib.Seq.{drop-cons, drop-length}
 use Rattle.theory.specs.Lists.{all}
@@ -54,24 +54,27 @@ module _ (g : Signature) where
   pub constants-end : constantsFrom (length g) ≡ true
   constants-end = ap constants (drop-length g)
 
-module _ (sheet : List ℕ) (p : Problem) (high low : ℕ) where
+module _ (sheet : List ℕ) (p : Problem) (low high : ℕ) where
   abbrev g′ : Signature
   g′ = signatureIn sheet (p .signature)
 
-  -- more functions than high
-  pub unsettled : Accepted sheet p → high < p .functions → false ≡ settled (problemIn sheet p) low high
+  -- another low than 1
+  pub unsettled-low : (low ≡ 1 → ⊥) → false ≡ settled (problemIn sheet p) low high
   unfolding settled problemIn
-  unsettled h lt = sym (ap (λ (b : Bool). constants g′ && b) (lt-leb (length (functions g′)) high (omega (arith, h .functions))) ∙ and-false (constants g′))
-    where
-      and-false : (b : Bool) → (b && false) ≡ false
-      and-false true = refl
-      and-false false = refl
+  unsettled-low ne = sym (ap (λ (b : Bool). b && constants g′ && leb (length (functions g′)) high) (ne-eqb low 1 ne))
 
-  -- no more
-  pub settled-by : (r : Bool) → Accepted sheet p → p .functions ≤ high → r ≡ constants g′ → r ≡ settled (problemIn sheet p) low high
+  -- more functions than high
+  pub unsettled-high : Accepted sheet p → high < p .functions → false ≡ settled (problemIn sheet p) low high
   unfolding settled problemIn
-  settled-by r h le e = e ∙ sym (ap (λ (b : Bool). constants g′ && b) (le-leb (length (functions g′)) high (omega (arith, h .functions))) ∙ and-true (constants g′))
-    where
-      and-true : (b : Bool) → (b && true) ≡ b
-      and-true true = refl
-      and-true false = refl
+  unsettled-high h lt =
+      sym (ap (λ (b : Bool). eqb low 1 && constants g′ && b) (lt-leb (length (functions g′)) high (omega (arith, h .functions))) ∙ and-false (eqb low 1 && constants g′))
+
+  -- low is 1, and there are no more
+  pub settled-by : (r : Bool) → Accepted sheet p → low ≡ 1 → p .functions ≤ high → r ≡ constants g′ → r ≡ settled (problemIn sheet p) low high
+  unfolding settled problemIn
+  settled-by r h one le e =
+      e
+      ∙ sym
+      (ap (λ (b : Bool). eqb low 1 && constants g′ && b) (le-leb (length (functions g′)) high (omega (arith, h .functions)))
+      ∙ ap (λ (b : Bool). b && constants g′ && true) (eq-eqb low 1 one)
+      ∙ and-true (constants g′))

@@ -42,7 +42,7 @@ pub fn search_sizes(
         }
         if high.0 <= size.0 {
             clear_all(work);
-            return FindAnswer::Nothing(is_settled(p, high));
+            return FindAnswer::Nothing(is_settled(p, low, high));
         }
         size = size.next();
     }

@@ -11,10 +11,10 @@ use Rattle.theory.specs.Vectors.{vectors}
 use Rattle.theory.specs.Flattening.{flatten}
 use Rattle.theory.specs.Propositional.{PropClause}
 use Rattle.theory.specs.Instances.{instances, kept}
+use Rattle.theory.proofs.Vectors.{length-vectors}
 use Rattle.syntax.specs.declared.limits.Problem.{Problem}
 use Rattle.syntax.specs.Signatures.{signatureIn}
 use Rattle.interpretation.specs.declared.vector.ArgumentVector.{ArgumentVector}
-use Rattle.interpretation.proofs.Counting.{length-vectors}
 use Rattle.problem.specs.Problems.{clauseAt, problemIn, Accepted}
 use Rattle.stream.specs.declared.consumer.Mode.{Mode}
 use Rattle.stream.specs.Consuming.{State, Consumes, Consumed}

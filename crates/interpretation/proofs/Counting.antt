@@ -6,16 +6,13 @@ use mathlib.Core.List.{List, [], _∷_}
 use native.Mathlib.Nat.{zero-add}
 use native.Mathlib.Omega.{arith}
 use lib.Dec.{eqb, ltb}
-use lib.ListN.{length, getD, drop, length-map}
+use lib.ListN.{length, getD, drop}
 use lib.Seq.{drop-cons}
 use Rattle.theory.specs.Lists.{all}
 use Rattle.theory.specs.Vectors.{vectors, rank, AllBelow}
 use Rattle.theory.proofs.Tests.{eqb-true, eqb-of-≡, and-left, and-right, and-join}
-use Rattle.theory.proofs.Lists.{all-at, map-at, length-upFrom, getD-upFrom}
-use Rattle.theory.proofs.Vectors.{vectors-all, rank-vectors, rank-lt, rank-inj, all→AllBelow, AllBelow→all}
-
-pub length-vectors : (s k : ℕ) → length (vectors s k) ≡ s ^ k
-length-vectors s k = sym (length-map (vectors s k) (rank s)) ∙ ap length (rank-vectors s k) ∙ length-upFrom 0 (s ^ k)
+use Rattle.theory.proofs.Lists.{all-at, map-at, getD-upFrom}
+use Rattle.theory.proofs.Vectors.{vectors-all, rank-vectors, length-vectors, rank-lt, rank-inj, all→AllBelow, AllBelow→all}
 
 -- each is a list of k numbers below s
 isOne : ℕ → ℕ → List ℕ → Bool

@@ -10,9 +10,10 @@ use lib.ListN.{length, drop, take, replicate, drop-of-length-le}
 use lib.Seq.{length-take-le}
 use Rattle.theory.specs.Lists.{firstThat}
 use Rattle.theory.specs.Vectors.{vectors, rank, AllBelow}
+use Rattle.theory.proofs.Vectors.{length-vectors}
 use Rattle.interpretation.specs.declared.vector.ArgumentVector.{ArgumentVector}
 use Rattle.interpretation.specs.Vectors.{digitsIn, firstVector, IsVector, IsNext}
-use Rattle.interpretation.proofs.Counting.{length-vectors, drop-vectors}
+use Rattle.interpretation.proofs.Counting.{drop-vectors}
 
 -- a is the vector of rank i, if there is one
 pub record Reached (s n : ℕ) (a : ArgumentVector) (i : ℕ) : Type 0 where

@@ -95,7 +95,7 @@ found-case (answer (found s c)) size n e =
 found-case (answer (nothing b)) size n e = let z : _≡_ {A = ℕ} 0 1 = cc in absurd (omega arith)
 found-case (refused q) size n e = absurd (answer≢refused (foundCase size n) q (sym e))
 
-no-case : (a : Answer Search) (b : Bool) → findAnswer a ≡ answer (noCase b) → a ≡ answer (nothing b)
+pub no-case : (a : Answer Search) (b : Bool) → findAnswer a ≡ answer (noCase b) → a ≡ answer (nothing b)
 no-case (answer (found s c)) b e = let z : _≡_ {A = ℕ} 0 1 = cc in absurd (omega arith)
 no-case (answer (nothing d)) b e = let h : d ≡ b = cc in ap (λ (b : Bool). answer (nothing b)) h
 no-case (refused q) b e = absurd (answer≢refused (noCase b) q (sym e))

@@ -2,8 +2,8 @@
 // ends. A promise is a record of `answers/specs/Calls` (From TPTP's of `importing/specs/Calls`): equations with the definitions of
 // `theory/specs/Operations` and `tptp/specs/Tptp`, where `answers/specs/Answers` says what each answer means. What is lent as `&` cannot
 // change; what is lent as `&mut` is told to the last byte and number. The demands (`specs/Demand1` to `specs/Demand3`) and what is asked of
-// From TPTP (`specs/FromTptp`), Explain (`specs/Explains`) and Setting (`specs/Settings`), and where refusals point (`specs/Columns`), are
-// proved of these records.
+// From TPTP (`specs/FromTptp`), Explain (`specs/Explains`) and Setting (`specs/Settings`), what settled means (`specs/Settles`), and where
+// refusals point (`specs/Columns`), are proved of these records.
 mod reading;
 
 use answers::ExplainAnswer;

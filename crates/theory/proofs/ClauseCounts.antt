@@ -10,7 +10,7 @@ use lib.Pow.{pow-add}
 use lib.Dec.{leb}
 use lib.ListN.{length, length-append, length-map}
 use Rattle.theory.specs.Lists.{all, concatMap, upFrom, upTo, sum}
-use Rattle.theory.specs.Vectors.{vectors, rank}
+use Rattle.theory.specs.Vectors.{vectors}
 use Rattle.theory.specs.Syntax.{Signature, symbolAt, Clause, clauseOk}
 use Rattle.theory.specs.Cells.{tableSize}
 use Rattle.theory.specs.Flattening.{FlatVariable, FlatAtom, flatPredicate, flatResult, flatEquality, FlatLiteral, FlatClause, flatten, variableCount}
@@ -21,7 +21,7 @@ use Rattle.theory.specs.PropClauses.{someResult, notBoth, notTwo, cellCl
 use Rattle.theory.specs.Claims.Counts.{isNumbered}
 use Rattle.theory.proofs.Tests.{and-left, and-right, and-join, leb-of-≤}
 use Rattle.theory.proofs.Lists.{all-map, all-concatMap, all-imply, upFrom-all, upTo-all, concatMap-append, concatMap-map, sum-map-append, length-upFrom}
-use Rattle.theory.proofs.Vectors.{vectors-all, rank-vectors, allBelow-map}
+use Rattle.theory.proofs.Vectors.{vectors-all, length-vectors, allBelow-map}
 use Rattle.theory.proofs.Parts.{tables, tables←, all-propClauses}
 use Rattle.theory.proofs.CellClauses.{pairs}
 use Rattle.theory.proofs.Numbering.{variable-within, propVariable-within}
@@ -70,9 +70,6 @@ module _ (m : List PropClause → ℕ) (none : m [] ≡ 0) (add : (cs ds : List 
           omega (arith, ap m e, ap sum (map-map b f xs), concatMap-≤ (λ x. f x .clauses) (λ x. b (f x)) h xs)
 
 -- Instances: s^k, each with no more literals than the flattened clause.
-length-vectors : (s k : ℕ) → length (vectors s k) ≡ s ^ k
-length-vectors s k = sym (length-map (vectors s k) (rank s)) ∙ ap length (rank-vectors s k) ∙ length-upFrom 0 (s ^ k)
-
 kept-≤ : (o : Option PropClause) → length (kept o) ≤ 1
 kept-≤ none = omega arith
 kept-≤ (some c) = omega arith

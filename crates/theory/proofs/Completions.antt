@@ -13,7 +13,7 @@ use Rattle.theory.specs.Propositional.{PropLiteral, PropClause}
 use Rattle.theory.specs.Valuation.{says, satisfiesLiteral, satisfiesClause, satisfies}
 use Rattle.theory.specs.Walk.{Partial, lookup, isUnset, isSetTo, literalIsTrue, literalIsUnset, sameLiteral, failed, forces, quiet, status}
 use Rattle.theory.specs.Claims.Walk.{Member, here, there}
-use Rattle.theory.proofs.Tests.{not-true, both-false, eqb-true, ltb-of-<, and-left, and-right, and-join, or-cases, or-false-left, or-false-right}
+use Rattle.theory.proofs.Tests.{not-true, both-false, eqb-true, ltb-of-<, and-left, and-right, and-join, or-cases, or-false-left, or-false-right, byte-is}
 use Rattle.theory.proofs.Lists.{elem-single, any-cong}
 use Rattle.theory.proofs.OneHot.{areBits}
 use Rattle.theory.proofs.First.{In}
@@ -28,10 +28,6 @@ options b (some v) = cond v 1 0 ∷ []
 abbrev pub completions : (ℕ → Bool) → Partial → List (List ℕ)
 completions first [] = []
 completions first (o ∷ π) = options (first 0) o ∷ completions (λ i. first (suc i)) π
-
-byte-is : (b : Bool) → eqb (cond b 1 0) 1 ≡ b
-byte-is true = refl
-byte-is false = refl
 
 -- a completion has the values that are set
 completion-getD : (first : ℕ → Bool) (π : Partial) (v : List ℕ) (i : ℕ) (b : Bool) → In v (completions first π) → getD π i (some false) ≡ some b

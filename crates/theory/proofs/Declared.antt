@@ -1,11 +1,11 @@
 -- Declared symbols: what the tests `functionOf` and `predicateOf` say of a place of the signature.
 use Prim.Native.Nat.{ℕ, _<_}
-use mathlib.Core.Path.{_≡_, refl}
+use mathlib.Core.Path.{_≡_, refl, ap}
 use mathlib.Core.Bool.{Bool, true, _&&_, false≢true}
 use lib.Dec.{eqb, ltb}
 use lib.ListN.{length}
 use Rattle.theory.specs.Syntax.{Kind, function, predicate, isFunction, isPredicate, Signature, symbolAt, functionOf, predicateOf}
-use Rattle.theory.proofs.Tests.{eqb-true, ltb-true, and-left, and-right}
+use Rattle.theory.proofs.Tests.{eqb-true, eqb-of-≡, ltb-true, ltb-of-<, and-left, and-right, and-join}
 
 -- the symbol at place i, of this kind and with n arguments, is declared
 pub record Declared (g : Signature) (i : ℕ) (k : Kind) (n : ℕ) : Type 0 where
@@ -42,3 +42,9 @@ module _ (g : Signature) (i n : ℕ) where
 
   pub predicateOf→ : predicateOf g i n ≡ true → Declared g i predicate n
   predicateOf→ h = declared (isPredicate (symbolAt g i .kind)) predicate (predicate-kind (symbolAt g i .kind)) h
+
+  -- and the other way: a function of n arguments passes its test
+  pub →functionOf : Declared g i function n → functionOf g i n ≡ true
+  →functionOf d =
+      and-join (within && isFunction (symbolAt g i .kind)) fits
+      (and-join within (isFunction (symbolAt g i .kind)) (ltb-of-< i (length g) (d .below)) (ap isFunction (d .kind))) (eqb-of-≡ n (symbolAt g i .arity) (d .arity))

@@ -1,4 +1,4 @@
--- Laws of `distinct`: one number more, and at most n numbers below n.
+-- Laws of `distinct`: one number more, at most n numbers below n, and no more than there were.
 use Prim.Native.Nat.{ℕ, zero, suc, _≤_, _<_}
 use mathlib.Core.Path.{_≡_, refl, sym, ap, _∙_}
 use mathlib.Core.Logic.{⊎-elim}
@@ -120,3 +120,16 @@ once-below (suc n) xs h k = omega (arith, remove-length n xs h, once-below n (re
 -- there are at most n numbers below n
 pub length-distinct : (n : ℕ) (xs : List ℕ) → all (λ x. ltb x n) xs ≡ true → length (distinct xs) ≤ n
 length-distinct n xs h = once-below n (distinct xs) (distinct-once xs) (all-distinct (λ x. ltb x n) xs h)
+
+remove-shorter : (x : ℕ) (xs : List ℕ) → length (remove x xs) ≤ length xs
+remove-shorter x [] = omega arith
+remove-shorter x (y ∷ xs) = go (eqb x y) (remove-shorter x xs)
+  where
+    go : (b : Bool) → length (remove x xs) ≤ length xs → length (cond b (remove x xs) (y ∷ remove x xs)) ≤ suc (length xs)
+    go true ih = omega arith
+    go false ih = omega arith
+
+-- there are no more of them than before
+pub distinct-shorter : (xs : List ℕ) → length (distinct xs) ≤ length xs
+distinct-shorter [] = omega arith
+distinct-shorter (x ∷ xs) = omega (arith, remove-shorter x (distinct xs), distinct-shorter xs)

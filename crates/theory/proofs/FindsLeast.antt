@@ -23,12 +23,13 @@ use Rattle.theory.proofs.Least.{least}
 use Rattle.theory.proofs.ModelTexts.{model-text, IsModelText, is-model-text}
 
 -- what a search that is not refused found, and the sizes that it searched
-record Searched (p : Problem) (low high : ℕ) (r : Search) : Type 0 where
-  from-one : 1 ≤ low
-  to-eight : high ≤ 8
-  result : searchOf p low high (smallestModel p low high) ≡ r
+pub record Searched (p : Problem) (low high : ℕ) (r : Search) : Type 0 where
+  pub from-one : 1 ≤ low
+  pub to-eight : high ≤ 8
+  pub ordered : low ≤ high
+  pub result : searchOf p low high (smallestModel p low high) ≡ r
 
-searched : (sheet : List ℕ) (p : Problem) (low high work room : ℕ) (r : Search) → readProblem sheet ≡ answer p → findResult sheet low high work room ≡ answer r → Searched p low high r
+pub searched : (sheet : List ℕ) (p : Problem) (low high work room : ℕ) (r : Search) → readProblem sheet ≡ answer p → findResult sheet low high work room ≡ answer r → Searched p low high r
 unfolding findResult
 searched sheet p low high work room r read e =
     unbind _ _ r e λ (q : Problem) h₁ e₁.
@@ -42,6 +43,7 @@ searched sheet p low high work room r read e =
     record {
       from-one = leb-true 1 low (and-left (leb 1 low) (leb high 8) both);
       to-eight = leb-true high 8 (and-right (leb 1 low) (leb high 8) both);
+      ordered = leb-true low high (and-right (leb 1 low && leb high 8) (leb low high) sizes);
       result = ap (λ (p : Problem). searchOf p low high (smallestModel p low high)) same ∙ answer-inj (searchOf q low high (smallestModel q low high)) r e₅;
     }
 

@@ -34,7 +34,7 @@ assign-append (y ∷ ys) (d ∷ u) v x e = ap (cond (eqb x y) d) (assign-append 
 
 -- where the declared functions stay below s, so do the values of terms over the signature
 module _ (g : Signature) (s : ℕ) (I : Interpretation) (closed : Closed g s I) (ρ : Assignment) (below : (x : ℕ) → ρ x < s) where
-  length-values : (ts : Terms) → length (values I ρ ts) ≡ count ts
+  pub length-values : (ts : Terms) → length (values I ρ ts) ≡ count ts
   length-values empty = refl
   length-values (cons t ts) = ap suc (length-values ts)
 

@@ -3,6 +3,7 @@ pub mod ExplainExamples
 pub mod ExplainerExamples
 pub mod SettingExamples
 pub mod ColumnExamples
+pub mod SettledExamples
 pub mod Tests
 pub mod Lists
 pub mod Vectors
@@ -59,6 +60,12 @@ pub mod SheetRead
 pub mod SheetRefusals
 pub mod Appearances
 pub mod FirstChoice
+pub mod Embeddings
+pub mod Substructures
+pub mod Tabulated
+pub mod InterpretationCells
+pub mod NamedElements
+pub mod Settling
 pub mod Explaining
 pub mod CaseRefusals
 pub mod LineMatching

@@ -7,7 +7,8 @@ use mathlib.Core.List.{List, [], _∷_, _++_, map, map-append, append-assoc}
 use native.Mathlib.Nat.{add-zero, zero-add, suc-add, suc-mul, zero-mul, eq-or-lt-of-le}
 use native.Mathlib.Omega.{arith}
 use lib.Dec.{eqb}
-use lib.ListN.{length, getD, drop, take}
+use lib.ListN.{length, getD, drop, take, length-map}
+use lib.Seq.{ext-getD}
 use Rattle.theory.specs.Lists.{any, all, select, concatMap, upFrom, upTo, sum, elem, remove, distinct, same}
 use Rattle.theory.proofs.Tests.{true-or-false, eqb-true, eqb-same, eqb-ne, and-left, and-right, and-join, or-cases, or-left, or-right}
 
@@ -219,6 +220,15 @@ map-at f [] i d e h = absurd (omega arith)
 map-at f (x ∷ xs) zero d e h = refl
 map-at f (x ∷ xs) (suc i) d e h = map-at f xs i d e (omega arith)
 
+-- a list is what stands at its places
+pub map-places : {A : Type 0} (d : A) (xs : List A) → map (λ i. getD xs i d) (upTo (length xs)) ≡ xs
+map-places d xs =
+    let n : ℕ = length xs in
+    ext-getD d (map (λ i. getD xs i d) (upTo n)) xs (length-map (upTo n) (λ i. getD xs i d) ∙ length-upFrom 0 n)
+    (λ i h.
+    let lt : i < n = omega (arith, length-map (upTo n) (λ i. getD xs i d), length-upFrom 0 n) in
+    map-at (λ i. getD xs i d) (upTo n) i 0 d (omega (arith, length-upFrom 0 n)) ∙ ap (λ (i : ℕ). getD xs i d) (getD-upFrom 0 n i lt ∙ zero-add i))
+
 pub getD-map : (f : ℕ → ℕ) (xs : List ℕ) (i : ℕ) → i < length xs → getD (map f xs) i 0 ≡ f (getD xs i 0)
 getD-map f xs i h = map-at f xs i 0 0 h
 
@@ -280,6 +290,34 @@ module _ {A : Type 0} where
       go : (b : Bool) → not b ≡ true → select p xs ≡ [] → cond b (x ∷ select p xs) (select p xs) ≡ []
       go true k ih = absurd (false≢true k)
       go false k ih = ih
+
+pub select-map : {A B : Type 0} (p : B → Bool) (f : A → B) (xs : List A) → select p (map f xs) ≡ map f (select (λ x. p (f x)) xs)
+select-map p f [] = refl
+select-map {B = B} p f (x ∷ xs) = go (p (f x)) (select-map p f xs)
+  where
+    go : (b : Bool) → select p (map f xs) ≡ map f (select (λ x. p (f x)) xs)
+        → cond b (f x ∷ select p (map f xs)) (select p (map f xs)) ≡ map f (cond b (x ∷ select (λ x. p (f x)) xs) (select (λ x. p (f x)) xs))
+    go true ih = ap (λ (l : List B). f x ∷ l) ih
+    go false ih = ih
+
+-- a number of the list that passes the test is among those that do
+pub elem-select : (p : ℕ → Bool) (xs : List ℕ) (x : ℕ) → p x ≡ true → elem x xs ≡ true → elem x (select p xs) ≡ true
+elem-select p [] x h e = e
+elem-select p (y ∷ xs) x h e = go (p y) refl (or-cases (eqb x y) (elem x xs) e) (λ k. elem-select p xs x h k)
+  where
+    go : (b : Bool) → p y ≡ b → (eqb x y ≡ true) ⊎ (elem x xs ≡ true) → (elem x xs ≡ true → elem x (select p xs) ≡ true) → elem x (cond b (y ∷ select p xs) (select p xs)) ≡ true
+    go true q (inl k) ih = or-left (eqb x y) (elem x (select p xs)) k
+    go true q (inr k) ih = or-right (eqb x y) (elem x (select p xs)) (ih k)
+    go false q (inl k) ih = absurd (false≢true (sym q ∙ ap p (sym (eqb-true x y k)) ∙ h))
+    go false q (inr k) ih = ih k
+
+pub elem-map : (f : ℕ → ℕ) (xs : List ℕ) (x : ℕ) → elem x xs ≡ true → elem (f x) (map f xs) ≡ true
+elem-map f [] x e = e
+elem-map f (y ∷ xs) x e = go (or-cases (eqb x y) (elem x xs) e) (λ k. elem-map f xs x k)
+  where
+    go : (eqb x y ≡ true) ⊎ (elem x xs ≡ true) → (elem x xs ≡ true → elem (f x) (map f xs) ≡ true) → elem (f x) (f y ∷ map f xs) ≡ true
+    go (inl k) ih = ap (λ (z : ℕ). elem (f x) (f z ∷ map f xs)) (sym (eqb-true x y k)) ∙ elem-here (f x) (map f xs)
+    go (inr k) ih = elem-there (f x) (f y) (map f xs) (ih k)
 
 all-remove : (p : ℕ → Bool) (y : ℕ) (xs : List ℕ) → all p xs ≡ true → all p (remove y xs) ≡ true
 all-remove p y [] h = refl

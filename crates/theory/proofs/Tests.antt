@@ -2,7 +2,7 @@
 use Prim.Native.Nat.{ℕ, _≤_, _<_}
 use mathlib.Core.Path.{_≡_, refl, sym, ap, _∙_}
 use mathlib.Core.Logic.{_⊎_, inl, inr, _≢_}
-use mathlib.Core.Bool.{Bool, true, false, not, _&&_, _||_, Bool·beq, true≢false, false≢true}
+use mathlib.Core.Bool.{Bool, true, false, cond, not, _&&_, _||_, Bool·beq, true≢false, false≢true}
 use native.Mathlib.Omega.{arith}
 use lib.Dec.{T, eqb, ltb, leb, eqb→eq, eqb-refl, ltb→lt, lt→ltb, nltb→le, leb→le, le→leb, nleb→lt}
 
@@ -154,3 +154,8 @@ false-of-not false e = refl
 pub true-of-not : (b : Bool) → not b ≡ false → b ≡ true
 true-of-not true e = refl
 true-of-not false e = sym e
+
+-- a truth written as 1 or 0
+pub byte-is : (b : Bool) → eqb (cond b 1 0) 1 ≡ b
+byte-is true = refl
+byte-is false = refl

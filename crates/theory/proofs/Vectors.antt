@@ -7,11 +7,11 @@ use native.Mathlib.Nat.{add-zero, zero-add, suc-inj, pow-zero, pow-succ', pow-su
 use native.Mathlib.Omega.{arith}
 use lib.Dec.{ltb}
 use lib.Arith.{digits-lt, digits-div, digits-mod}
-use lib.ListN.{length, getD, drop, length-append}
+use lib.ListN.{length, getD, drop, length-append, length-map}
 use Rattle.theory.specs.Lists.{all, concatMap, upFrom, upTo}
 use Rattle.theory.specs.Vectors.{vectors, rank, AllBelow}
 use Rattle.theory.proofs.Tests.{and-left, and-right, and-join, ltb-true, ltb-of-<}
-use Rattle.theory.proofs.Lists.{all-map, all-concatMap, all-upTo, upTo-all, map-concatMap, concatMap-cong, map-add-upFrom, blocks}
+use Rattle.theory.proofs.Lists.{all-map, all-concatMap, all-upTo, upTo-all, map-concatMap, concatMap-cong, map-add-upFrom, length-upFrom, blocks}
 
 pub all-vectors : (s k : ℕ) (p : List ℕ → Bool) → all p (vectors s k) ≡ true → (v : List ℕ) → length v ≡ k → AllBelow s v → p v ≡ true
 all-vectors s zero p h [] e b = and-left (p []) true h
@@ -70,6 +70,9 @@ rank-vectors s (suc k) =
     map-concatMap (rank s) (λ d. map (λ v. d ∷ v) (vectors s k)) (upTo s)
     ∙ concatMap-cong (λ d. map (rank s) (map (λ v. d ∷ v) (vectors s k))) (λ d. upFrom (d * m) m) (upTo s) row
     ∙ blocks m 0 s ∙ ap (λ (b : ℕ). upFrom b (s * m)) (zero-mul m) ∙ ap upTo (sym (pow-succ' s k))
+
+pub length-vectors : (s k : ℕ) → length (vectors s k) ≡ s ^ k
+length-vectors s k = sym (length-map (vectors s k) (rank s)) ∙ ap length (rank-vectors s k) ∙ length-upFrom 0 (s ^ k)
 
 pub rank-snoc : (s : ℕ) (v : List ℕ) (d : ℕ) → rank s (v ++ (d ∷ [])) ≡ rank s v * s + d
 rank-snoc s [] d = omega (arith, ap (λ (n : ℕ). d * n) (pow-zero s), mul-one d, zero-mul s)

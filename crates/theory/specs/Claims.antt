@@ -7,6 +7,7 @@ pub mod Encoding
 pub mod ReadingBack
 pub mod Least
 pub mod FindsLeast
+pub mod Settling
 pub mod Walk
 pub mod Counts
 pub mod SheetRead

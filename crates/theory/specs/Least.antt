@@ -43,6 +43,6 @@ withSize s (some v) = some (record { size = s; values = v })
 unfoldable pub smallestModel : Problem → ℕ → ℕ → Option Case
 smallestModel p low high = firstOf (λ s. withSize s (leastModel s p)) (upFrom low (suc high - low))
 
--- settled: no function has arity above 0, and high is at least the number of constants; low is not looked at
+-- settled: low is 1, no function has arity above 0, and high is at least the number of constants; then none at the sizes low to high is none at any size (Claims/Settling)
 unfoldable pub settled : Problem → ℕ → ℕ → Bool
-settled p low high = all (λ (f : Symbol). eqb (f .arity) 0) (functions (p .symbols)) && leb (length (functions (p .symbols))) high
+settled p low high = eqb low 1 && all (λ (f : Symbol). eqb (f .arity) 0) (functions (p .symbols)) && leb (length (functions (p .symbols))) high

@@ -31,4 +31,5 @@ pub mod ColumnExamples
 pub mod ExplainExamples
 pub mod ExplainerExamples
 pub mod SettingExamples
+pub mod SettledExamples
 pub mod Claims

@@ -197,7 +197,8 @@ impl FirstFailure {
 pub enum Search {
     /// The least model at the smallest size stands in the output's first `length` bytes.
     Found { size: u64, length: usize },
-    /// No case of a searched size is a model; `settled` is the specification's mark.
+    /// No case of a searched size is a model. Where it is `settled`, no interpretation of any size is one, above 8
+    /// included: the search began at size 1, no function has arguments, and high is at least the number of constants.
     None { settled: bool },
 }
 

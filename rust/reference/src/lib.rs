@@ -139,7 +139,7 @@ pub fn find_within(
     }
     work.fill(0);
     Ok(Some(Search::None {
-        settled: settled(&problem, high),
+        settled: settled(&problem, low, high),
     }))
 }
 
@@ -163,9 +163,9 @@ pub fn instances_and_variables(sheet: &[u8], size: u64) -> Result<(u64, u64), Re
     Ok((counted.instances, counted.variables))
 }
 
-/// No function has arguments, and high is at least the number of constants.
-fn settled(problem: &Problem, high: u64) -> bool {
-    problem.functions.iter().all(|f| f.arity == 0) && high >= problem.functions.len() as u64
+/// The sizes from 1 on were searched, no function has arguments, and high is at least the number of constants.
+fn settled(problem: &Problem, low: u64, high: u64) -> bool {
+    low == 1 && problem.functions.iter().all(|f| f.arity == 0) && high >= problem.functions.len() as u64
 }
 
 fn checked_size(size: u64) -> Result<usize, Refusal> {

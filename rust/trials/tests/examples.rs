@@ -119,6 +119,22 @@ fn the_empty_clause_and_no_clause() {
     assert_eq!(found(&nothing, 3, 8).as_deref(), Ok("case=1\nsize=3\n"));
 }
 
+/// Settled: low is 1, no function takes an argument, high is at least the number of constants.
+#[test]
+fn settled() {
+    let all_equal = sheet_of(&[], &[], &["+ = A B"]);
+    assert_eq!(found(&all_equal, 3, 5), Err(false));
+    assert_eq!(found(&all_equal, 1, 1).as_deref(), Ok("case=1\nsize=1\n"));
+    let never = |functions: &[&str]| sheet_of(functions, &["p/0"], &["+ p", "- p"]);
+    assert_eq!(found(&never(&[]), 1, 1), Err(true));
+    assert_eq!(found(&never(&[]), 2, 8), Err(false));
+    assert_eq!(found(&never(&["a/0"]), 1, 1), Err(true));
+    assert_eq!(found(&never(&["a/0", "b/0"]), 1, 1), Err(false));
+    assert_eq!(found(&never(&["a/0", "b/0"]), 1, 2), Err(true));
+    assert_eq!(found(&never(&["a/0", "b/0"]), 2, 2), Err(false));
+    assert_eq!(found(&never(&["f/1"]), 1, 8), Err(false));
+}
+
 #[test]
 fn least_models() {
     let moved = sheet_of(&["f/1"], &[], &["- = f A A"]);

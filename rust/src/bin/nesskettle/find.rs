@@ -1,23 +1,62 @@
-//! `nesskettle find`: the search, and its progress for people who wait.
+//! `nesskettle find`: the search, its progress for people who wait, and its outcome in each layout.
 
+use crate::options::Sheet;
 use crate::report::{Failure, File};
 use crate::room::Room;
-use crate::{print, tables, NO};
+use crate::{print, read_sheet, szs, tables, NO, YES};
 use nesskettle::{Refusal, Search};
 use std::io::IsTerminal;
 use std::time::Instant;
 
-pub fn find(sheet: &File, low: u64, high: u64, as_tables: bool) -> Result<u8, Failure> {
+/// How an outcome is printed.
+#[derive(Clone, Copy, Debug, PartialEq, Eq)]
+pub enum Layout {
+    /// As the program `finder` prints it.
+    Lines,
+    /// A model as tables.
+    Tables,
+    /// As TPTP's tools print it.
+    Szs,
+}
+
+pub fn find(sheet: &Sheet, low: u64, high: u64, layout: Layout) -> Result<u8, Failure> {
+    let searched = read_sheet(sheet).and_then(|file| search(file, low, high));
+    if let (Layout::Szs, Err(failure)) = (layout, &searched) {
+        print(szs::failed(&sheet.path, failure).as_bytes())?;
+    }
+    let (file, search, room) = searched?;
+    match search {
+        Search::Found { size, length } => {
+            let case = &room.output[..length];
+            print(&match layout {
+                Layout::Lines => [b"answer=found\n", case].concat(),
+                Layout::Tables => found_tables(&file.bytes, size, case).into_bytes(),
+                Layout::Szs => szs::found(&sheet.path, &file.bytes, case).into_bytes(),
+            })?;
+            Ok(YES)
+        }
+        Search::None { settled } => {
+            let text = match layout {
+                Layout::Lines => format!("answer=none\nsettled={}\n", yes_no(settled)),
+                Layout::Tables => none_in_words(low, high, settled),
+                Layout::Szs => szs::none(&sheet.path, low, high, settled),
+            };
+            print(text.as_bytes())?;
+            Ok(NO)
+        }
+    }
+}
+
+/// The sheet, what the search came to, and the room in which a case stands.
+fn search(sheet: File, low: u64, high: u64) -> Result<(File, Search, Room), Failure> {
     let mut room = Room::new(&sheet.bytes, low, high).map_err(|r| sheet.refused(r))?;
     let search = if std::io::stderr().is_terminal() {
         find_by_size
     } else {
         Room::find
     };
-    match search(&mut room, &sheet.bytes, low, high).map_err(|r| sheet.refused(r))? {
-        Search::Found { size, length } => found(&sheet.bytes, size, &room.output[..length], as_tables),
-        Search::None { settled } => none(low, high, settled, as_tables),
-    }
+    let search = search(&mut room, &sheet.bytes, low, high).map_err(|r| sheet.refused(r))?;
+    Ok((sheet, search, room))
 }
 
 /// The search size by size, told on standard error. A size's model is the whole search's answer where all sizes before
@@ -47,21 +86,28 @@ fn told(room: &mut Room, sheet: &[u8], low: u64, high: u64, size: u64) -> Result
     Ok(search)
 }
 
-fn found(sheet: &[u8], size: u64, case: &[u8], as_tables: bool) -> Result<u8, Failure> {
-    if as_tables {
-        print(format!("found: a model of size {size}\n\n{}", tables::tables(sheet, case)).as_bytes())
-    } else {
-        print(&[b"answer=found\n", case].concat())
-    }
+fn found_tables(sheet: &[u8], size: u64, case: &[u8]) -> String {
+    format!("found: a model of size {size}\n\n{}", tables::tables(sheet, case))
 }
 
-fn none(low: u64, high: u64, settled: bool, as_tables: bool) -> Result<u8, Failure> {
-    let mark = if settled { "yes" } else { "no" };
-    let text = match (as_tables, low == high) {
-        (false, _) => format!("answer=none\nsettled={mark}\n"),
-        (true, true) => format!("none: no case of size {low} is a model\nsettled: {mark}\n"),
-        (true, false) => format!("none: no case of a size from {low} to {high} is a model\nsettled: {mark}\n"),
+fn none_in_words(low: u64, high: u64, settled: bool) -> String {
+    let sizes = if low == high {
+        format!("size {low}")
+    } else {
+        format!("a size from {low} to {high}")
     };
-    print(text.as_bytes())?;
-    Ok(NO)
+    let mark = if settled {
+        "yes, no other size has a model either"
+    } else {
+        "no, another size may have a model"
+    };
+    format!("none: no case of {sizes} is a model\nsettled: {mark}\n")
+}
+
+fn yes_no(yes: bool) -> &'static str {
+    if yes {
+        "yes"
+    } else {
+        "no"
+    }
 }

@@ -9,6 +9,7 @@ mod report;
 mod room;
 mod setting;
 mod symbols;
+mod szs;
 mod tables;
 mod values;
 
@@ -53,8 +54,8 @@ fn run(command: Command) -> Result<u8, Failure> {
             sheet,
             low,
             high,
-            tables,
-        } => find::find(&read_sheet(&sheet)?, low, high, tables),
+            layout,
+        } => find::find(&sheet, low, high, layout),
     }
 }
 
@@ -117,6 +118,6 @@ fn read_back(sheet: &File, size: u64, setting: &File, tables: bool) -> Result<u8
 fn print(text: &[u8]) -> Result<u8, Failure> {
     let mut out = std::io::stdout().lock();
     let written = out.write_all(text).and_then(|()| out.flush());
-    written.map_err(|e| Failure(format!("cannot write the answer: {e}")))?;
+    written.map_err(|e| Failure::new(format!("cannot write the answer: {e}")))?;
     Ok(YES)
 }

@@ -1,13 +1,15 @@
 //! The command line.
 
+use crate::find::Layout;
 use crate::report::Failure;
 
 pub const HELP: &str = "\
 nesskettle: a finite model finder. Every answer is the proved library's.
 
-  nesskettle find SHEET [--low N] [--high N] [--tables]
+  nesskettle find SHEET [--low N] [--high N] [--tables or --szs]
       the least model at the smallest size from low to high (1 and 8 if not given):
-      prints answer=found and the case, or answer=none and settled=yes or settled=no
+      prints answer=found and the case, or answer=none and settled=yes (there is no
+      model of any size) or settled=no (none of the sizes that were searched)
   nesskettle judge SHEET CASE
       is the case a model of the sheet? prints yes or no
   nesskettle explain SHEET CASE
@@ -41,6 +43,16 @@ entry is a variable itself.
 --tables prints a case as tables: rows are first arguments, columns are last
 ones, and three arguments make one table for each first argument. A predicate's
 table has 1 where it holds and . where it does not.
+
+None is settled where low is 1, no function takes an argument, and high is at
+least the number of constants.
+
+--szs prints what TPTP's tools print. `% SZS status`, then Satisfiable, and the
+model as a finite interpretation (fi_domain, fi_functors, fi_predicates) in which
+\"1\", \"2\", .. are the elements; Unsatisfiable where none is settled; else GaveUp,
+also where a limit is in the way (refusals 9 and 17). A file that is not taken for
+another reason is InputError, a wrong --low or --high UsageError; the words stand
+on standard error as always.
 
 Where standard error is a terminal, find tells there which size it is at.
 
@@ -96,7 +108,7 @@ pub enum Command {
         sheet: Sheet,
         low: u64,
         high: u64,
-        tables: bool,
+        layout: Layout,
     },
 }
 
@@ -157,13 +169,13 @@ pub fn parse(arguments: impl Iterator<Item = String>) -> Result<Command, Failure
         "find" => {
             let low = rest.number("--low")?.unwrap_or(1);
             let high = rest.number("--high")?.unwrap_or(8);
-            let tables = rest.flag("--tables");
+            let layout = rest.layout()?;
             let [sheet] = rest.files("SHEET")?;
             Ok(Command::Find {
                 sheet: sheet_in(sheet),
                 low,
                 high,
-                tables,
+                layout,
             })
         }
         other => Err(wrong(&format!("there is no command {other}"))),
@@ -200,6 +212,16 @@ impl Rest {
         self.number("--size")?.ok_or(wrong("--size N is needed"))
     }
 
+    /// Takes the flags of a layout out.
+    fn layout(&mut self) -> Result<Layout, Failure> {
+        match (self.flag("--tables"), self.flag("--szs")) {
+            (false, false) => Ok(Layout::Lines),
+            (true, false) => Ok(Layout::Tables),
+            (false, true) => Ok(Layout::Szs),
+            (true, true) => Err(wrong("--tables and --szs are not for one answer")),
+        }
+    }
+
     /// All that is left, which must be as many files as the command takes.
     fn files<const N: usize>(self, names: &str) -> Result<[String; N], Failure> {
         if let Some(option) = self.0.iter().find(|word| word.len() > 1 && word.starts_with('-')) {
@@ -214,5 +236,5 @@ impl Rest {
 }
 
 fn wrong(what: &str) -> Failure {
-    Failure(format!("{what} (nesskettle --help says more)"))
+    Failure::new(format!("{what} (nesskettle --help says more)"))
 }

@@ -9,11 +9,22 @@ const SHOWN: usize = 72;
 
 /// Why there is no answer, for people.
 #[derive(Debug)]
-pub struct Failure(pub String);
+pub struct Failure {
+    words: String,
+    /// The library's, where it refused.
+    pub reason: Option<Reason>,
+}
+
+impl Failure {
+    /// Something else than a refusal.
+    pub fn new(words: String) -> Failure {
+        Failure { words, reason: None }
+    }
+}
 
 impl fmt::Display for Failure {
     fn fmt(&self, f: &mut fmt::Formatter<'_>) -> fmt::Result {
-        f.write_str(&self.0)
+        f.write_str(&self.words)
     }
 }
 
@@ -34,7 +45,7 @@ impl File {
                 std::fs::File::open(path).and_then(|mut f| f.read_to_end(&mut bytes)),
             ),
         };
-        read.map_err(|e| Failure(format!("cannot read {name}: {e}")))?;
+        read.map_err(|e| Failure::new(format!("cannot read {name}: {e}")))?;
         Ok(File {
             name: name.to_string(),
             bytes,
@@ -43,13 +54,20 @@ impl File {
 
     /// The refusal in words, with this file's line and a mark under the column if they are named.
     pub fn refused(&self, refusal: Refusal) -> Failure {
+        Failure {
+            words: self.in_words(&refusal),
+            reason: Some(refusal.reason),
+        }
+    }
+
+    fn in_words(&self, refusal: &Refusal) -> String {
         if refusal.line == 0 {
-            return Failure(refusal.to_string());
+            return refusal.to_string();
         }
         let place = format!("  {}:{}: ", self.name, refusal.line);
-        let (before, after) = self.line(&refusal);
+        let (before, after) = self.line(refusal);
         let left = place.chars().count() + before.len();
-        Failure(format!("{refusal}\n{place}{before}{after}\n{}^", " ".repeat(left)))
+        format!("{refusal}\n{place}{before}{after}\n{}^", " ".repeat(left))
     }
 
     /// The faulty line as it is shown, in two parts: what stands before the column, and the rest.
@@ -74,7 +92,7 @@ impl File {
         let written = self.bytes.iter().enumerate().filter(|(_, b)| !b.is_ascii_whitespace());
         let digit = |(at, byte): (usize, &u8)| match byte {
             b'0'..=b'9' => Ok(byte - b'0'),
-            _ => Err(Failure(format!(
+            _ => Err(Failure::new(format!(
                 "{}: byte {} is neither a digit nor a blank",
                 self.name,
                 at + 1

@@ -26,16 +26,16 @@ use Rattle.syntax.proofs.size.DomainSize.next.Reads as next-reads
 use Rattle.valuations.proofs.numbering.numbering_of.Reads as numbering-of-reads
 
 abbrev Inv-loop : tie.InvT-loop
-Inv-loop sheet p high work₀ output₀ signature size₀ work output size =
-    (size₀ .0 ≤ size .0)
+Inv-loop sheet p low high work₀ output₀ signature size₀ work output size =
+    (low .0 ≤ size .0)
     × (size .0 ≤ high .0)
     × (length work ≡ length work₀)
     × (output ≡ output₀)
     × (length output ≡ length output₀)
-    × (smallestModel (problemIn sheet p) (size₀ .0) (high .0) ≡ remaining (problemIn sheet p) (high .0) (size .0))
+    × (smallestModel (problemIn sheet p) (low .0) (high .0) ≡ remaining (problemIn sheet p) (high .0) (size .0))
 
 abbrev μ-loop : tie.MeasureT-loop
-μ-loop sheet p high work₀ output₀ signature size₀ work output size = high .0 - size .0
+μ-loop sheet p low high work₀ output₀ signature size₀ work output size = high .0 - size .0
 
 -- src/sizes.rt:38:5
 loop-holds : tie.Need-loop-holds Inv-loop μ-loop
@@ -141,7 +141,7 @@ returns-2 c =
     let k = c .before .before .before .clear-all in
     ends-none q (a .low .0) (a .high .0) (a .work .now) (k .last .0) (a .output .now) (l .output) (c .is-settled .result)
     (on ∙ remaining-none q (a .high .0) (suc (l .size .0)) (omega (arith, c .before .before .before .before .before .if2 .taken)))
-    (c .is-settled .ensures (a .sheet .now) (a .low .0) (s .pre .searchable .accepted))
+    (c .is-settled .ensures (a .sheet .now) (s .pre .searchable .accepted))
     (k .ensures ∙ ap (λ (m : ℕ). replicate m 0) (t .kept .1 .1 .1 .1 .0 ∙ l .inv .2))
     (l .inv .3)
 

@@ -441,7 +441,7 @@ fn least_models() -> Vec<Call> {
     sheets.iter().map(|(sheet, size)| searching(sheet, 1, *size)).collect()
 }
 
-/// Settled: no function has arguments, and high is at least the number of constants.
+/// Settled: low is 1, no function has arguments, and high is at least the number of constants.
 fn settled_marks() -> Vec<Call> {
     let constants = |count: usize, more: &[&str]| {
         let mut names = vec!["a/0", "b/0", "c/0"];
@@ -457,6 +457,15 @@ fn settled_marks() -> Vec<Call> {
         (constants(3, &[]), 1, 2),
         (constants(1, &["f/1"]), 1, 3),
         (constants(0, &["f/2"]), 1, 2),
+        (constants(0, &[]), 2, 2),
+        (constants(1, &[]), 1, 1),
+        (constants(1, &[]), 2, 8),
+        (constants(3, &[]), 1, 3),
+        (constants(3, &[]), 1, 8),
+        (constants(3, &["f/1"]), 1, 4),
+        // a model has one element
+        (sheet_of(&[], &[], &["+ = A B"]), 3, 5),
+        (sheet_of(&["a/0"], &["p/1"], &["+ = A a", "+ p A"]), 2, 4),
     ];
     sheets
         .iter()

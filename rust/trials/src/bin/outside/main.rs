@@ -7,8 +7,9 @@
 //! - no model comes before the found one: with the cells before some cell as found, no smaller value of that cell is
 //!   satisfiable, and with all cells as found the clauses are;
 //!
-//! for each sheet that the smallest size found is cvc5's; and for each TPTP text that what Find says of the sheet left is
-//! what cvc5 says of the text: whether there is a model, and its smallest size.
+//! for each sheet that the smallest size found is cvc5's, and that cvc5 finds no model at all where none is settled; and
+//! for each TPTP text that what Find says of the sheet left is what cvc5 says of the text: whether there is a model, and
+//! its smallest size.
 
 mod sheet;
 mod solvers;
@@ -40,6 +41,7 @@ fn main() -> ExitCode {
         passed: 0,
         failed: 0,
         undecided: 0,
+        settled: 0,
         smallest: [0; 9],
     };
     for problem in problems::ALL {
@@ -64,9 +66,10 @@ fn main() -> ExitCode {
     }
     let sizes = (1..=NAMED_TOP as usize).map(|size| format!("{} at {size}", trial.smallest[size]));
     println!(
-        "smallest models: {}, none {}",
+        "smallest models: {}, none {}; settled and cvc5 finds none either: {}",
         sizes.collect::<Vec<_>>().join(", "),
-        trial.smallest[0]
+        trial.smallest[0],
+        trial.settled
     );
     println!("cvc5 left {} sheets and texts undecided in its time", trial.undecided);
     println!("{} passed, {} failed", trial.passed, trial.failed);
@@ -95,6 +98,7 @@ struct Trial {
     passed: usize,
     failed: usize,
     undecided: usize,
+    settled: usize,
     /// How many sheets and texts have their smallest model at each size; at 0 those that have none.
     smallest: [usize; 9],
 }
@@ -127,7 +131,7 @@ impl Trial {
         let sheet = Sheet::new(&text(|output| nesskettle::from_tptp(tptp, output)));
         let sizes = (1..=TOP).take_while(|&size| manageable(&sheet.bytes, size));
         let searched = sizes.last().unwrap_or(0);
-        let smallest = (1..=searched).find(|&size| find(&sheet.bytes, size, size).is_some());
+        let smallest = (1..=searched).find(|&size| find(&sheet.bytes, size, size).is_ok());
         self.smallest_size(&sheet, tptp, searched, smallest);
     }
 
@@ -139,17 +143,17 @@ impl Trial {
             let outcome = self.solvers.run(solver, &dimacs.text);
             let satisfiable = matches!(outcome, Outcome::Satisfiable(_));
             let decided = !matches!(outcome, Outcome::Undecided);
-            self.check(decided && satisfiable == found.is_some(), sheet, size, solver.name());
+            self.check(decided && satisfiable == found.is_ok(), sheet, size, solver.name());
             if let Outcome::Satisfiable(numbers) = outcome {
                 let is_model = self.reads_back_as_model(sheet, size, &dimacs.setting(&numbers));
                 self.check(is_model, sheet, size, &format!("{}'s assignment", solver.name()));
             }
         }
-        if let Some(case) = &found {
+        if let Ok(case) = &found {
             let is_least = self.is_least(sheet, size as usize, &dimacs, case);
             self.check(is_least, sheet, size, "the found model is the least");
         }
-        found.is_some()
+        found.is_ok()
     }
 
     fn reads_back_as_model(&self, sheet: &Sheet, size: u64, setting: &[u8]) -> bool {
@@ -186,9 +190,9 @@ impl Trial {
         if searched == 0 {
             return;
         }
-        let whole = find(&sheet.bytes, 1, searched).map(|case| sheet::size(&case));
+        let whole = find(&sheet.bytes, 1, searched);
         self.check(
-            whole == smallest,
+            whole.as_ref().ok().map(|case| sheet::size(case)) == smallest,
             sheet,
             searched,
             "Find over all sizes and size by size",
@@ -200,7 +204,11 @@ impl Trial {
             }
             Smallest::Unread => false,
             Smallest::Size(n) if n <= searched => smallest == Some(n),
-            Smallest::Size(_) | Smallest::None => smallest.is_none(),
+            Smallest::Size(_) => whole == Err(Settled(false)),
+            Smallest::None => {
+                self.settled += usize::from(whole == Err(Settled(true)));
+                whole.is_err()
+            }
         };
         let what = format!("cvc5's smallest model of\n{}", tptp.escape_ascii());
         self.check(agrees, sheet, searched, &what);
@@ -246,13 +254,17 @@ fn text(mut call: impl FnMut(&mut [u8]) -> Result<usize, nesskettle::Refusal>) -
     }
 }
 
+/// The mark of a search that found none.
+#[derive(PartialEq, Eq)]
+struct Settled(bool);
+
 /// The found case, if there is one.
-fn find(sheet: &[u8], low: u64, high: u64) -> Option<Vec<u8>> {
+fn find(sheet: &[u8], low: u64, high: u64) -> Result<Vec<u8>, Settled> {
     let (mut work, mut output) = (Vec::new(), Vec::new());
     loop {
         match nesskettle::find(sheet, low, high, &mut work, &mut output) {
-            Ok(Search::Found { length, .. }) => return Some(output[..length].to_vec()),
-            Ok(Search::None { .. }) => return None,
+            Ok(Search::Found { length, .. }) => return Ok(output[..length].to_vec()),
+            Ok(Search::None { settled }) => return Err(Settled(settled)),
             Err(refusal) if refusal.reason == Reason::WorkTooShort => work = vec![0; refusal.needed as usize],
             Err(refusal) if refusal.needed > 0 => output = vec![0; refusal.needed as usize],
             Err(refusal) => panic!("{refusal}"),

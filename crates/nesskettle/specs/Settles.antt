@@ -1,0 +1,17 @@
+-- Settles, of the calls (document 02, slip 6): when Find answers none and settled, the sheet has no model at any size, above 8 included, nor an infinite one. What that means is `theory/specs/Claims/Settling`:
+-- every interpretation makes some clause false under some assignment.
+use Prim.Native.Nat.{ℕ}
+use mathlib.Core.Path.{_≡_}
+use mathlib.Core.Bool.{true}
+use mathlib.Core.List.{List}
+use Rattle.theory.specs.Refusals.{answer}
+use Rattle.theory.specs.Problem.{Problem, readProblem}
+use Rattle.theory.specs.Claims.Settling.{Unsatisfiable}
+use Rattle.answers.specs.declared.FindAnswer.{FindAnswer}
+use Rattle.answers.specs.declared.FindAnswer.the-variants.{Nothing}
+use Rattle.answers.specs.Calls.{FindCall}
+
+-- it holds of every call
+abbrev pub SettlesHolds : Type 0
+SettlesHolds = (sheet : List ℕ) (p : Problem) (low high : ℕ) → readProblem sheet ≡ answer p
+    → (r : FindAnswer) (work work′ output output′ : List ℕ) → FindCall sheet low high r work work′ output output′ → r ≡ Nothing true → Unsatisfiable p

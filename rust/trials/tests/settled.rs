@@ -1,0 +1,99 @@
+//! What settled means, tried on generated sheets: where none is settled, no larger size has a model either.
+
+use nesskettle_reference::{self as reference, Operations, Search};
+use nesskettle_trials::draft::{Draft, SMALL};
+use nesskettle_trials::models::CHOICES;
+use nesskettle_trials::random::Random;
+use nesskettle_trials::tally::Tally;
+
+const BOTH: [Operations; 2] = [nesskettle::OPERATIONS, reference::OPERATIONS];
+
+/// Sizes with more instances are left out.
+const INSTANCES: u64 = 5_000;
+
+/// A sheet without functions that take arguments, and the number of its constants.
+fn sheet_of_constants(random: &mut Random) -> (Vec<u8>, u64) {
+    let draft = Draft::random(random, SMALL);
+    if draft.functions.iter().any(|f| f.arity > 0) {
+        return sheet_of_constants(random);
+    }
+    (draft.sheet(), draft.functions.len() as u64)
+}
+
+/// The search, if the reference makes it with few choices.
+fn find(operations: &Operations, sheet: &[u8], low: u64, high: u64) -> Option<Search> {
+    let (instances, _) = reference::instances_and_variables(sheet, high).ok()?;
+    let (work, output) = reference::needed(sheet, high).ok()?;
+    if instances > INSTANCES {
+        return None;
+    }
+    let (mut work, mut output) = (vec![0; work as usize], vec![0; output as usize]);
+    let within = reference::find_within(sheet, low, high, &mut work, &mut output, CHOICES);
+    within.expect("the room is enough")?;
+    (operations.find)(sheet, low, high, &mut work, &mut output).ok()
+}
+
+#[test]
+fn a_settled_none_is_none_at_every_size() {
+    for operations in BOTH {
+        let mut tally = Tally::default();
+        let mut random = Random::new(60);
+        for _ in 0..5_000 {
+            let (sheet, constants) = sheet_of_constants(&mut random);
+            let high = constants.max(1);
+            let Some(Search::None { settled }) = find(&operations, &sheet, 1, high) else {
+                continue;
+            };
+            assert!(settled);
+            tally.add(&format!("none, constants: {constants}"), 0);
+            for size in high + 1..=8 {
+                let larger = find(&operations, &sheet, size, size);
+                assert!(!matches!(larger, Some(Search::Found { .. })));
+                tally.add(
+                    if larger.is_some() {
+                        "none of a larger size"
+                    } else {
+                        "left out"
+                    },
+                    0,
+                );
+            }
+        }
+        tally.covers(
+            100,
+            &[
+                "none, constants: 0",
+                "none, constants: 1",
+                "none, constants: 2",
+                "none, constants: 3",
+            ],
+        );
+        tally.covers(5_000, &["none of a larger size"]);
+    }
+}
+
+/// One size less than there are constants is not enough for most sheets, and a search that begins later settles nothing.
+#[test]
+fn a_model_may_stand_beside_an_unsettled_none() {
+    for operations in BOTH {
+        let mut tally = Tally::default();
+        let mut random = Random::new(61);
+        for _ in 0..5_000 {
+            let (sheet, constants) = sheet_of_constants(&mut random);
+            let (low, high) = match random.below(2) {
+                0 if constants > 1 => (1, constants - 1),
+                _ => (constants + 1, constants + 2),
+            };
+            let Some(Search::None { settled }) = find(&operations, &sheet, low, high) else {
+                continue;
+            };
+            assert_eq!(settled, low == 1 && high >= constants);
+            let whole = find(&operations, &sheet, 1, constants.max(1));
+            if matches!(whole, Some(Search::Found { .. })) {
+                assert!(!settled);
+                tally.add(if low == 1 { "a larger model" } else { "a smaller model" }, 0);
+            }
+        }
+        tally.covers(20, &["a larger model", "a smaller model"]);
+    }
+}
