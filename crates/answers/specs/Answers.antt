@@ -50,6 +50,7 @@ explained judge.Yes q = answer none
 explained judge.No q = answer (some (reasonIn q))
 explained (judge.Refused r) q = refused (refusalIn r)
 
+-- what Explain's answer says
 abbrev pub explainIn : ExplainAnswer → Answer (Option operations.Reason)
 explainIn r = explained (r .verdict) (r .reason)
 
