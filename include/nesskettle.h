@@ -8,7 +8,7 @@
  * length beside it says, is not null (also where the length is 0) and is aligned for its type; a buffer that is lent
  * for writing overlaps no other argument. No call keeps state: calls on different buffers may run side by side.
  *
- * Sheets, cases, settings and TPTP texts are bytes; nothing is ended by a zero byte.
+ * Sheets, cases, settings, TPTP texts and solvers' answers are bytes; nothing is ended by a zero byte.
  *
  * Answers. `outcome` 0 is NK_REFUSED in every answer. Then `reason` is the number of the refusal, `line` the faulty
  * line, counted from 1, and `column` the faulty byte of that line, counted in bytes from 1; both are 0 where the refusal
@@ -30,17 +30,18 @@ extern "C" {
 enum {
     NK_REFUSED = 0,
 
-    NK_READ = 1,    /* nk_read: the sheet is accepted */
-    NK_YES = 1,     /* nk_judge, nk_explain: the case is a model */
-    NK_NO = 2,      /* nk_judge, nk_explain: it is none */
-    NK_WRITTEN = 1, /* nk_write, nk_read_back, nk_setting, nk_from_tptp: what is written stands in the output */
-    NK_FOUND = 1,   /* nk_find: the least model stands in the output */
-    NK_NONE = 2     /* nk_find: no case of a searched size is a model */
+    NK_READ = 1,         /* nk_read: the sheet is accepted */
+    NK_YES = 1,          /* nk_judge, nk_explain: the case is a model */
+    NK_NO = 2,           /* nk_judge, nk_explain: it is none */
+    NK_WRITTEN = 1,      /* nk_write, nk_read_back, nk_setting, nk_from_tptp, nk_from_solver: it stands in the output */
+    NK_CLAIMED_NONE = 2, /* nk_from_solver: the solver says that there is no model; whether that is so is not checked */
+    NK_FOUND = 1,        /* nk_find: the least model stands in the output */
+    NK_NONE = 2          /* nk_find: no case of a searched size is a model */
 };
 
 /*
- * Refusals. Checks run in this order within each call, sheet numbers first; of a sheet's faulty lines the first is
- * named, and on one line the lower number wins.
+ * Refusals. Checks run in the order that is told at each call, sheet numbers first; of a sheet's faulty lines the first
+ * is named, and on one line the lower number wins.
  *
  * 2 to 7, 12 and 15 to 17 name a line and a column, the others name none. The column is
  *
@@ -77,7 +78,11 @@ enum {
     /* A TPTP text; each names line and column. */
     NK_NOT_TPTP = 15,      /* text outside the part of TPTP that is read, or text missing */
     NK_SYMBOL_CLASH = 16,  /* a symbol with two arities, or that is a function and a predicate */
-    NK_BEYOND_SHEETS = 17  /* a name that no sheet has, a ninth variable, or any limit of a sheet */
+    NK_BEYOND_SHEETS = 17, /* a name that no sheet has, a ninth variable, or any limit of a sheet */
+
+    /* A solver's answer; neither names a line. */
+    NK_BAD_ANSWER = 18, /* lines not as laid out, or a propositional variable missing, doubled or above the last one */
+    NK_NO_MODEL = 19    /* its case is no model of the sheet */
 };
 
 /* The answer of nk_read. */
@@ -111,9 +116,9 @@ typedef struct {
     uint8_t values[8];  /*        and the elements that they stand for, numbers from 1 (not digits); 0 past `count` */
 } nk_explain_answer;
 
-/* The answer of nk_write, nk_read_back, nk_setting and nk_from_tptp. */
+/* The answer of nk_write, nk_read_back, nk_setting, nk_from_tptp and nk_from_solver. */
 typedef struct {
-    uint32_t outcome; /* NK_WRITTEN or NK_REFUSED */
+    uint32_t outcome; /* NK_WRITTEN or NK_REFUSED; of nk_from_solver NK_CLAIMED_NONE too */
     uint32_t reason;
     uint64_t line;
     uint64_t column;
@@ -223,6 +228,29 @@ nk_find_answer nk_find(const uint8_t *sheet, size_t sheet_length, uint64_t low, 
  */
 nk_write_answer nk_from_tptp(const uint8_t *text, size_t text_length,
                              uint8_t *output, size_t output_length);
+
+/*
+ * Reads what a SAT solver answers to the clauses that nk_write writes of the sheet at this size, in the layout of the
+ * solver competitions:
+ *
+ *     c any bytes
+ *     s SATISFIABLE
+ *     v 1 -2 ..
+ *     v .. 7 0
+ *
+ * One `s` line, then `v` lines of one number or more; the last number of all is 0, and no other is. Lines that begin with
+ * `c` may stand anywhere and are passed over. Every line ends with a line feed, one space parts the words of a line, and
+ * a number has no plus sign and no leading zero, and is not -0. Each propositional variable stands there once, in any
+ * order: n where it is yes, -n where it is no. The text has no limit; time grows with its length.
+ * NK_WRITTEN: the numbers are the setting of a case that is a model of the sheet, and the output's first `length` bytes are
+ * the case; the bytes after it are as they were. Every model is taken, however its setting is laid out.
+ * NK_CLAIMED_NONE: the answer is `s UNSATISFIABLE` without `v` lines. This is the solver's claim and not NK_NONE: nothing
+ * here has been checked. The output, which may have any length, is as it was.
+ * Refused: 1 to 7, then 8, 18, 14, 19, 11; every byte of the output is then as it was.
+ */
+nk_write_answer nk_from_solver(const uint8_t *sheet, size_t sheet_length, uint64_t size,
+                               const uint8_t *text, size_t text_length,
+                               uint8_t *output, size_t output_length);
 
 #ifdef __cplusplus
 }

@@ -10,12 +10,13 @@
 //! | [`setting`] | the setting of a case, the other way of [`read_back`] |
 //! | [`find`] | the least model at the smallest size, or that there is none |
 //! | [`from_tptp`] | the sheet that a file of TPTP clauses is read into |
+//! | [`from_solver`] | the case that a SAT solver answers, if it is a model; or the solver's claim that there is none |
 //!
 //! Every call takes any bytes and numbers. A refused call has changed no lent byte and no lent number.
 
 pub mod raw;
 
-pub use nesskettle_answers::{Counts, FirstFailure, Operations, Reason, Refusal, Search};
+pub use nesskettle_answers::{Counts, FirstFailure, Operations, Reason, Refusal, Search, SolverAnswer};
 
 /// The calls below as one value.
 pub const OPERATIONS: Operations = Operations {
@@ -28,6 +29,7 @@ pub const OPERATIONS: Operations = Operations {
     setting,
     find,
     from_tptp,
+    from_solver,
 };
 
 /// Reads a sheet.
@@ -153,6 +155,30 @@ pub fn find(sheet: &[u8], low: u64, high: u64, work: &mut [u32], output: &mut [u
 pub fn from_tptp(text: &[u8], output: &mut [u8]) -> Result<usize, Refusal> {
     // SAFETY: pointers and lengths are slices', and the output is lent to this call alone.
     written(unsafe { raw::nk_from_tptp(text.as_ptr(), text.len(), output.as_mut_ptr(), output.len()) })
+}
+
+/// Reads what a SAT solver answers, in the layout of the solver competitions, to the clauses that [`write`] writes of the
+/// sheet at this size; writes the case and answers its length. The bytes after it are unchanged.
+///
+/// A case that comes out is a model of the sheet. That there is none is the solver's claim alone; the output, which may
+/// have any length, is then unchanged.
+pub fn from_solver(sheet: &[u8], size: u64, text: &[u8], output: &mut [u8]) -> Result<SolverAnswer, Refusal> {
+    // SAFETY: pointers and lengths are slices', and the output is lent to this call alone.
+    let answer = unsafe {
+        raw::nk_from_solver(
+            sheet.as_ptr(),
+            sheet.len(),
+            size,
+            text.as_ptr(),
+            text.len(),
+            output.as_mut_ptr(),
+            output.len(),
+        )
+    };
+    match answer.outcome {
+        2 => Ok(SolverAnswer::ClaimedNone),
+        _ => written(answer).map(|length| SolverAnswer::Case { length }),
+    }
 }
 
 fn first_failure(answer: &raw::ExplainAnswer) -> FirstFailure {

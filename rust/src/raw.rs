@@ -37,7 +37,7 @@ pub struct ExplainAnswer {
     pub values: [u8; 8],
 }
 
-/// The answer of [`nk_write`], [`nk_read_back`], [`nk_setting`] and [`nk_from_tptp`].
+/// The answer of [`nk_write`], [`nk_read_back`], [`nk_setting`], [`nk_from_tptp`] and [`nk_from_solver`].
 #[repr(C)]
 #[derive(Clone, Copy, Debug, PartialEq, Eq)]
 pub struct WriteAnswer {
@@ -107,4 +107,14 @@ extern "C" {
     ) -> FindAnswer;
 
     pub fn nk_from_tptp(text: *const u8, text_length: usize, output: *mut u8, output_length: usize) -> WriteAnswer;
+
+    pub fn nk_from_solver(
+        sheet: *const u8,
+        sheet_length: usize,
+        size: u64,
+        text: *const u8,
+        text_length: usize,
+        output: *mut u8,
+        output_length: usize,
+    ) -> WriteAnswer;
 }

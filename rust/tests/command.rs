@@ -50,6 +50,7 @@ fn a_refused_sheet_is_marked() {
             "judge - group-6.case",
             "explain - group-6.case",
             "setting - group-6.case",
+            "from-solver - --size 2 group-6.case",
         ] {
             marks(verb, input, refused, shown);
         }
@@ -285,6 +286,59 @@ fn a_setting_is_read_back() {
 }
 
 #[test]
+fn from_solver() {
+    let call = "from-solver two-constants.sheet --size 2 -";
+    let answer = "c any solver\ns SATISFIABLE\nv 2 3 -1\nv -4 0\n";
+    prints(call, answer, 0, "case=1\nsize=2\na=2\nb=1\n");
+    prints(&format!("{call} --tables"), answer, 0, "a = 2\nb = 1\n");
+    prints(
+        "from-solver ../../../examples/both-eyes.sheet --size 3 ../../../examples/both-eyes.answer",
+        "",
+        0,
+        "case=1\nsize=3\nleft=3\nright=3\ncap=2\nboth=1\nmore=0 1 1 0 0 1 0 0 0\n\
+         stop_left=0\nstop_right=1\npatchy_left=0\npatchy_right=1\n",
+    );
+    let refused = |input: &str, told: &str| fails(call, input, &format!("nesskettle: refused {told}\n"));
+    let bad = "18: the solver's answer is not one s line and then v lines as laid out (one space between numbers, 0 last of \
+               all, a line feed after each line), or does not state each propositional variable of the sheet at this size \
+               once";
+    refused("s SATISFIABLE\nv 2 3 -1 0\n", bad);
+    refused("s SATISFIABLE\nv 2 3 -1 -4 0", bad);
+    refused("SAT\n2 3 -1 -4 0\n", bad);
+    refused(
+        "s SATISFIABLE\nv 1 2 3 -4 0\n",
+        "14: the setting gives a function no result or several for some arguments",
+    );
+    refused(
+        "s SATISFIABLE\nv 1 -2 3 -4 0\n",
+        "19: the solver's answer stands for a case that is no model of the sheet",
+    );
+    fails(
+        "from-solver two-constants.sheet --size 0 -",
+        "",
+        "nesskettle: refused 8: a size must be 1 to 8, and low must not be above high\n",
+    );
+}
+
+#[test]
+fn a_solver_that_claims_none() {
+    prints(
+        "from-solver two-constants.sheet --size 1 -",
+        "c any solver\ns UNSATISFIABLE\n",
+        3,
+        "claimed none: the solver says that no case of size 1 is a model.\n\
+         This is the solver's claim, which nothing here has checked; it says nothing about other sizes.\n",
+    );
+    // the words are the solver's, though there is a model
+    let output = run(
+        "from-solver two-constants.sheet --size 2 - --tables",
+        "s UNSATISFIABLE\n",
+    );
+    assert!(output.stdout.starts_with(b"claimed none: the solver says "));
+    assert_eq!(output.status.code(), Some(3));
+}
+
+#[test]
 fn find() {
     prints(
         "find two-constants.sheet",
@@ -401,6 +455,13 @@ fn every_verb_takes_a_tptp_file() {
         case,
     );
     prints(
+        &format!("from-solver {examples}/each-eye.p --size 1 -"),
+        "s UNSATISFIABLE\n",
+        3,
+        "claimed none: the solver says that no case of size 1 is a model.\n\
+         This is the solver's claim, which nothing here has checked; it says nothing about other sizes.\n",
+    );
+    prints(
         &format!("setting {examples}/both-eyes.p -"),
         case,
         0,
@@ -475,10 +536,13 @@ fn wrong_calls_are_told() {
         "",
         &format!("nesskettle: --size is no option of this command, or stands there twice{more}"),
     );
+    for call in ["clauses group.sheet", "from-solver group.sheet answer"] {
+        fails(call, "", &format!("nesskettle: --size N is needed{more}"));
+    }
     fails(
-        "clauses group.sheet",
+        "from-solver group.sheet --size 2",
         "",
-        &format!("nesskettle: --size N is needed{more}"),
+        &format!("nesskettle: the command takes SHEET ANSWER{more}"),
     );
     fails(
         "find group.sheet --low",

@@ -96,6 +96,24 @@ int main(void) {
     expect(written.outcome == NK_REFUSED && written.reason == NK_NOT_TPTP, "a missing full stop is refused");
     expect(written.line == 2 && written.column == 22 && written.length == 0, "at the text's end");
 
+    static const char states[] = "c a solver\ns SATISFIABLE\nv -1 3\nv -4 2 0\n";
+    output[22] = 9;
+    written = nk_from_solver(sheet, sheet_length, 2, (const uint8_t *)states, strlen(states), output, sizeof output);
+    expect(written.outcome == NK_WRITTEN && written.reason == 0, "a solver's answer is taken");
+    expect(text_is(output, written.length, "case=1\nsize=2\na=2\nb=1\n"), "its case is written");
+    expect(output[22] == 9, "and the byte after it is as it was");
+    written = nk_from_solver(sheet, sheet_length, 2, (const uint8_t *)states, strlen(states), output, 21);
+    expect(written.reason == NK_OUTPUT_TOO_SHORT && written.length == 22, "21 bytes are too few for it");
+    written = nk_from_solver(sheet, sheet_length, 2, (const uint8_t *)states, strlen(states) - 1, output, sizeof output);
+    expect(written.outcome == NK_REFUSED && written.reason == NK_BAD_ANSWER, "it is refused without its last line feed");
+    expect(written.line == 0 && written.column == 0 && written.length == 0, "without a place");
+    static const char equal[] = "s SATISFIABLE\nv 1 -2 3 -4 0\n";
+    written = nk_from_solver(sheet, sheet_length, 2, (const uint8_t *)equal, strlen(equal), output, sizeof output);
+    expect(written.outcome == NK_REFUSED && written.reason == NK_NO_MODEL, "equal constants are no model");
+    static const char none[] = "s UNSATISFIABLE\n";
+    written = nk_from_solver(sheet, sheet_length, 2, (const uint8_t *)none, strlen(none), output, 0);
+    expect(written.outcome == NK_CLAIMED_NONE && written.length == 0, "a claim of none is no refusal");
+
     printf("%zu %zu %zu %zu %zu\n", sizeof(nk_read_answer), sizeof(nk_judge_answer), sizeof(nk_explain_answer),
            sizeof(nk_write_answer), sizeof(nk_find_answer));
     return failures;

@@ -6,9 +6,10 @@ use lib.ListN.{length}
 use Rattle.theory.specs.Refusals.{Answer}
 use Rattle.theory.specs.Operations.{lengthAnswer, outputAfter, writtenText, readBackText, settingText, Search, findResult, findAnswer, findWork, findOutput}
 use Rattle.tptp.specs.Tptp.{tptpText}
+use Rattle.solver.specs.SolverText.{solverText, solverAnswer, solverOutput}
 use Rattle.exports.specs.declared.WriteOut.{WriteOut}
 use Rattle.exports.specs.declared.FindOut.{FindOut}
-use Rattle.exports.specs.Layouts.{writeOut, findOut}
+use Rattle.exports.specs.Layouts.{writeOut, solverOut, findOut}
 
 -- a call that writes this text, or is refused
 pub record WritingExport (text : Answer (List ℕ)) (r : WriteOut) (output output′ : List ℕ) : Type 0 where
@@ -40,3 +41,8 @@ FindExport sheet low high r work work′ output output′ = SearchingExport (fin
 -- From TPTP
 abbrev pub TptpExport : List ℕ → WriteOut → List ℕ → List ℕ → Type 0
 TptpExport text r output output′ = WritingExport (tptpText text (length output)) r output output′
+
+-- From solver
+pub record FromSolverExport (sheet : List ℕ) (size : ℕ) (text : List ℕ) (r : WriteOut) (output output′ : List ℕ) : Type 0 where
+  pub answer : r ≡ solverOut (solverAnswer (solverText sheet size text (length output)))
+  pub left : output′ ≡ solverOutput (solverText sheet size text (length output)) output

@@ -4,6 +4,7 @@ use mathlib.Core.Bool.{Bool, true, false, cond}
 use mathlib.Core.Option.{Option, none, some}
 use Rattle.theory.specs.Refusals.{Answer, answer, refused}
 use Rattle.theory.specs.Operations.{Counts, Reason, Found, foundCase, noCase}
+use Rattle.solver.specs.SolverText.{Outcome, modelCase, claimedNone}
 use Rattle.exports.specs.declared.ReadOut.{ReadOut}
 use Rattle.exports.specs.declared.JudgeOut.{JudgeOut}
 use Rattle.answers.specs.Answers.{reasonBeside}
@@ -39,6 +40,12 @@ explainOut a =
 abbrev pub writeOut : Answer ℕ → WriteOut
 writeOut (answer n) = record { outcome = 1; reason = 0; line = 0; column = 0; length = n }
 writeOut (refused r) = record { outcome = 0; reason = r .number; line = r .place .line; column = r .place .column; length = r .needed }
+
+-- From solver: outcome 1 and the length, 2 for claimed none; refused, the needed length
+abbrev pub solverOut : Answer (Outcome ℕ) → WriteOut
+solverOut (answer (modelCase n)) = record { outcome = 1; reason = 0; line = 0; column = 0; length = n }
+solverOut (answer claimedNone) = record { outcome = 2; reason = 0; line = 0; column = 0; length = 0 }
+solverOut (refused r) = record { outcome = 0; reason = r .number; line = r .place .line; column = r .place .column; length = r .needed }
 
 -- Find: outcome 1 with size and length, 2 with the mark settled; refused, the needed length
 abbrev pub findOut : Answer Found → FindOut

@@ -1,5 +1,6 @@
 // The operations for C: `include/nesskettle.h` has the declarations. Each answer is a struct of numbers; outcome 0 is always "refused", and a
 // field that an outcome does not speak of is 0.
+use accepting::SolverAnswer;
 use answers::ExplainAnswer;
 use answers::FindAnswer;
 use answers::JudgeAnswer;
@@ -13,8 +14,9 @@ ghost use Rattle.answers.specs.Answers.{readIn, judgeIn, lengthIn, findIn};
 ghost use Rattle.answers.specs.Calls.{ReasoningCall};
 ghost use Rattle.theory.specs.Refusals.{Answer};
 ghost use Rattle.theory.specs.Operations as theory;
-ghost use Rattle.exports.specs.Exported.{FindExport, ReadBackExport, SettingExport, TptpExport, WriteExport};
-ghost use Rattle.exports.specs.Layouts.{readOut, judgeOut, explainOut, writeOut, findOut};
+ghost use Rattle.accepting.specs.Calls.{solverIn};
+ghost use Rattle.exports.specs.Exported.{FindExport, FromSolverExport, ReadBackExport, SettingExport, TptpExport, WriteExport};
+ghost use Rattle.exports.specs.Layouts.{readOut, judgeOut, explainOut, writeOut, solverOut, findOut};
 
 #[repr(C)]
 pub struct ReadOut {
@@ -268,4 +270,44 @@ pub extern "C" fn nk_from_tptp(text: &[u8], output: &mut [u8]) -> WriteOut
     ensures { λ r. ⌜ TptpExport (now (text .entry)) r (now (output .entry)) (now (output .exit)) ⌝ }
 {
     write_out(nesskettle::from_tptp(text, output))
+}
+
+#[no_mangle]
+pub extern "C" fn nk_from_solver(
+    sheet: &[u8],
+    size: u64,
+    text: &[u8],
+    output: &mut [u8],
+) -> WriteOut
+    ensures { λ r. ⌜ FromSolverExport (now (sheet .entry)) size (now (text .entry)) r (now (output .entry)) (now (output .exit)) ⌝ }
+{
+    solver_out(nesskettle::from_solver(sheet, size, text, output))
+}
+
+fn solver_out(answer: SolverAnswer) -> WriteOut
+    ensures { λ r. ⌜ r ≡ solverOut (solverIn answer) ⌝ }
+{
+    match answer {
+        SolverAnswer::Case(n) => WriteOut {
+            outcome: 1,
+            reason: 0,
+            line: 0,
+            column: 0,
+            length: n as u64,
+        },
+        SolverAnswer::ClaimedNone => WriteOut {
+            outcome: 2,
+            reason: 0,
+            line: 0,
+            column: 0,
+            length: 0,
+        },
+        SolverAnswer::Refused(r) => WriteOut {
+            outcome: 0,
+            reason: r.number as u32,
+            line: r.line as u64,
+            column: r.column as u64,
+            length: r.needed as u64,
+        },
+    }
 }

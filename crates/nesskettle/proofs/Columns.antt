@@ -3,6 +3,7 @@ use Prim.Native.Nat.{ℕ, suc}
 use mathlib.Core.Path.{_≡_, refl, sym, ap, _∙_, subst}
 use mathlib.Core.Logic.{_⊎_, inl, inr}
 use mathlib.Core.Bool.{Bool, true, false, _&&_}
+use mathlib.Core.Option.{Option, none, some}
 use mathlib.Core.List.{List}
 use native.Mathlib.Omega.{arith}
 use lib.Dec.{leb}
@@ -10,8 +11,9 @@ use lib.ListN.{length}
 use Rattle.theory.specs.Propositional.{propCount}
 use Rattle.theory.specs.PropClauses.{instanceCount, workNeeded}
 use Rattle.theory.specs.Syntax.{Signature}
-use Rattle.theory.specs.Valuation.{isValuation, isFunctional}
-use Rattle.theory.specs.Refusals.{Refusal, Answer, answer, refused, atLine, unplaced, needing, _>>=_, check}
+use Rattle.theory.specs.Cells.{isModel}
+use Rattle.theory.specs.Valuation.{isValuation, isFunctional, readBack}
+use Rattle.theory.specs.Refusals.{Refusal, Answer, answer, refused, atLine, unplaced, needing, _>>=_, check, orRefuse}
 use Rattle.theory.specs.Problem.{Problem, readProblem}
 use Rattle.theory.specs.CaseText.{caseLength}
 use Rattle.theory.specs.Columns.{sheetColumn, caseColumn, placedProblem, placedCase}
@@ -26,6 +28,8 @@ use Rattle.theory.proofs.CaseRefusals.{case-refusal}
 use Rattle.theory.proofs.Columns.{columns}
 use Rattle.theory.proofs.ColumnsWithin.{within}
 use Rattle.theory.proofs.Explaining.{explaining}
+use Rattle.solver.specs.Replies.{Reply, claimsNone, states, readReply}
+use Rattle.solver.specs.SolverText.{Outcome, modelCase, claimedNone, statedCase, outcomeOf, solverText, solverAnswer}
 use Rattle.writing.specs.Texts.{clausesText}
 use Rattle.nesskettle.proofs.Leaving.{refused-text}
 use Rattle.nesskettle.specs.Columns.{InSheet, OfTheSheet, OfTheCase, NoPlace, Columns}
@@ -136,6 +140,33 @@ setting-placed sheet case room q e =
     let n : ℕ = propCount (k .size) (p .symbols) in
     unrefused (check (leb n room) (needing 11 n)) _ q e₂ (λ h. inr (inr (no-place (leb n room) (needing 11 n) q (refl, refl) h))) λ u _ e₃. absurd (answer≢refused _ q e₃)
 
+-- a text that is no reply
+unread : (o : Option Reply) (q : Refusal) → orRefuse o (unplaced 18) ≡ refused q → NoPlace q
+unread none q e = subst NoPlace (refused-inj {A = Reply} (unplaced 18) q e) (refl, refl)
+unread (some r) q e = absurd (answer≢refused r q e)
+
+outcome-placed : (sheet : List ℕ) (p : Problem) (size room : ℕ) (r : Reply) (q : Refusal) → outcomeOf p size room r ≡ refused q → Placed sheet q
+unfolding statedCase
+outcome-placed sheet p size room claimsNone q e = absurd (answer≢refused _ q e)
+outcome-placed sheet p size room (states σ) q e =
+    checked sheet (isFunctional size (p .symbols) σ) (unplaced 14) _ q (refl, refl) e λ e₁.
+    checked sheet (isModel size (p .symbols) (p .clauses) (readBack size (p .symbols) σ)) (unplaced 19) _ q (refl, refl) e₁ λ e₂.
+    checked sheet (leb (caseLength size (p .symbols)) room) (needing 11 (caseLength size (p .symbols))) _ q (refl, refl) e₂ λ e₃. absurd (answer≢refused _ q e₃)
+
+solver-placed : (sheet : List ℕ) (size : ℕ) (text : List ℕ) (room : ℕ) (q : Refusal) → solverText sheet size text room ≡ refused q → Placed sheet q
+unfolding solverText
+solver-placed sheet size text room q e =
+    unrefused (placedProblem sheet) _ q e (λ h. inl (of-the-sheet sheet q h)) λ (p : Problem) _ e₁.
+    checked sheet (isSize size) (unplaced 8) _ q (refl, refl) e₁ λ e₂.
+    unrefused (orRefuse (readReply (propCount size (p .symbols)) text) (unplaced 18)) _ q e₂ (λ h. inr (unread (readReply (propCount size (p .symbols)) text) q h)) λ (r : Reply) _ e₃.
+    outcome-placed sheet p size room r q e₃
+
+-- a solver's answer that is refused is refused
+outcome-refused : (a : Answer (Outcome (List ℕ))) (q : Refusal) → solverAnswer a ≡ refused q → a ≡ refused q
+outcome-refused (answer (modelCase t)) q e = absurd (answer≢refused _ q e)
+outcome-refused (answer claimedNone) q e = absurd (answer≢refused _ q e)
+outcome-refused (refused p) q e = ap refused (refused-inj p q e)
+
 -- a search whose answer is refused is refused
 search-refused : (a : Answer Search) (q : Refusal) → findAnswer a ≡ refused q → a ≡ refused q
 search-refused (answer (found s t)) q e = absurd (answer≢refused _ q e)
@@ -152,4 +183,5 @@ columns-of-calls =
       readBack = λ sheet size setting r output output′ c q e. read-back-placed sheet size setting (length output) q (refused-text _ q (sym (c .answer) ∙ e));
       setting = λ sheet case r output output′ c q e. setting-placed sheet case (length output) q (refused-text _ q (sym (c .answer) ∙ e));
       find = λ sheet low high r work work′ output output′ c q e. find-placed sheet low high (length work) (length output) q (search-refused _ q (sym (c .answer) ∙ e));
+      fromSolver = λ sheet size text r output output′ c q e. solver-placed sheet size text (length output) q (outcome-refused _ q (sym (c .answer) ∙ e));
     }

@@ -2,16 +2,19 @@
 use Prim.Native.Nat.{ℕ, _+_, _≤_}
 use mathlib.Core.Path.{_≡_, refl, sym, ap, subst, _∙_}
 use mathlib.Core.Bool.{Bool, true, false, cond, _&&_}
+use mathlib.Core.Option.{Option, none, some}
 use mathlib.Core.List.{List, [], _∷_, _++_}
 use native.Mathlib.Omega.{arith}
 use lib.Dec.{eqb, leb}
 use lib.ListN.{length}
 use Rattle.theory.specs.Lists.{all, upFrom, elem, same}
 use Rattle.theory.specs.Syntax.{Signature}
+use Rattle.theory.specs.Cells.{isModel}
 use Rattle.theory.specs.Propositional.{propCount}
 use Rattle.theory.specs.PropClauses.{instanceCount, workNeeded}
-use Rattle.theory.specs.Valuation.{isValuation, isFunctional}
-use Rattle.theory.specs.Refusals.{Refusal, Answer, answer, refused, atPlace, unplaced, needing, _>>=_, check}
+use Rattle.theory.specs.Valuation.{isValuation, isFunctional, readBack}
+use Rattle.theory.specs.Refusals.{Refusal, Answer, answer, refused, atPlace, unplaced, needing, _>>=_, check, orRefuse}
+use Rattle.theory.specs.Problem.{Problem}
 use Rattle.theory.specs.Columns.{placedProblem, placedCase}
 use Rattle.theory.specs.SheetText.{sheetText}
 use Rattle.theory.specs.CaseText.{caseLength}
@@ -25,12 +28,16 @@ use Rattle.theory.proofs.CaseRefusals.{case-refusal}
 use Rattle.tptp.specs.Symbols.{problemOf}
 use Rattle.tptp.specs.Places.{placeOf}
 use Rattle.tptp.specs.Tptp.{readFile, clausesOfFile, Fault, faults, sheetIn, tptpText}
+use Rattle.solver.specs.Replies.{Reply, claimsNone, states, readReply}
+use Rattle.solver.specs.SolverText.{Outcome, modelCase, claimedNone, statedCase, outcomeOf, solverText, solverAnswer, solverOutput}
+use Rattle.accepting.specs.declared.SolverAnswer.{SolverAnswer}
+use Rattle.accepting.specs.Calls.{solverIn, OutcomeCall}
 use Rattle.answers.specs.declared.WriteAnswer.{WriteAnswer}
 use Rattle.answers.specs.declared.FindAnswer.{FindAnswer}
 use Rattle.answers.specs.Answers.{lengthIn, findIn}
 use Rattle.answers.specs.Calls.{WritingCall, SearchingCall}
 use Rattle.writing.specs.Texts.{clausesText}
-use Rattle.nesskettle.specs.Demand1.{readNumbers, judgeNumbers, writeNumbers, readBackNumbers, settingNumbers, findNumbers, tptpNumbers, NumberOf, ResultOr, Demand1}
+use Rattle.nesskettle.specs.Demand1.{readNumbers, judgeNumbers, writeNumbers, readBackNumbers, settingNumbers, findNumbers, tptpNumbers, solverNumbers, NumberOf, ResultOr, Demand1}
 use Rattle.nesskettle.proofs.TptpNumbers.{isTptpNumber, text-numbers}
 
 -- the number of every refusal of the answer is one of these
@@ -154,6 +161,29 @@ tptp-within text room = go (faults text) (text-numbers text)
         refuses tptpNumbers {A = List ℕ} (atPlace (f .number) (placeOf text (f .place))) q
         (or-right (eqb (f .number) 11) (elem (f .number) (upFrom 15 3)) (and-left (isTptpNumber f) (all isTptpNumber fs) h)) e
 
+-- From solver
+stated-within : (p : Problem) (size room : ℕ) (σ : List ℕ) → Within solverNumbers (statedCase p size room σ)
+unfolding statedCase
+stated-within p size room σ =
+    checks solverNumbers (isFunctional size (p .symbols) σ) (unplaced 14) _ refl
+    (checks solverNumbers (isModel size (p .symbols) (p .clauses) (readBack size (p .symbols) σ)) (unplaced 19) _ refl
+    (checks solverNumbers (leb (caseLength size (p .symbols)) room) (needing 11 (caseLength size (p .symbols))) _ refl (ends solverNumbers _)))
+
+solver-within : (sheet : List ℕ) (size : ℕ) (text : List ℕ) (room : ℕ) → Within solverNumbers (solverText sheet size text room)
+unfolding solverText
+solver-within sheet size text room =
+    then solverNumbers _ _ (sheet-within (8 ∷ 11 ∷ 14 ∷ 18 ∷ 19 ∷ []) sheet) λ p.
+    checks solverNumbers (isSize size) (unplaced 8) _ refl
+    (then solverNumbers _ _ (unread (readReply (propCount size (p .symbols)) text)) (outcome p))
+  where
+    unread : (o : Option Reply) → Within solverNumbers (orRefuse o (unplaced 18))
+    unread none q e = refuses solverNumbers {A = Reply} (unplaced 18) q refl e
+    unread (some r) q e = ends solverNumbers r q e
+
+    outcome : (p : Problem) (r : Reply) → Within solverNumbers (outcomeOf p size room r)
+    outcome p claimsNone = ends solverNumbers claimedNone
+    outcome p (states σ) = stated-within p size room σ
+
 -- a refused call that writes leaves the output as it was
 writing-kept : (numbers : List ℕ) (text : Answer (List ℕ)) (r : WriteAnswer) (output output′ : List ℕ) → WritingCall text r output output′ → Within numbers text
     → ResultOr (λ q. NumberOf numbers q × (output′ ≡ output)) (lengthIn r)
@@ -175,6 +205,16 @@ searching-kept numbers result r work work′ output output′ f h =
     go (answer (nothing b)) w l h = tt
     go (refused q) w l h = (h q refl, w, l)
 
+-- a refused answer of a solver leaves the output as it was
+outcome-kept : (numbers : List ℕ) (outcome : Answer (Outcome (List ℕ))) (r : SolverAnswer) (output output′ : List ℕ) → OutcomeCall outcome r output output′ → Within numbers outcome
+    → ResultOr (λ q. NumberOf numbers q × (output′ ≡ output)) (solverIn r)
+outcome-kept numbers outcome r output output′ c h = subst (ResultOr (λ q. NumberOf numbers q × (output′ ≡ output))) (sym (c .answer)) (go outcome (c .left) h)
+  where
+    go : (outcome : Answer (Outcome (List ℕ))) → output′ ≡ solverOutput outcome output → Within numbers outcome → ResultOr (λ q. NumberOf numbers q × (output′ ≡ output)) (solverAnswer outcome)
+    go (answer (modelCase t)) l h = tt
+    go (answer claimedNone) l h = tt
+    go (refused q) l h = (h q refl, l)
+
 -- the theorem
 pub demand1-of-calls : Demand1
 demand1-of-calls =
@@ -190,4 +230,5 @@ demand1-of-calls =
       find = λ sheet low high r work work′ output output′ c.
           searching-kept findNumbers (findResult sheet low high (length work) (length output)) r work work′ output output′ c (find-within sheet low high (length work) (length output));
       fromTptp = λ text r output output′ c. writing-kept tptpNumbers (tptpText text (length output)) r output output′ c (tptp-within text (length output));
+      fromSolver = λ sheet size text r output output′ c. outcome-kept solverNumbers (solverText sheet size text (length output)) r output output′ c (solver-within sheet size text (length output));
     }

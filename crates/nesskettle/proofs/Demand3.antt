@@ -35,7 +35,7 @@ written sheet size room p c fits =
     bind-step _ _ p _ c (bind-step _ _ tt _ (check-of-true (leb (length (clausesText p size)) room) (needing 11 (length (clausesText p size))) (leb-of-≤ (length (clausesText p size)) room fits)) refl)
 
 -- what is read back stands in every output that is large enough
-read-back-in : (sheet : List ℕ) (size room : ℕ) (σ c : List ℕ) (p : Problem) → readProblem sheet ≡ answer p → readBackText sheet size σ room ≡ answer c
+pub read-back-in : (sheet : List ℕ) (size room : ℕ) (σ c : List ℕ) (p : Problem) → readProblem sheet ≡ answer p → readBackText sheet size σ room ≡ answer c
     → (enough : ℕ) → caseLength size (p .symbols) ≤ enough → readBackText sheet size σ enough ≡ answer c
 unfolding readBackText
 read-back-in sheet size room σ c p read e enough fits =

@@ -15,6 +15,8 @@ use Rattle.answers.specs.declared.WriteAnswer.{WriteAnswer}
 use Rattle.answers.specs.declared.FindAnswer.{FindAnswer}
 use Rattle.answers.specs.Answers.{readIn, judgeIn, explainIn, lengthIn, findIn}
 use Rattle.answers.specs.Calls.{ReadCall, JudgeCall, ExplainCall, WriteCall, ReadBackCall, SettingCall, FindCall}
+use Rattle.accepting.specs.declared.SolverAnswer.{SolverAnswer}
+use Rattle.accepting.specs.Calls.{solverIn, FromSolverCall}
 
 -- of the column that a sheet's refusal on line l names, the first being line 0
 pub record InSheet (sheet : List ℕ) (l number column : ℕ) : Type 0 where
@@ -56,3 +58,5 @@ pub record Columns : Type 0 where
       → (q : Refusal) → lengthIn r ≡ refused q → OfTheSheet sheet q ⊎ (OfTheCase sheet case q ⊎ NoPlace q)
   pub find : (sheet : List ℕ) (low high : ℕ) (r : FindAnswer) (work work′ output output′ : List ℕ) → FindCall sheet low high r work work′ output output′
       → (q : Refusal) → findIn r ≡ refused q → OfTheSheet sheet q ⊎ NoPlace q
+  pub fromSolver : (sheet : List ℕ) (size : ℕ) (text : List ℕ) (r : SolverAnswer) (output output′ : List ℕ) → FromSolverCall sheet size text r output output′
+      → (q : Refusal) → solverIn r ≡ refused q → OfTheSheet sheet q ⊎ NoPlace q

@@ -14,6 +14,8 @@ use Rattle.answers.specs.declared.FindAnswer.{FindAnswer}
 use Rattle.answers.specs.Answers.{readIn, judgeIn, explainIn, lengthIn, findIn}
 use Rattle.answers.specs.Calls.{ReadCall, JudgeCall, ExplainCall, WriteCall, ReadBackCall, SettingCall, FindCall}
 use Rattle.importing.specs.Calls.{TptpCall}
+use Rattle.accepting.specs.declared.SolverAnswer.{SolverAnswer}
+use Rattle.accepting.specs.Calls.{solverIn, FromSolverCall}
 
 -- The numbers that documents 01 and 02 give each operation. Read: 1 to 7
 abbrev pub readNumbers : List ℕ
@@ -43,6 +45,10 @@ findNumbers = upFrom 1 11
 abbrev pub tptpNumbers : List ℕ
 tptpNumbers = 11 ∷ upFrom 15 3
 
+-- From solver: 1 to 8, 11, 14, 18 and 19
+abbrev pub solverNumbers : List ℕ
+solverNumbers = upFrom 1 8 ++ (11 ∷ 14 ∷ 18 ∷ 19 ∷ [])
+
 -- the refusal's number is one of these
 abbrev pub NumberOf : List ℕ → Refusal → Type 0
 NumberOf numbers q = elem (q .number) numbers ≡ true
@@ -67,3 +73,5 @@ pub record Demand1 : Type 0 where
       → ResultOr (λ q. NumberOf findNumbers q × (work′ ≡ work) × (output′ ≡ output)) (findIn r)
   pub fromTptp : (text : List ℕ) (r : WriteAnswer) (output output′ : List ℕ) → TptpCall text r output output′
       → ResultOr (λ q. NumberOf tptpNumbers q × (output′ ≡ output)) (lengthIn r)
+  pub fromSolver : (sheet : List ℕ) (size : ℕ) (text : List ℕ) (r : SolverAnswer) (output output′ : List ℕ) → FromSolverCall sheet size text r output output′
+      → ResultOr (λ q. NumberOf solverNumbers q × (output′ ≡ output)) (solverIn r)

@@ -8,3 +8,4 @@ pub mod Explains
 pub mod Settings
 pub mod Settles
 pub mod FromTptp
+pub mod FromSolver

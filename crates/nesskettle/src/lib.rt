@@ -1,11 +1,14 @@
 // The operations of documents 01 and 02. Each answers every byte string, number and lent buffer with a result or a numbered refusal, and
-// ends. A promise is a record of `answers/specs/Calls` (From TPTP's of `importing/specs/Calls`): equations with the definitions of
-// `theory/specs/Operations` and `tptp/specs/Tptp`, where `answers/specs/Answers` says what each answer means. What is lent as `&` cannot
-// change; what is lent as `&mut` is told to the last byte and number. The demands (`specs/Demand1` to `specs/Demand3`) and what is asked of
-// From TPTP (`specs/FromTptp`), Explain (`specs/Explains`) and Setting (`specs/Settings`), what settled means (`specs/Settles`), and where
-// refusals point (`specs/Columns`), are proved of these records.
+// ends. A promise is a record of `answers/specs/Calls` (From TPTP's of `importing/specs/Calls`, From solver's of `accepting/specs/Calls`):
+// equations with the definitions of `theory/specs/Operations`, `tptp/specs/Tptp` and `solver/specs/SolverText`, where
+// `answers/specs/Answers` says what each answer means. What is lent as `&` cannot change; what is lent as `&mut` is told to the last byte
+// and number. The demands (`specs/Demand1` to `specs/Demand3`) and what is asked of From TPTP (`specs/FromTptp`), From solver
+// (`specs/FromSolver`), Explain (`specs/Explains`) and Setting (`specs/Settings`), what settled means (`specs/Settles`), and where refusals
+// point (`specs/Columns`), are proved of these records.
 mod reading;
 
+use accepting::SolverAnswer;
+use accepting::accept_answer;
 use answers::ExplainAnswer;
 use answers::FindAnswer;
 use answers::JudgeAnswer;
@@ -20,6 +23,7 @@ use settings::setting::write_case_setting;
 use writing::write_clauses;
 ghost use Rattle.answers.specs.Calls.{ExplainCall, FindCall, JudgeCall, ReadBackCall, ReadCall, SettingCall, WriteCall};
 ghost use Rattle.importing.specs.Calls.{TptpCall};
+ghost use Rattle.accepting.specs.Calls.{FromSolverCall};
 
 // Read: the sheet's counts.
 pub fn read(sheet: &[u8]) -> ReadAnswer
@@ -75,4 +79,11 @@ pub fn from_tptp(text: &[u8], output: &mut [u8]) -> WriteAnswer
     ensures { λ r. ⌜ TptpCall (now (text .entry)) r (now (output .entry)) (now (output .exit)) ⌝ }
 {
     import_clauses(text, output)
+}
+
+// From solver: the case of an outside solver's answer, if it is a model, at the front of the output; or the solver's claim that there is none.
+pub fn from_solver(sheet: &[u8], size: u64, text: &[u8], output: &mut [u8]) -> SolverAnswer
+    ensures { λ r. ⌜ FromSolverCall (now (sheet .entry)) size (now (text .entry)) r (now (output .entry)) (now (output .exit)) ⌝ }
+{
+    accept_answer(sheet, size, text, output)
 }

@@ -47,4 +47,5 @@ fn main() {
     run_file(b"from_tptp", Operation::FromTptp);
     run_file(b"explain", Operation::Explain);
     run_file(b"setting", Operation::Setting);
+    run_file(b"from_solver", Operation::FromSolver);
 }

@@ -14,6 +14,7 @@ use crate::lines::rest;
 use crate::lines::say;
 use crate::lines::short;
 use crate::lines::tell;
+use accepting::SolverAnswer;
 use answers::FindAnswer;
 use answers::JudgeAnswer;
 use answers::ReadAnswer;
@@ -28,6 +29,7 @@ pub enum Operation {
     FromTptp,
     Explain,
     Setting,
+    FromSolver,
 }
 
 fn read(sheet: &[u8]) {
@@ -47,7 +49,7 @@ fn judge(sheet: &[u8], case: &[u8]) {
     say(b"\n");
 }
 
-// What Write, Read back and From TPTP answer and leave.
+// What Write, Read back and From TPTP answer and leave; From solver too, where it writes a case or is refused.
 fn text(answer: WriteAnswer, output: &[u8]) {
     match answer {
         WriteAnswer::Written(n) => {
@@ -137,6 +139,24 @@ fn setting(sheet: &[u8], case: &[u8], output: &mut [u8]) {
     bytes(answer, output);
 }
 
+// What From solver answers and leaves.
+fn solved(answer: SolverAnswer, output: &[u8]) {
+    match answer {
+        SolverAnswer::Case(n) => text(WriteAnswer::Written(n), output),
+        SolverAnswer::ClaimedNone => {
+            say(b" claimed none");
+            rest(output, 0);
+            say(b"\n");
+        }
+        SolverAnswer::Refused(r) => text(WriteAnswer::Refused(r), output),
+    }
+}
+
+fn from_solver(sheet: &[u8], size: u64, reply: &[u8], output: &mut [u8]) {
+    let answer = nesskettle::from_solver(sheet, size, reply, output);
+    solved(answer, output);
+}
+
 fn name(operation: Operation) {
     match operation {
         Operation::Read => say(b"read"),
@@ -147,6 +167,7 @@ fn name(operation: Operation) {
         Operation::FromTptp => say(b"from_tptp"),
         Operation::Explain => say(b"explain"),
         Operation::Setting => say(b"setting"),
+        Operation::FromSolver => say(b"from_solver"),
     }
 }
 
@@ -169,6 +190,7 @@ fn answer(
         Operation::FromTptp => from_tptp(sheet, output),
         Operation::Explain => explain(sheet, beside),
         Operation::Setting => setting(sheet, beside, output),
+        Operation::FromSolver => from_solver(sheet, x.low, beside, output),
     }
 }
 

@@ -1,4 +1,4 @@
-//! The answers of the operations: read, judge, explain, write, read back, setting, find, and from TPTP.
+//! The answers of the operations: read, judge, explain, write, read back, setting, find, from TPTP, and from solver.
 //!
 //! Each call answers a result or a [`Refusal`]. A refusal has the number that the specification gives it.
 
@@ -42,11 +42,15 @@ pub enum Reason {
     SymbolClash = 16,
     /// 17: what is read does not go into a sheet: a name, a ninth variable, or a limit.
     BeyondSheets = 17,
+    /// 18: a solver's answer is not as laid out, or a propositional variable is missing, doubled or above the last one.
+    BadAnswer = 18,
+    /// 19: the case of a solver's answer is no model of the sheet.
+    NoModel = 19,
 }
 
 impl Reason {
     /// Every reason, in order of its number.
-    pub const ALL: [Reason; 17] = [
+    pub const ALL: [Reason; 19] = [
         Reason::SheetTooLong,
         Reason::Layout,
         Reason::OverLimit,
@@ -64,6 +68,8 @@ impl Reason {
         Reason::NotTptp,
         Reason::SymbolClash,
         Reason::BeyondSheets,
+        Reason::BadAnswer,
+        Reason::NoModel,
     ];
 
     /// The specification's number of this reason.
@@ -117,6 +123,12 @@ impl fmt::Display for Reason {
                  digits and underscores and at most 3 arguments; 64 clauses of at most 8 variables, 16 literals, 64 \
                  words and, once flattened, 10 variables; 16,384 bytes)"
             }
+            Reason::BadAnswer => {
+                "the solver's answer is not one s line and then v lines as laid out (one space between numbers, 0 last of \
+                 all, a line feed after each line), or does not state each propositional variable of the sheet at this \
+                 size once"
+            }
+            Reason::NoModel => "the solver's answer stands for a case that is no model of the sheet",
         })
     }
 }
@@ -202,6 +214,15 @@ pub enum Search {
     None { settled: bool },
 }
 
+/// What a solver's answer comes to.
+#[derive(Clone, Copy, Debug, PartialEq, Eq)]
+pub enum SolverAnswer {
+    /// The solver's case, a model of the sheet, stands in the output's first `length` bytes.
+    Case { length: usize },
+    /// The solver says that there is no model of the size. Nothing here has checked that: it is not [`Search::None`].
+    ClaimedNone,
+}
+
 /// A result or a refusal.
 pub type Answer<T> = Result<T, Refusal>;
 
@@ -218,6 +239,7 @@ pub struct Operations {
     pub setting: fn(&[u8], &[u8], &mut [u8]) -> Answer<usize>,
     pub find: fn(&[u8], u64, u64, &mut [u32], &mut [u8]) -> Answer<Search>,
     pub from_tptp: fn(&[u8], &mut [u8]) -> Answer<usize>,
+    pub from_solver: fn(&[u8], u64, &[u8], &mut [u8]) -> Answer<SolverAnswer>,
 }
 
 #[cfg(test)]
@@ -231,7 +253,7 @@ mod tests {
             assert_eq!(Reason::from_number(reason.number()), Some(reason));
         }
         assert_eq!(Reason::from_number(0), None);
-        assert_eq!(Reason::from_number(18), None);
+        assert_eq!(Reason::from_number(20), None);
     }
 
     #[test]

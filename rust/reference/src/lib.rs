@@ -1,7 +1,8 @@
 //! Nesskettle's specification a second time, in plain Rust.
 //!
-//! Written from the specification alone, without a look at the proved code, so that both can be compared. The calls
-//! take and answer what the proved library's calls do.
+//! Written from the specification, without a look at the proved code, so that both can be compared. One call is an
+//! exception in part: the author of [`from_solver`] had seen in which order the proved code refuses, though not how it reads
+//! the text. The calls take and answer what the proved library's calls do.
 
 mod flattening;
 mod grounding;
@@ -11,17 +12,19 @@ mod problem;
 mod program;
 mod search;
 mod sheet;
+mod solver;
 mod syntax;
 mod tptp;
 pub mod vectors;
 
-pub use nesskettle_answers::{Counts, FirstFailure, Operations, Reason, Refusal, Search};
+pub use nesskettle_answers::{Counts, FirstFailure, Operations, Reason, Refusal, Search, SolverAnswer};
 pub use program::{explainer, program};
 pub use sheet::sheet_of;
 
 use grounding::{Counted, Numbering};
 use interpretation::Interpretation;
 use problem::Problem;
+use solver::Claim;
 
 /// The largest size.
 pub const MAX_SIZE: u64 = 8;
@@ -39,6 +42,7 @@ pub const OPERATIONS: Operations = Operations {
     setting,
     find,
     from_tptp,
+    from_solver,
 };
 
 /// Reads a sheet: its counts.
@@ -146,6 +150,24 @@ pub fn find_within(
 /// Reads TPTP clauses into a sheet and writes it; the sheet's length.
 pub fn from_tptp(text: &[u8], out: &mut [u8]) -> Result<usize, Refusal> {
     put(&tptp::sheet(text)?, out)
+}
+
+/// Reads a SAT solver's answer to the clauses at a size. A case that is a model is written; none is the solver's claim.
+pub fn from_solver(sheet: &[u8], size: u64, text: &[u8], out: &mut [u8]) -> Result<SolverAnswer, Refusal> {
+    let problem = Problem::read(sheet)?;
+    let size = checked_size(size)?;
+    let numbering = Numbering::new(&problem, size);
+    let claim = solver::claim(text, numbering.variables).ok_or(refused(Reason::BadAnswer))?;
+    let Claim::Satisfiable(setting) = claim else {
+        return Ok(SolverAnswer::ClaimedNone);
+    };
+    let yes = |variable: usize| setting[variable];
+    let cells = numbering.cells(&problem, yes).ok_or(refused(Reason::NotOneResult))?;
+    let interpretation = Interpretation::new(size, cells);
+    if interpretation.first_failure(&problem).is_some() {
+        return Err(refused(Reason::NoModel));
+    }
+    put(&interpretation.text(&problem), out).map(|length| SolverAnswer::Case { length })
 }
 
 /// The needed lengths of a search: work numbers and output bytes at the size, for a sheet that is not refused.

@@ -3,7 +3,7 @@
 //! One vector a line: the operation, its inputs, `->`, its answer. Each field is `key=value`; a byte string stands in
 //! double quotes, with `\n`, `\"`, `\\` and `\xHH` in it.
 
-use crate::{FirstFailure, Operations, Refusal, Search};
+use crate::{FirstFailure, Operations, Refusal, Search, SolverAnswer};
 use std::collections::HashMap;
 
 /// The stored vectors.
@@ -131,6 +131,9 @@ pub fn run(operations: &Operations, vector: &Vector) -> Result<(), String> {
         "setting" => (operations.setting)(sheet, given.bytes("case"), &mut out).map(|n| format!("length={n}")),
         "find" => (operations.find)(sheet, given.number("low"), given.number("high"), &mut work, &mut out).map(found),
         "from-tptp" => (operations.from_tptp)(given.bytes("text"), &mut out).map(|n| format!("length={n}")),
+        "from-solver" => {
+            (operations.from_solver)(sheet, given.number("size"), given.bytes("text"), &mut out).map(from_solver)
+        }
         other => panic!("no operation {other}"),
     };
     let refused = answered.is_err();
@@ -168,6 +171,7 @@ fn expected(answer: &Fields) -> String {
         "choice",
         "settled",
         "found",
+        "claimed",
         "length",
     ];
     let shown = keys.into_iter().filter(|key| answer.has(key));
@@ -189,6 +193,13 @@ fn found(search: Search) -> String {
     match search {
         Search::Found { size, length } => format!("found={size} length={length}"),
         Search::None { settled } => format!("settled={}", yes_no(settled)),
+    }
+}
+
+fn from_solver(answer: SolverAnswer) -> String {
+    match answer {
+        SolverAnswer::Case { length } => format!("length={length}"),
+        SolverAnswer::ClaimedNone => "claimed=none".to_string(),
     }
 }
 

@@ -2,7 +2,7 @@
 
 pub struct Dimacs {
     pub text: Vec<u8>,
-    variables: usize,
+    pub variables: usize,
     clauses: usize,
     /// Where the clauses begin.
     body: usize,
@@ -39,13 +39,13 @@ impl Dimacs {
     }
 
     /// The clauses, and each of these numbers as one more clause.
-    pub fn with_units(&self, units: &[i32]) -> Vec<u8> {
+    pub fn with_units(&self, units: &[i32]) -> Dimacs {
         let mut text = format!("p cnf {} {}\n", self.variables, self.clauses + units.len()).into_bytes();
         text.extend_from_slice(&self.text[self.body..]);
         for unit in units {
             text.extend_from_slice(format!("{unit} 0\n").as_bytes());
         }
-        text
+        Dimacs::new(text)
     }
 
     /// The setting of an assignment. A variable that the solver leaves out may be either: no.

@@ -8,6 +8,7 @@ pub mod models;
 pub mod places;
 pub mod problems;
 pub mod random;
+pub mod solver;
 pub mod tally;
 pub mod tptp;
 pub mod truth;

@@ -1,6 +1,7 @@
 //! The specification's examples, executed on the proved library.
 
-use nesskettle::{find, judge, read, read_back, setting, write, Counts, Reason, Refusal, Search};
+use nesskettle::{find, from_solver, judge, read, read_back, setting, write};
+use nesskettle::{Counts, Reason, Refusal, Search, SolverAnswer};
 use nesskettle_reference::sheet_of;
 use nesskettle_trials::problems::{sheet, GROUP_CASE};
 
@@ -92,6 +93,49 @@ fn settings_of_cases() {
     assert_eq!(output, [1, 0, 0, 1, 7, 7]);
     let nothing = sheet_of(&[], &[], &[""]);
     assert_eq!(setting(&nothing, b"case=1\nsize=8\n", &mut []), Ok(0));
+}
+
+#[test]
+fn answers_of_solvers() {
+    let constants = sheet("two-constants");
+    let mut output = [7; 24];
+    let taken = b"c picosat\ns SATISFIABLE\nv 2 -1\ncnf\nv 3\nv -4 0\nc\n";
+    assert_eq!(
+        from_solver(constants, 2, taken, &mut output),
+        Ok(SolverAnswer::Case { length: 22 })
+    );
+    assert_eq!(output, *b"case=1\nsize=2\na=2\nb=1\n\x07\x07");
+    let mut reason = |size: u64, text: &str| {
+        let answer = from_solver(constants, size, text.as_bytes(), &mut output);
+        let refusal = answer.expect_err("it is refused");
+        assert_eq!((refusal.line, refusal.column), NO_PLACE);
+        refusal.reason
+    };
+    // 8 before 18, 14 before 19
+    assert_eq!(reason(9, "x"), Reason::BadSize);
+    assert_eq!(reason(2, "s SATISFIABLE\nv 1 2 3 4 0\n"), Reason::NotOneResult);
+    assert_eq!(reason(2, "s SATISFIABLE\nv 1 -2 3 -4 0\n"), Reason::NoModel);
+    for bad in [
+        "",
+        "s SATISFIABLE\n",
+        "s SATISFIABLE\nv 1 -2 3 0\n",
+        "s SATISFIABLE\nv 1 -2 -3 4 5 0\n",
+        "s SATISFIABLE\nv 1 -2 -3 4 0 0\n",
+        "s SATISFIABLE\nv 1 -2 -3 4\n",
+        "s SATISFIABLE\nv 1 -2 -3 4 0",
+        "s UNKNOWN\n",
+        "s UNSATISFIABLE\nv 0\n",
+    ] {
+        assert_eq!(reason(2, bad), Reason::BadAnswer, "{bad}");
+    }
+    // the solver's claim, though there is a model; the output may be of any length
+    let claim = b"s UNSATISFIABLE\n";
+    assert_eq!(from_solver(constants, 2, claim, &mut []), Ok(SolverAnswer::ClaimedNone));
+    // no variable at all: 0 stands there all the same
+    let nothing = sheet_of(&[], &[], &[]);
+    let answer = |text: &[u8]| from_solver(&nothing, 8, text, &mut [0; 14]);
+    assert_eq!(answer(b"s SATISFIABLE\nv 0\n"), Ok(SolverAnswer::Case { length: 14 }));
+    assert_eq!(answer(b"s SATISFIABLE\n").unwrap_err().reason, Reason::BadAnswer);
 }
 
 #[test]

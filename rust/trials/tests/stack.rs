@@ -1,12 +1,16 @@
-//! Every call does with 192 kB of stack, also on the deepest terms that a clause of 64 words has, and on TPTP terms of any
-//! depth.
+//! Every call does with the stack that the top README promises, also on the deepest terms that a clause of 64 words has, with
+//! the most cells, and on TPTP terms of any depth: 192 kB, and 256 kB for From solver.
 
-use nesskettle::{explain, find, from_tptp, judge, read, read_back, setting, write, FirstFailure, Reason};
+use nesskettle::{explain, find, from_solver, from_tptp, judge, read, read_back, setting, write};
+use nesskettle::{FirstFailure, Reason, SolverAnswer};
 use nesskettle_reference::sheet_of;
 use nesskettle_trials::draft::Draft;
 use nesskettle_trials::random::Random;
+use nesskettle_trials::solver::stating;
 
 const STACK: usize = 192 * 1024;
+/// From solver has a mark for each of up to 55,296 propositional variables on its stack.
+const STACK_OF_FROM_SOLVER: usize = 256 * 1024;
 
 /// A clause of one predicate at `depth` functions, one inside the other.
 fn nested(depth: usize) -> Vec<u8> {
@@ -16,7 +20,11 @@ fn nested(depth: usize) -> Vec<u8> {
 
 /// Runs on a small stack: a call that needs more ends the test.
 fn on_a_small_stack(run: impl FnOnce() + Send + 'static) {
-    let thread = std::thread::Builder::new().stack_size(STACK).spawn(run);
+    on_a_stack(STACK, run);
+}
+
+fn on_a_stack(bytes: usize, run: impl FnOnce() + Send + 'static) {
+    let thread = std::thread::Builder::new().stack_size(bytes).spawn(run);
     thread.expect("a thread starts").join().expect("it ends");
 }
 
@@ -46,6 +54,11 @@ fn the_deepest_terms_are_refused() {
             Reason::ClauseTooLarge
         );
     });
+    let sheet = nested(61);
+    on_a_stack(STACK_OF_FROM_SOLVER, move || {
+        let answer = from_solver(&sheet, 2, b"", &mut []);
+        assert_eq!(answer.unwrap_err().reason, Reason::ClauseTooLarge);
+    });
 }
 
 #[test]
@@ -62,6 +75,11 @@ fn the_deepest_terms_are_taken() {
         assert!(read_back(&sheet, 1, &[1, 1], &mut output).is_ok());
         assert!(find(&sheet, 1, 2, &mut work, &mut output).is_ok());
     });
+    let sheet = nested(9);
+    on_a_stack(STACK_OF_FROM_SOLVER, move || {
+        let answer = from_solver(&sheet, 1, b"s SATISFIABLE\nv 1 2 0\n", &mut [0; 100]);
+        assert!(answer.is_ok());
+    });
 }
 
 #[test]
@@ -74,6 +92,15 @@ fn the_most_cells_are_taken() {
         assert_eq!(setting(&sheet, &case, &mut bytes), Ok(55_296));
         assert_eq!(read_back(&sheet, 8, &bytes[..55_296], &mut again), Ok(case.len()));
         assert_eq!(again[..case.len()], case);
+        on_a_stack(STACK_OF_FROM_SOLVER, move || {
+            let text = stating(&mut Random::new(10), &bytes[..55_296]);
+            let length = case.len();
+            assert_eq!(
+                from_solver(&sheet, 8, &text, &mut bytes),
+                Ok(SolverAnswer::Case { length })
+            );
+            assert_eq!(bytes[..length], case);
+        });
     });
 }
 

@@ -4,6 +4,7 @@
 
 mod explain;
 mod find;
+mod from_solver;
 mod options;
 mod report;
 mod room;
@@ -24,6 +25,8 @@ const YES: u8 = 0;
 const NO: u8 = 1;
 /// Refused, or the command was not called as it must be.
 const REFUSED: u8 = 2;
+/// A SAT solver says that there is none, which is not an answer of the library's.
+const CLAIMED_NONE: u8 = 3;
 
 fn main() -> ExitCode {
     let answered = options::parse(std::env::args().skip(1)).and_then(run);
@@ -49,6 +52,12 @@ fn run(command: Command) -> Result<u8, Failure> {
             setting,
             tables,
         } => read_back(&read_sheet(&sheet)?, size, &File::read(&setting)?, tables),
+        Command::FromSolver {
+            sheet,
+            size,
+            answer,
+            tables,
+        } => from_solver::from_solver(&read_sheet(&sheet)?, size, &File::read(&answer)?, tables),
         Command::Setting { sheet, case } => setting::setting(&read_sheet(&sheet)?, &File::read(&case)?),
         Command::Find {
             sheet,
@@ -107,10 +116,15 @@ fn read_back(sheet: &File, size: u64, setting: &File, tables: bool) -> Result<u8
     let setting = setting.digits()?;
     let read = |output: &mut [u8]| nesskettle::read_back(&sheet.bytes, size, &setting, output);
     let case = room::text(read).map_err(|r| sheet.refused(r))?;
+    print_case(sheet, &case, tables)
+}
+
+/// Prints a case of the sheet, as it is or as tables.
+fn print_case(sheet: &File, case: &[u8], tables: bool) -> Result<u8, Failure> {
     if tables {
-        print(tables::tables(&sheet.bytes, &case).as_bytes())
+        print(tables::tables(&sheet.bytes, case).as_bytes())
     } else {
-        print(&case)
+        print(case)
     }
 }
 

@@ -23,13 +23,20 @@ nesskettle: a finite model finder. Every answer is the proved library's.
   nesskettle setting SHEET CASE
       the other way: prints the setting of a case, as read-back takes it, with a line
       for each symbol; it satisfies the clauses exactly if the case is a model
+  nesskettle from-solver SHEET --size N ANSWER [--tables]
+      reads what a SAT solver answers to the clauses of this size, and prints its case,
+      which is a model; or says that the solver claims none, which is not our none.
+      As a pipe, for sheets on which find takes too long:
+          nesskettle clauses SHEET --size N | cadical -q |
+              nesskettle from-solver SHEET --size N -
   nesskettle check SHEET
       is it a sheet? prints how many functions, predicates and clauses it has
   nesskettle tptp FILE
       prints the sheet that a file of TPTP clauses is read into
   nesskettle --help, nesskettle --version
 
-SHEET, CASE, SETTING and FILE are files; one of them may be -, standard input.
+SHEET, CASE, SETTING, ANSWER and FILE are files; one of them may be -, standard
+input.
 
 A SHEET may be a file of TPTP clauses instead, cnf(name, role, clause). with
 comments: one whose name ends in .p or .tptp, or any file with --tptp. A case
@@ -39,6 +46,12 @@ A SETTING file holds one digit, 0 or 1, for each propositional variable, in
 order. Spaces, tabs and line ends between the digits do not count. The variables
 of a function's entry are one for each value that it could have; a predicate's
 entry is a variable itself.
+
+An ANSWER is in the layout of the solver competitions, as cadical and picosat
+print it: one line `s SATISFIABLE`, then `v` lines with n or -n for each
+propositional variable n once, in any order, and 0 last of all; or the line
+`s UNSATISFIABLE` alone. One space parts words, and every line ends with a line
+feed. Lines that begin with c are passed over.
 
 --tables prints a case as tables: rows are first arguments, columns are last
 ones, and three arguments make one table for each first argument. A predicate's
@@ -62,7 +75,8 @@ column, what is wrong, and the file's line with a mark under the column.
 explain counts clauses from 1 in the order of the sheet, and takes choices with
 the last letter of a clause fastest, letters in order of first appearance.
 
-Exit status: 0 found, yes, or printed; 1 none or no; 2 refused or called wrongly.
+Exit status: 0 found, yes, or printed; 1 none or no; 2 refused or called wrongly;
+3 from-solver's solver claims none.
 ";
 
 /// A file that has a sheet, or TPTP clauses that are read into one.
@@ -98,6 +112,12 @@ pub enum Command {
         sheet: Sheet,
         size: u64,
         setting: String,
+        tables: bool,
+    },
+    FromSolver {
+        sheet: Sheet,
+        size: u64,
+        answer: String,
         tables: bool,
     },
     Setting {
@@ -163,6 +183,17 @@ pub fn parse(arguments: impl Iterator<Item = String>) -> Result<Command, Failure
                 sheet: sheet_in(sheet),
                 size,
                 setting,
+                tables,
+            })
+        }
+        "from-solver" => {
+            let size = rest.size()?;
+            let tables = rest.flag("--tables");
+            let [sheet, answer] = rest.files("SHEET ANSWER")?;
+            Ok(Command::FromSolver {
+                sheet: sheet_in(sheet),
+                size,
+                answer,
                 tables,
             })
         }

@@ -8,7 +8,8 @@ use nesskettle_reference as reference;
 use nesskettle_trials::draft::Draft;
 use nesskettle_trials::problems::{sheet, GROUP_CASE, MILLION};
 use nesskettle_trials::random::Random;
-use reference::{sheet_of, Operations, Search};
+use nesskettle_trials::solver::stating;
+use reference::{sheet_of, Operations, Search, SolverAnswer};
 use std::time::Duration;
 
 /// How many times each measurement is taken where the command line does not say.
@@ -145,7 +146,7 @@ fn write_row(bench: &Bench, name: &str, sheet: &[u8], size: u64, times: u32) {
     });
 }
 
-/// Read back and Setting, the one on what the other leaves.
+/// Read back and Setting, the one on what the other leaves, and a solver's answer with the same setting.
 fn read_back(bench: &Bench) {
     let draft = Draft::most_cells();
     let sheet = draft.sheet();
@@ -161,6 +162,13 @@ fn read_back(bench: &Bench) {
         assert_eq!((o.setting)(&sheet, &case[..length], &mut output), Ok(setting.len()))
     });
     assert_eq!(output, setting);
+    let text = stating(&mut Random::new(8), &setting);
+    bench.row("from solver, 24 tables of 512 at size 8", 20, amount, |o| {
+        assert_eq!(
+            (o.from_solver)(&sheet, 8, &text, &mut case),
+            Ok(SolverAnswer::Case { length })
+        )
+    });
 }
 
 fn find(bench: &Bench) {

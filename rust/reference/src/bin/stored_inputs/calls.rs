@@ -6,7 +6,7 @@ use nesskettle_reference::needed;
 pub struct Call {
     /// Or TPTP clauses.
     pub sheet: Vec<u8>,
-    /// A case or a setting.
+    /// A case, a setting, or a solver's answer.
     pub beside: Vec<u8>,
     /// Low, or the size.
     pub low: u64,
@@ -62,6 +62,13 @@ pub fn setting_of(sheet: impl AsRef<[u8]>, case: impl AsRef<[u8]>, output: u64) 
     Call {
         output,
         ..judging(sheet, case)
+    }
+}
+
+pub fn answered(sheet: impl AsRef<[u8]>, size: u64, answer: impl AsRef<[u8]>, output: u64) -> Call {
+    Call {
+        beside: answer.as_ref().to_vec(),
+        ..writing(sheet, size, output)
     }
 }
 

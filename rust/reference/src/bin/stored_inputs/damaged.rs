@@ -1,6 +1,6 @@
 //! Damaged inputs: each refusal several times, several faults at once, bytes at the edges of what is allowed.
 
-use crate::calls::{file, finding, importing, judging, reading, reading_back, setting_of, writing, Call};
+use crate::calls::{answered, file, finding, importing, judging, reading, reading_back, setting_of, writing, Call};
 use crate::examples::{full, two_constants};
 use nesskettle_reference::sheet_of;
 
@@ -24,6 +24,7 @@ pub fn of(operation: &str) -> Vec<Call> {
             .into_iter()
             .map(|s| reading_back(s, 9, good, 10))
             .collect(),
+        "from_solver" => answers(),
         "from_tptp" => clauses().iter().map(|text| importing(text, 300)).collect(),
         "find" => one_of_each().into_iter().map(|s| finding(s, 0, 9, 3, 10)).collect(),
         other => panic!("no operation {other}"),
@@ -321,4 +322,96 @@ fn clauses() -> Vec<String> {
     texts.push((0..13).map(|i| format!("cnf(a,axiom,X=f{i}).\n")).collect());
     texts.push("cnf(a,axiom,p).\n".repeat(65));
     texts
+}
+
+/// Refusals 1 to 8 and 18.
+fn answers() -> Vec<Call> {
+    let two = two_constants();
+    let whole = "s SATISFIABLE\nv 1 -2\nc\nv -3 4 0\n";
+    let changes = [
+        // a variable missing, doubled, above the last one
+        ("1 -2", "-2"),
+        ("1 -2", "1 -2 -2"),
+        ("1 -2", "1 -2 2"),
+        ("1 -2", "1 1"),
+        ("-3 4", "-3 5"),
+        ("-3 4", "-3 4 5"),
+        ("-3 4", "-3 65540"),
+        ("-3 4", "-3 4294967300"),
+        ("-3 4", "-3 18446744073709551620"),
+        ("1 -2", "18446744073709551617 -2"),
+        // numbers
+        ("4 0", "4 -0"),
+        ("4 0", "4 +0"),
+        ("4 0", "4 00"),
+        ("1 -2", "+1 -2"),
+        ("1 -2", "01 -2"),
+        ("1 -2", "1 -02"),
+        ("1 -2", "1 --2"),
+        ("1 -2", "1 - 2"),
+        ("1 -2", "1 -2x"),
+        ("1 -2", "1 0 -2"),
+        ("1 -2", "0 1 -2"),
+        ("4 0", "4"),
+        ("4 0", "4 0 0"),
+        ("4 0\n", "4 0\nv 0\n"),
+        // spaces, line feeds, other lines
+        ("1 -2", "1  -2"),
+        ("1 -2", " 1 -2"),
+        ("1 -2", "1 -2 "),
+        ("1 -2", "1\t-2"),
+        ("1 -2", "1 -2\r"),
+        ("v 1", "v1"),
+        ("v 1", " v 1"),
+        ("v 1", "V 1"),
+        ("v 1 -2\n", "v\nv 1 -2\n"),
+        ("v 1 -2\n", "v \nv 1 -2\n"),
+        ("v 1 -2\n", "v 1 -2"),
+        ("c\n", "\n"),
+        ("c\n", "C\n"),
+        ("c\n", " c\n"),
+        ("c\n", "c"),
+        ("4 0\n", "4 0"),
+        ("4 0\n", "4 0\nc"),
+        ("4 0\n", "4 0\n\n"),
+        // the line of the outcome
+        ("s SATISFIABLE\n", ""),
+        ("s SATISFIABLE\n", "s SATISFIABLE\ns SATISFIABLE\n"),
+        ("s SATISFIABLE\n", "v 1\ns SATISFIABLE\n"),
+        ("s SATISFIABLE", "s SATISFIABLE "),
+        ("s SATISFIABLE", "s  SATISFIABLE"),
+        ("s SATISFIABLE", "s satisfiable"),
+        ("s SATISFIABLE", "SATISFIABLE"),
+        ("s SATISFIABLE", "s UNKNOWN"),
+        ("s SATISFIABLE", "s UNSATISFIABLE"),
+        ("4 0\n", "4 0\ns UNSATISFIABLE\n"),
+        ("s SATISFIABLE\nv 1 -2\nc\nv -3 4 0\n", "s SATISFIABLE\n"),
+        ("s SATISFIABLE\nv 1 -2\nc\nv -3 4 0\n", "s UNSATISFIABLE\nv 0\n"),
+        (
+            "s SATISFIABLE\nv 1 -2\nc\nv -3 4 0\n",
+            "s UNSATISFIABLE\ns UNSATISFIABLE\n",
+        ),
+        ("s SATISFIABLE\nv 1 -2\nc\nv -3 4 0\n", "s UNSATISFIABLE"),
+        ("s SATISFIABLE\nv 1 -2\nc\nv -3 4 0\n", "SAT\n1 -2 -3 4 0\n"),
+        ("-3 4", &format!("-3 {}4", "0".repeat(300))),
+        ("-3 4", &format!("-3 4{}", "0".repeat(300))),
+    ];
+    let refused = one_of_each().into_iter().map(|sheet| answered(sheet, 9, "x", 10));
+    let mut calls: Vec<Call> = refused.collect();
+    calls.extend([0, 9, 258, u64::MAX].map(|size| answered(&two, size, "x", 10)));
+    calls.extend(changes.iter().map(|(old, new)| {
+        assert_eq!(whole.matches(old).count(), 1, "{old}");
+        answered(&two, 2, whole.replace(old, new), 22)
+    }));
+    calls.extend((0..whole.len()).map(|length| answered(&two, 2, &whole[..length], 22)));
+    calls.extend(EDGES.map(|byte| {
+        answered(
+            &two,
+            2,
+            [b"s SATISFIABLE\nv 1 -2 -3 4", &[byte][..], b"0\n"].concat(),
+            22,
+        )
+    }));
+    calls.extend([1, 3].map(|size| answered(&two, size, whole, 22)));
+    calls
 }

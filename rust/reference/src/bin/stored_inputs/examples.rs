@@ -1,6 +1,9 @@
 //! Good inputs: the specification's examples, the limits from both sides, and sheets whose answer a usual mistake changes.
 
-use crate::calls::{file, finding, importing, judging, reading, reading_back, searching, setting_of, writing, Call};
+use crate::calls::Call;
+use crate::calls::{
+    answered, file, finding, importing, judging, reading, reading_back, searching, setting_of, writing,
+};
 use nesskettle_reference::sheet_of;
 use nesskettle_reference::{from_tptp, instances_and_variables, needed, setting, write};
 
@@ -13,6 +16,7 @@ pub fn of(operation: &str) -> Vec<Call> {
         "find" => finds(),
         "from_tptp" => imports(),
         "setting" => settings(),
+        "from_solver" => answers(),
         "explain" => judges().into_iter().chain(explains()).collect(),
         other => panic!("no operation {other}"),
     }
@@ -331,7 +335,7 @@ fn settings() -> Vec<Call> {
         judging(&constant_second, "case=1\nsize=2\nf=2 1\na=1\ng=1 2 2 1\nr=0 1\n"),
         judging(sheet_of(&[], &["p/1"], &[]), "case=1\nsize=8\np=0 1 0 1 1 1 0 0\n"),
         judging(sheet_of(&["a/0"], &[], &[]), "case=1\nsize=8\na=8\n"),
-        largest_case(),
+        full_case(8),
         // Setting takes a sheet that Write refuses by 9
         judging(triples(4), format!("case=1\nsize=8\nq={}\n", vec!["1"; 512].join(" "))),
     ]);
@@ -345,22 +349,22 @@ fn settings() -> Vec<Call> {
     calls
 }
 
-/// As many cells as a case can have, each table another.
-fn largest_case() -> Call {
+/// As many cells as a case of this size can have, each table another.
+fn full_case(size: usize) -> Call {
     let declared = |key: &str| -> String {
         let lines: String = (0..12).map(|n| format!("{key}={key}{n}/3\n")).collect();
         format!("{key}s=12\n{lines}")
     };
     let sheet = format!("sheet=1\n{}{}clauses=0\n", declared("fun"), declared("pred"));
     let line = |key: &str, n: usize, least: usize, values: usize| {
-        let entries: Vec<String> = (0..512)
+        let entries: Vec<String> = (0..size.pow(3))
             .map(|i| (least + (i * n + i / 7) % values).to_string())
             .collect();
         format!("{key}{n}={}\n", entries.join(" "))
     };
-    let functions: String = (0..12).map(|n| line("fun", n, 1, 8)).collect();
+    let functions: String = (0..12).map(|n| line("fun", n, 1, size)).collect();
     let predicates: String = (0..12).map(|n| line("pred", n, 0, 2)).collect();
-    judging(sheet, format!("case=1\nsize=8\n{functions}{predicates}"))
+    judging(sheet, format!("case=1\nsize={size}\n{functions}{predicates}"))
 }
 
 fn finds() -> Vec<Call> {
@@ -558,4 +562,68 @@ fn imports() -> Vec<Call> {
         calls.extend([needed, needed - 1, needed + 9].map(|output| importing(text, output)));
     }
     calls
+}
+
+/// Answers of solvers that are not refused by 18: models in several layouts, with the output that the case needs, one byte
+/// less, and more; other cases; and claims of none.
+fn answers() -> Vec<Call> {
+    let nothing = sheet_of(&[], &[], &[]);
+    let two = two_constants();
+    let taken = [
+        "s SATISFIABLE\nv 1 -2 -3 4 0\n",
+        "s SATISFIABLE\nv 4 -3 -2 1 0\n",
+        "c a solver\ns SATISFIABLE\nc\nv -1\nv 2 3\ncnf\nv -4\nv 0\nc v 1 0\n",
+        "s SATISFIABLE\nv -4 3\nv 2 -1\nv 0\n",
+    ];
+    let mut calls: Vec<Call> = taken
+        .iter()
+        .flat_map(|text| [22, 21, 30, 0].map(|output| answered(&two, 2, text, output)))
+        .collect();
+    calls.extend([
+        // 14 before 19 before 11
+        answered(&two, 2, "s SATISFIABLE\nv 1 2 3 4 0\n", 0),
+        answered(&two, 2, "s SATISFIABLE\nv -1 -2 3 -4 0\n", 22),
+        answered(&two, 2, "s SATISFIABLE\nv 1 -2 3 -4 0\n", 22),
+        answered(&two, 2, "s SATISFIABLE\nv 1 -2 3 -4 0\n", 0),
+        answered(&two, 1, "s SATISFIABLE\nv 1 2 0\n", 22),
+        // a claim of none, true or not, and whatever the output
+        answered(&two, 1, "s UNSATISFIABLE\n", 22),
+        answered(&two, 2, "c\ns UNSATISFIABLE\nc\n", 22),
+        answered(&two, 2, "s UNSATISFIABLE\n", 0),
+        answered(&nothing, 8, "s UNSATISFIABLE\n", 0),
+        // no variable at all
+        answered(&nothing, 8, "s SATISFIABLE\nv 0\n", 14),
+        answered(&nothing, 8, "s SATISFIABLE\nv 0\n", 13),
+        answered(sheet_of(&[], &[], &[""]), 1, "s SATISFIABLE\nv 0\n", 14),
+        // a sheet that Write refuses by 9
+        answered(triples(4), 8, stating(&[1; 512]), 2_000),
+        answered(triples(4), 8, stating(&[0; 512]), 2_000),
+    ]);
+    let group = judging(file("group.sheet"), file("group-6.case"));
+    for (
+        size,
+        Call {
+            sheet, beside: case, ..
+        },
+    ) in [(6, group), (4, full_case(4))]
+    {
+        let (_, variables) = instances_and_variables(&sheet, size).expect("the sheet is taken");
+        let mut bytes = vec![0; variables as usize];
+        setting(&sheet, &case, &mut bytes).expect("it is a case");
+        let (text, needed) = (stating(&bytes), case.len() as u64);
+        calls.extend([needed, needed - 1].map(|output| answered(&sheet, size, &text, output)));
+    }
+    calls
+}
+
+/// An answer that states the setting in lines of ten numbers, from the last variable to the first.
+fn stating(setting: &[u8]) -> String {
+    let signed = |(&byte, variable): (&u8, usize)| format!("{}{variable}", if byte == 1 { "" } else { "-" });
+    let numbers: Vec<String> = setting.iter().zip(1..).map(signed).collect();
+    let numbers: Vec<String> = numbers.into_iter().rev().collect();
+    let lines: String = numbers
+        .chunks(10)
+        .map(|line| format!("v {}\n", line.join(" ")))
+        .collect();
+    format!("s SATISFIABLE\n{lines}v 0\n")
 }

@@ -2,8 +2,9 @@
 //! (`crates/vectors/stdout`). The answers are the reference's; those to stored vectors are first held against the
 //! vectors' own.
 //!
-//! An input is a line of six numbers, then the bytes of a sheet or of TPTP clauses and those of a case or a setting. The numbers are the
-//! lengths of the two, size or low, high, and the lengths of the work and the output that are lent.
+//! An input is a line of six numbers, then the bytes of a sheet or of TPTP clauses and those of a case, a setting or a
+//! solver's answer. The numbers are the lengths of the two, size or low, high, and the lengths of the work and the output
+//! that are lent.
 
 mod calls;
 mod damaged;
@@ -11,8 +12,8 @@ mod examples;
 
 use calls::Call;
 use nesskettle_reference::vectors::{self, patterned_bytes, patterned_numbers};
-use nesskettle_reference::{explain, find, from_tptp, judge, read, read_back, setting, write};
-use nesskettle_reference::{FirstFailure, Refusal, Search, OPERATIONS};
+use nesskettle_reference::{explain, find, from_solver, from_tptp, judge, read, read_back, setting, write};
+use nesskettle_reference::{FirstFailure, Refusal, Search, SolverAnswer, OPERATIONS};
 use std::path::Path;
 use std::{fs, io};
 
@@ -25,7 +26,7 @@ const MOST_STORED: usize = 100;
 const MOST_SHEET: usize = 700;
 
 /// The files of inputs, in the order in which the program takes them.
-const OPERATIONS_IN_ORDER: [&str; 8] = [
+const OPERATIONS_IN_ORDER: [&str; 9] = [
     "read",
     "judge",
     "write",
@@ -34,6 +35,7 @@ const OPERATIONS_IN_ORDER: [&str; 8] = [
     "from_tptp",
     "explain",
     "setting",
+    "from_solver",
 ];
 
 fn main() -> io::Result<()> {
@@ -72,9 +74,15 @@ fn stored(operation: &str) -> Vec<Call> {
                     Vec::new()
                 }
             };
+            // TPTP clauses stand where a sheet does, a solver's answer beside one
+            let (clauses, answer) = if v.inputs.has("sheet") {
+                (Vec::new(), bytes("text"))
+            } else {
+                (bytes("text"), Vec::new())
+            };
             let call = Call {
-                sheet: [bytes("sheet"), bytes("text")].concat(),
-                beside: [bytes("case"), bytes("setting")].concat(),
+                sheet: [bytes("sheet"), clauses].concat(),
+                beside: [bytes("case"), bytes("setting"), answer].concat(),
                 low: number("low") + number("size"),
                 high: number("high"),
                 work: number("work"),
@@ -106,6 +114,7 @@ fn answer(operation: &str, call: &Call) -> Vec<u8> {
         "read_back" => read_back(sheet, call.low, beside, &mut output).map(written),
         "setting" => setting(sheet, beside, &mut output).map(written),
         "from_tptp" => from_tptp(sheet, &mut output).map(written),
+        "from_solver" => from_solver(sheet, call.low, beside, &mut output).map(solved),
         "find" => find(sheet, call.low, call.high, &mut work, &mut output).map(found),
         other => panic!("no operation {other}"),
     };
@@ -165,6 +174,13 @@ fn explained(failure: Option<FirstFailure>) -> String {
 
 fn written(length: usize) -> (String, Option<usize>) {
     (String::new(), Some(length))
+}
+
+fn solved(answer: SolverAnswer) -> (String, Option<usize>) {
+    match answer {
+        SolverAnswer::Case { length } => written(length),
+        SolverAnswer::ClaimedNone => (" claimed none".to_string(), None),
+    }
 }
 
 fn found(search: Search) -> (String, Option<usize>) {

@@ -1,28 +1,31 @@
-//! Nesskettle against outside solvers: minisat and picosat on the clauses that Write leaves, cvc5 on the sheet's own
-//! clauses as TPTP text, and on TPTP texts that both read by themselves. `tests/outside/run` builds and runs this.
+//! Nesskettle against outside solvers: minisat, picosat and cadical on the clauses that Write leaves, cvc5 on the sheet's
+//! own clauses as TPTP text, and on TPTP texts that both read by themselves. `tests/outside/run` builds and runs this.
 //!
 //! Checked for each sheet and size:
 //! - a solver satisfies the clauses exactly if Find finds a model of that size;
 //! - a solver's assignment, as a setting, is read back as a case that Judge calls a model, and whose setting it is;
+//! - the solver's own answer is read as that case, or as its claim that there is none;
 //! - no model comes before the found one: with the cells before some cell as found, no smaller value of that cell is
 //!   satisfiable, and with all cells as found the clauses are;
 //!
 //! for each sheet that the smallest size found is cvc5's, and that cvc5 finds no model at all where none is settled; and
 //! for each TPTP text that what Find says of the sheet left is what cvc5 says of the text: whether there is a model, and
-//! its smallest size.
+//! its smallest size. Last the pipe from the written clauses through cadical to a case, with the command.
 
+mod pipe;
 mod sheet;
 mod solvers;
 
-use nesskettle::{Reason, Search};
+use nesskettle::{Reason, Search, SolverAnswer};
 use nesskettle_trials::dimacs::Dimacs;
 use nesskettle_trials::draft::{Draft, BROAD, SMALL};
 use nesskettle_trials::problems;
 use nesskettle_trials::random::Random;
+use nesskettle_trials::solver::stating;
 use nesskettle_trials::tptp::clauses::{statements, KNOWN};
 use nesskettle_trials::tptp::layout;
 use sheet::Sheet;
-use solvers::{Outcome, Smallest, Solver, Solvers};
+use solvers::{Outcome, Smallest, Solver, Solvers, Told};
 use std::process::ExitCode;
 
 /// How many sheets are generated, and how many TPTP texts.
@@ -42,6 +45,7 @@ fn main() -> ExitCode {
         failed: 0,
         undecided: 0,
         settled: 0,
+        incomplete: 0,
         smallest: [0; 9],
     };
     for problem in problems::ALL {
@@ -64,6 +68,9 @@ fn main() -> ExitCode {
         let statements = statements(&mut random, &draft, KNOWN);
         trial.tptp(&layout::free(&mut random, &statements));
     }
+    for (holds, what) in pipe::checks() {
+        trial.note(holds, &what);
+    }
     let sizes = (1..=NAMED_TOP as usize).map(|size| format!("{} at {size}", trial.smallest[size]));
     println!(
         "smallest models: {}, none {}; settled and cvc5 finds none either: {}",
@@ -71,13 +78,14 @@ fn main() -> ExitCode {
         trial.smallest[0],
         trial.settled
     );
+    println!("minisat left variables out of {} answers", trial.incomplete);
     println!("cvc5 left {} sheets and texts undecided in its time", trial.undecided);
     println!("{} passed, {} failed", trial.passed, trial.failed);
     ExitCode::from((trial.failed > 0) as u8)
 }
 
-/// The specification's examples, as sheets.
-const EXAMPLES: [&str; 7] = [
+/// The specification's examples, as sheets, and one whose last predicate stands in no clause.
+const EXAMPLES: [&str; 8] = [
     "sheet=1\nfuns=3\nfun=a/0\nfun=b/0\nfun=f/2\npreds=1\npred=p/2\nclauses=1\nclause=+ p f a b f b a\n",
     "sheet=1\nfuns=0\npreds=0\nclauses=1\nclause=+ = A B\n",
     "sheet=1\nfuns=0\npreds=0\nclauses=1\nclause=- = A B\n",
@@ -85,6 +93,7 @@ const EXAMPLES: [&str; 7] = [
     "sheet=1\nfuns=0\npreds=0\nclauses=0\n",
     "sheet=1\nfuns=1\nfun=f/1\npreds=0\nclauses=1\nclause=- = f A A\n",
     "sheet=1\nfuns=1\nfun=a/0\npreds=1\npred=p/1\nclauses=2\nclause=+ p a\nclause=- p A + = A a\n",
+    "sheet=1\nfuns=0\npreds=2\npred=p/0\npred=q/1\nclauses=1\nclause=+ p\n",
 ];
 
 /// The clinic's rules.
@@ -99,6 +108,8 @@ struct Trial {
     failed: usize,
     undecided: usize,
     settled: usize,
+    /// How many answers left variables out.
+    incomplete: usize,
     /// How many sheets and texts have their smallest model at each size; at 0 those that have none.
     smallest: [usize; 9],
 }
@@ -139,12 +150,14 @@ impl Trial {
     fn size(&mut self, sheet: &Sheet, size: u64) -> bool {
         let dimacs = Dimacs::new(text(|output| nesskettle::write(&sheet.bytes, size, output)));
         let found = find(&sheet.bytes, size, size);
-        for solver in Solver::BOTH {
-            let outcome = self.solvers.run(solver, &dimacs.text);
-            let satisfiable = matches!(outcome, Outcome::Satisfiable(_));
-            let decided = !matches!(outcome, Outcome::Undecided);
+        for solver in Solver::ALL {
+            let told = self.solvers.run(solver, &dimacs);
+            let satisfiable = matches!(told.outcome, Outcome::Satisfiable(_));
+            let decided = !matches!(told.outcome, Outcome::Undecided);
             self.check(decided && satisfiable == found.is_ok(), sheet, size, solver.name());
-            if let Outcome::Satisfiable(numbers) = outcome {
+            let is_read = self.reads_answer(sheet, size, &dimacs, &told);
+            self.check(is_read, sheet, size, &format!("{}'s own answer", solver.name()));
+            if let Outcome::Satisfiable(numbers) = told.outcome {
                 let is_model = self.reads_back_as_model(sheet, size, &dimacs.setting(&numbers));
                 self.check(is_model, sheet, size, &format!("{}'s assignment", solver.name()));
             }
@@ -162,15 +175,41 @@ impl Trial {
         nesskettle::judge(&sheet.bytes, &case) == Ok(true) && again == setting
     }
 
+    /// The solver's own answer is the case of its assignment, or a claim that there is none.
+    ///
+    /// minisat leaves out the variables above the largest one that stands in a clause. Such an answer is refused, and taken
+    /// once they are put in; they may be either, and are no here.
+    fn reads_answer(&mut self, sheet: &Sheet, size: u64, dimacs: &Dimacs, told: &Told) -> bool {
+        let read = |answer: &[u8], output: &mut [u8]| nesskettle::from_solver(&sheet.bytes, size, answer, output);
+        let numbers = match &told.outcome {
+            Outcome::Undecided => return false,
+            Outcome::Unsatisfiable => return read(&told.answer, &mut []) == Ok(SolverAnswer::ClaimedNone),
+            Outcome::Satisfiable(numbers) => numbers,
+        };
+        let setting = dimacs.setting(numbers);
+        let case = text(|output| nesskettle::read_back(&sheet.bytes, size, &setting, output));
+        let is_case = |answer: &[u8]| {
+            let mut output = vec![0; case.len()];
+            let length = case.len();
+            read(answer, &mut output) == Ok(SolverAnswer::Case { length }) && output == case
+        };
+        if numbers.len() == dimacs.variables {
+            return is_case(&told.answer);
+        }
+        self.incomplete += 1;
+        let refused = read(&told.answer, &mut []).is_err_and(|refusal| refusal.reason == Reason::BadAnswer);
+        refused && is_case(&stating(&mut Random::new(9), &setting))
+    }
+
     /// Asks a solver, for each cell of the found model that could be smaller, for a model with the cells before as found
     /// and this one smaller; and at last for the found model itself.
     fn is_least(&mut self, sheet: &Sheet, size: usize, dimacs: &Dimacs, case: &[u8]) -> bool {
         let mut as_found = Vec::new();
-        for (cell, solver) in sheet.cells(size, case).iter().zip(Solver::BOTH.into_iter().cycle()) {
+        for (cell, solver) in sheet.cells(size, case).iter().zip(Solver::ALL.into_iter().cycle()) {
             if let Some(smaller) = cell.smaller() {
                 let units = [as_found.as_slice(), &smaller].concat();
                 if !matches!(
-                    self.solvers.run(solver, &dimacs.with_units(&units)),
+                    self.solvers.run(solver, &dimacs.with_units(&units)).outcome,
                     Outcome::Unsatisfiable
                 ) {
                     return false;
@@ -179,7 +218,7 @@ impl Trial {
             as_found.push(cell.as_found());
         }
         matches!(
-            self.solvers.run(Solver::Minisat, &dimacs.with_units(&as_found)),
+            self.solvers.run(Solver::Minisat, &dimacs.with_units(&as_found)).outcome,
             Outcome::Satisfiable(_)
         )
     }
@@ -215,14 +254,16 @@ impl Trial {
     }
 
     fn check(&mut self, holds: bool, sheet: &Sheet, size: u64, what: &str) {
+        let sheet = String::from_utf8_lossy(&sheet.bytes);
+        self.note(holds, &format!("at size {size}: {what}\n{sheet}"));
+    }
+
+    fn note(&mut self, holds: bool, what: &str) {
         if holds {
             self.passed += 1;
         } else {
             self.failed += 1;
-            println!(
-                "FAILED at size {size}: {what}\n{}",
-                String::from_utf8_lossy(&sheet.bytes)
-            );
+            println!("FAILED {what}");
         }
     }
 }

@@ -1,6 +1,7 @@
 //! The outside solvers, run as programs on files.
 
-use std::path::PathBuf;
+use nesskettle_trials::dimacs::Dimacs;
+use std::path::{Path, PathBuf};
 use std::process::{Command, Output};
 
 /// Seconds that a SAT solver has for one text, and milliseconds that cvc5 has for one sheet.
@@ -11,17 +12,26 @@ const CVC5_MILLISECONDS: &str = "1500";
 pub enum Solver {
     Minisat,
     Picosat,
+    Cadical,
 }
 
 impl Solver {
-    pub const BOTH: [Solver; 2] = [Solver::Minisat, Solver::Picosat];
+    pub const ALL: [Solver; 3] = [Solver::Minisat, Solver::Picosat, Solver::Cadical];
 
     pub fn name(self) -> &'static str {
         match self {
             Solver::Minisat => "minisat",
             Solver::Picosat => "picosat",
+            Solver::Cadical => "cadical",
         }
     }
+}
+
+/// What a SAT solver tells of a text.
+pub struct Told {
+    pub outcome: Outcome,
+    /// The solver's own answer in the layout of the competitions; minisat's is put into it here.
+    pub answer: Vec<u8>,
 }
 
 pub enum Outcome {
@@ -52,31 +62,30 @@ impl Solvers {
         Solvers { folder }
     }
 
-    pub fn run(&self, solver: Solver, dimacs: &[u8]) -> Outcome {
+    pub fn run(&self, solver: Solver, dimacs: &Dimacs) -> Told {
         let file = self.folder.join("clauses.cnf");
-        let result = self.folder.join("result");
-        std::fs::write(&file, dimacs).expect("the clauses can be written");
-        let output = match solver {
-            Solver::Minisat => {
-                let limit = format!("-cpu-lim={SAT_SECONDS}");
-                output(
-                    Command::new("minisat")
-                        .args(["-verb=0", &limit])
-                        .arg(&file)
-                        .arg(&result),
-                )
-            }
-            Solver::Picosat => output(Command::new("picosat").args(["-L", SAT_SECONDS]).arg(&file)),
+        std::fs::write(&file, &dimacs.text).expect("the clauses can be written");
+        let (output, answer) = match solver {
+            Solver::Minisat => self.minisat(&file),
+            Solver::Picosat => answered(Command::new("picosat").args(["-L", SAT_SECONDS]).arg(&file)),
+            Solver::Cadical => answered(Command::new("cadical").args(["-t", SAT_SECONDS]).arg(&file)),
         };
-        let told = match solver {
-            Solver::Minisat => std::fs::read_to_string(&result).unwrap_or_default(),
-            Solver::Picosat => String::from_utf8_lossy(&output.stdout).into_owned(),
-        };
-        match output.status.code() {
-            Some(10) => Outcome::Satisfiable(numbers(&told)),
+        let outcome = match output.status.code() {
+            Some(10) => Outcome::Satisfiable(numbers(&answer)),
             Some(20) => Outcome::Unsatisfiable,
             _ => Outcome::Undecided,
-        }
+        };
+        Told { outcome, answer }
+    }
+
+    /// minisat writes its answer into a file, in a layout of its own.
+    fn minisat(&self, file: &Path) -> (Output, Vec<u8>) {
+        let result = self.folder.join("result");
+        let limit = format!("-cpu-lim={SAT_SECONDS}");
+        let options = ["-verb=0", &limit];
+        let output = output(Command::new("minisat").args(options).arg(file).arg(&result));
+        let told = std::fs::read_to_string(&result).unwrap_or_default();
+        (output, in_competition_layout(&told))
     }
 
     pub fn smallest_model(&self, tptp: &[u8]) -> Smallest {
@@ -108,12 +117,31 @@ fn output(command: &mut Command) -> Output {
         .unwrap_or_else(|e| panic!("{:?} does not start: {e}", command.get_program()))
 }
 
-/// The numbers of an assignment but for the 0 at its end; words are passed over.
-fn numbers(text: &str) -> Vec<i32> {
-    text.split_ascii_whitespace()
-        .filter_map(|word| word.parse().ok())
-        .filter(|&n| n != 0)
-        .collect()
+/// What a solver that prints the layout of the competitions says, and all that it printed.
+fn answered(command: &mut Command) -> (Output, Vec<u8>) {
+    let output = output(command);
+    let answer = output.stdout.clone();
+    (output, answer)
+}
+
+/// The line `SAT` and a line of numbers, or the line `UNSAT`, in the layout of the competitions.
+fn in_competition_layout(told: &str) -> Vec<u8> {
+    match told.strip_prefix("SAT\n") {
+        // a 0 alone has a space before it
+        Some(numbers) => format!("s SATISFIABLE\nv {}\n", numbers.trim()).into_bytes(),
+        None => b"s UNSATISFIABLE\n".to_vec(),
+    }
+}
+
+/// The numbers of an answer's `v` lines but for the 0 at their end.
+fn numbers(answer: &[u8]) -> Vec<i32> {
+    let answer = String::from_utf8_lossy(answer);
+    let words = answer
+        .lines()
+        .filter_map(|line| line.strip_prefix("v "))
+        .flat_map(|line| line.split(' '));
+    let numbers = words.map(|word| word.parse().expect("a number"));
+    numbers.filter(|&number| number != 0).collect()
 }
 
 /// cvc5 states the size of its model in a comment.

@@ -1,0 +1,10 @@
+pub mod Examples
+pub mod Options
+pub mod Decimals
+pub mod Lines
+pub mod ValueLines
+pub mod Orders
+pub mod Setting
+pub mod OnePass
+pub mod Stating
+pub mod SolverAnswers

@@ -1,0 +1,4 @@
+-- What is proved of the definitions: each file states one theorem, to be read alone; proofs/ has its proof under the same name.
+pub mod Stating
+pub mod SolverAnswers
+pub mod OnePass
