@@ -35,8 +35,8 @@ enum {
     NK_NO = 2,           /* nk_judge, nk_explain: it is none */
     NK_WRITTEN = 1,      /* nk_write, nk_read_back, nk_setting, nk_from_tptp, nk_from_solver: it stands in the output */
     NK_CLAIMED_NONE = 2, /* nk_from_solver: the solver says that there is no model; whether that is so is not checked */
-    NK_FOUND = 1,        /* nk_find: the least model stands in the output */
-    NK_NONE = 2          /* nk_find: no case of a searched size is a model */
+    NK_FOUND = 1,        /* nk_find, nk_find_plain: the least model stands in the output */
+    NK_NONE = 2          /* nk_find, nk_find_plain: no case of a searched size is a model */
 };
 
 /*
@@ -82,7 +82,10 @@ enum {
 
     /* A solver's answer; neither names a line. */
     NK_BAD_ANSWER = 18, /* lines not as laid out, or a propositional variable missing, doubled or above the last one */
-    NK_NO_MODEL = 19    /* its case is no model of the sheet */
+    NK_NO_MODEL = 19,   /* its case is no model of the sheet */
+
+    /* The search of nk_find_plain; it names no line. */
+    NK_TOO_MANY_CELLS = 20 /* over 64 cells at high */
 };
 
 /* The answer of nk_read. */
@@ -125,7 +128,7 @@ typedef struct {
     uint64_t length; /* NK_WRITTEN: how many bytes are written; refused 11: how many are needed */
 } nk_write_answer;
 
-/* The answer of nk_find. */
+/* The answer of nk_find and nk_find_plain. */
 typedef struct {
     uint32_t outcome; /* NK_FOUND, NK_NONE or NK_REFUSED */
     uint32_t reason;
@@ -206,6 +209,20 @@ nk_write_answer nk_setting(const uint8_t *sheet, size_t sheet_length,
 nk_find_answer nk_find(const uint8_t *sheet, size_t sheet_length, uint64_t low, uint64_t high,
                        uint32_t *work, size_t work_length,
                        uint8_t *output, size_t output_length);
+
+/*
+ * The search of nk_find a second time, as on a whiteboard: it fills the cells of a case in order, the least value first,
+ * copies the tables before each guess, and judges each full case by truth alone. It makes no clauses and is lent no work
+ * area. Where neither call is refused, both answer the same and leave the same in the output.
+ * Time grows with the number of cases that are tried, at worst all of the searched sizes: at size s a function cell has s
+ * values and a predicate cell 2, and the number of cases is their product.
+ * Found: the output's first `length` bytes are the case, and the bytes after it are as they were. None: every byte of the
+ * output is as it was.
+ * Refused: 1 to 7, then 8, 20 (at high), 11 (output shorter than a case of size high); every byte of the output is then
+ * as it was.
+ */
+nk_find_answer nk_find_plain(const uint8_t *sheet, size_t sheet_length, uint64_t low, uint64_t high,
+                             uint8_t *output, size_t output_length);
 
 /*
  * Reads TPTP clauses into a sheet, and writes the sheet: a case is a model of the sheet exactly if every clause of the

@@ -9,6 +9,7 @@
 //! | [`read_back`] | the case that a setting of the propositional variables stands for |
 //! | [`setting`] | the setting of a case, the other way of [`read_back`] |
 //! | [`find`] | the least model at the smallest size, or that there is none |
+//! | [`find_plain`] | what [`find`] answers, by filling cells one by one: without clauses, for up to 64 cells |
 //! | [`from_tptp`] | the sheet that a file of TPTP clauses is read into |
 //! | [`from_solver`] | the case that a SAT solver answers, if it is a model; or the solver's claim that there is none |
 //!
@@ -28,6 +29,7 @@ pub const OPERATIONS: Operations = Operations {
     read_back,
     setting,
     find,
+    find_plain,
     from_tptp,
     from_solver,
 };
@@ -124,7 +126,7 @@ pub fn setting(sheet: &[u8], case: &[u8], output: &mut [u8]) -> Result<usize, Re
 /// unchanged; none, the whole output is.
 pub fn find(sheet: &[u8], low: u64, high: u64, work: &mut [u32], output: &mut [u8]) -> Result<Search, Refusal> {
     // SAFETY: pointers and lengths are slices', and work and output are lent to this call alone.
-    let answer = unsafe {
+    searched(unsafe {
         raw::nk_find(
             sheet.as_ptr(),
             sheet.len(),
@@ -135,18 +137,28 @@ pub fn find(sheet: &[u8], low: u64, high: u64, work: &mut [u32], output: &mut [u
             output.as_mut_ptr(),
             output.len(),
         )
-    };
-    match answer.outcome {
-        0 => Err(refusal(answer.reason, answer.line, answer.column, answer.length)),
-        1 => Ok(Search::Found {
-            size: answer.size,
-            length: answer.length as usize,
-        }),
-        2 => Ok(Search::None {
-            settled: answer.settled == 1,
-        }),
-        other => unknown_outcome(other),
-    }
+    })
+}
+
+/// The search of [`find`] a second time, as on a whiteboard: it fills the cells of a case in order, the least value first,
+/// and judges each full case by truth alone. Where neither is refused, both answer the same and leave the same output.
+///
+/// It makes no clauses and is lent no work area. A sheet with over 64 cells at high is refused; in the worst case every
+/// case of the searched sizes is tried.
+///
+/// Found, the case stands at the output's front, and the bytes after it are unchanged; none, the whole output is.
+pub fn find_plain(sheet: &[u8], low: u64, high: u64, output: &mut [u8]) -> Result<Search, Refusal> {
+    // SAFETY: pointers and lengths are slices', and the output is lent to this call alone.
+    searched(unsafe {
+        raw::nk_find_plain(
+            sheet.as_ptr(),
+            sheet.len(),
+            low,
+            high,
+            output.as_mut_ptr(),
+            output.len(),
+        )
+    })
 }
 
 /// Reads TPTP clauses into a sheet, writes the sheet and answers its length. The bytes after it are unchanged.
@@ -191,6 +203,20 @@ fn written(answer: raw::WriteAnswer) -> Result<usize, Refusal> {
     match answer.outcome {
         0 => Err(refusal(answer.reason, answer.line, answer.column, answer.length)),
         1 => Ok(answer.length as usize),
+        other => unknown_outcome(other),
+    }
+}
+
+fn searched(answer: raw::FindAnswer) -> Result<Search, Refusal> {
+    match answer.outcome {
+        0 => Err(refusal(answer.reason, answer.line, answer.column, answer.length)),
+        1 => Ok(Search::Found {
+            size: answer.size,
+            length: answer.length as usize,
+        }),
+        2 => Ok(Search::None {
+            settled: answer.settled == 1,
+        }),
         other => unknown_outcome(other),
     }
 }

@@ -48,7 +48,7 @@ pub struct WriteAnswer {
     pub length: u64,
 }
 
-/// The answer of [`nk_find`].
+/// The answer of [`nk_find`] and [`nk_find_plain`].
 #[repr(C)]
 #[derive(Clone, Copy, Debug, PartialEq, Eq)]
 pub struct FindAnswer {
@@ -102,6 +102,15 @@ extern "C" {
         high: u64,
         work: *mut u32,
         work_length: usize,
+        output: *mut u8,
+        output_length: usize,
+    ) -> FindAnswer;
+
+    pub fn nk_find_plain(
+        sheet: *const u8,
+        sheet_length: usize,
+        low: u64,
+        high: u64,
         output: *mut u8,
         output_length: usize,
     ) -> FindAnswer;

@@ -46,6 +46,7 @@ fn a_refused_sheet_is_marked() {
         for verb in [
             "check -",
             "find -",
+            "find - --plain",
             "clauses - --size 2",
             "judge - group-6.case",
             "explain - group-6.case",
@@ -383,6 +384,63 @@ fn find() {
     );
 }
 
+/// The plain search prints what the other one prints, in every layout.
+#[test]
+fn find_plain() {
+    for arguments in [
+        "two-constants.sheet",
+        "two-constants.sheet --low 3",
+        "two-constants.sheet --high 1",
+        "two-constants.sheet --low 1 --high 1 --tables",
+        "pigeonhole.sheet --high 4 --tables",
+        "serial-order.sheet --high 3",
+        "serial-order.sheet --high 3 --szs",
+        "../../../examples/both-eyes.sheet --high 3",
+        "../../../examples/both-eyes.sheet --high 7 --tables",
+        "../../../examples/both-eyes.p --high 3 --szs",
+        "../../../examples/each-eye.p --high 2",
+    ] {
+        let other = run(&format!("find {arguments}"), "");
+        let status = other.status.code().expect("it ends");
+        assert!(status < 2, "{arguments}");
+        let text = String::from_utf8(other.stdout).expect("an answer is text");
+        prints(&format!("find --plain {arguments}"), "", status, &text);
+    }
+    let never = "sheet=1\nfuns=0\npreds=0\nclauses=1\nclause=\n";
+    prints("find - --plain", never, 1, "answer=none\nsettled=yes\n");
+    prints("find - --plain --low 2", never, 1, "answer=none\nsettled=no\n");
+    prints(
+        "find --plain - --tptp",
+        TWO_CONSTANTS,
+        0,
+        "answer=found\ncase=1\nsize=2\na=1\nb=2\n",
+    );
+}
+
+#[test]
+fn too_many_cells() {
+    let refused =
+        "nesskettle: refused 20: a case of size high has more than 64 cells, and the plain search takes at most 64: \
+                   take a lower high, or find without plain\n";
+    fails(
+        "find --plain ../../../examples/both-eyes.sheet",
+        "",
+        &format!("{refused}  --plain takes this sheet up to --high 7\n"),
+    );
+    fails(
+        "find million.sheet --plain --low 5 --high 6",
+        "",
+        &format!("{refused}  --plain does not take this sheet at size 5\n"),
+    );
+    // 64 cells
+    prints(
+        "find million.sheet --plain --high 4",
+        "",
+        0,
+        "answer=found\ncase=1\nsize=1\nq=1\n",
+    );
+}
+
 #[test]
 fn tables() {
     let sheet = "sheet=1\nfuns=3\nfun=a/0\nfun=f/1\nfun=g/2\npreds=3\npred=on/0\npred=p/1\npred=t/3\nclauses=4\n\
@@ -551,6 +609,8 @@ fn wrong_calls_are_told() {
     );
     let option = "nesskettle: --tables is no option of this command, or stands there twice";
     fails("check group.sheet --tables", "", &format!("{option}{more}"));
+    let option = "nesskettle: --plain is no option of this command, or stands there twice";
+    fails("clauses group.sheet --size 2 --plain", "", &format!("{option}{more}"));
     assert_eq!(run("check no-such.sheet", "").status.code(), Some(2));
     assert!(run("--help", "")
         .stdout

@@ -86,6 +86,19 @@ int main(void) {
     found = nk_find((const uint8_t *)never, strlen(never), 2, 3, work, 1000, output, sizeof output);
     expect(found.outcome == NK_NONE && found.settled == 0, "a search from size 2 does not");
 
+    output[22] = 9;
+    found = nk_find_plain(sheet, sheet_length, 1, 3, output, sizeof output);
+    expect(found.outcome == NK_FOUND && found.size == 2 && found.settled == 0, "the plain search finds a model of size 2");
+    expect(text_is(output, found.length, least) && output[22] == 9, "the same, and the byte after it is as it was");
+    found = nk_find_plain(sheet, sheet_length, 1, 3, output, 21);
+    expect(found.reason == NK_OUTPUT_TOO_SHORT && found.length == 22, "21 bytes are too few for it");
+    found = nk_find_plain((const uint8_t *)never, strlen(never), 1, 1, output, sizeof output);
+    expect(found.outcome == NK_NONE && found.settled == 1 && found.length == 0, "it settles that there is none");
+    static const char cells[] = "sheet=1\nfuns=1\nfun=a/0\npreds=1\npred=p/2\nclauses=0\n";
+    found = nk_find_plain((const uint8_t *)cells, strlen(cells), 1, 8, output, sizeof output);
+    expect(found.outcome == NK_REFUSED && found.reason == NK_TOO_MANY_CELLS, "65 cells are refused");
+    expect(found.line == 0 && found.column == 0 && found.length == 0, "without a place");
+
     static const char clauses[] = "% two constants\ncnf(1, axiom, a != b).\n";
     written = nk_from_tptp((const uint8_t *)clauses, strlen(clauses), output, sizeof output);
     expect(written.outcome == NK_WRITTEN && written.line == 0 && written.column == 0, "the clause is taken");

@@ -89,6 +89,7 @@ fn nothing_is_searched() {
     let many =
         "sheet=1\nfuns=0\npreds=1\npred=q/3\nclauses=4\n".to_string() + &"clause=+ q A B C + q D E F\n".repeat(4);
     tells("find -", &many, "GaveUp for -");
+    tells("find - --plain", &many, "GaveUp for -");
     tells("find group.sheet --low 0", "", "UsageError for group.sheet");
     tells("find group.sheet --low 3 --high 2", "", "UsageError for group.sheet");
     fails(

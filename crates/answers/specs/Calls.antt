@@ -7,6 +7,7 @@ use mathlib.Core.List.{List}
 use lib.ListN.{length}
 use Rattle.theory.specs.Refusals.{Answer}
 use Rattle.theory.specs.Operations.{readAnswer, judgeAnswer, Reason, explainAnswer, lengthAnswer, outputAfter, writtenText, readBackText, settingText, Search, findResult, findAnswer, findWork, findOutput}
+use Rattle.theory.specs.PlainSearch.{plainResult}
 use Rattle.answers.specs.declared.ReadAnswer.{ReadAnswer}
 use Rattle.answers.specs.declared.JudgeAnswer.{JudgeAnswer}
 use Rattle.answers.specs.declared.ExplainAnswer.{ExplainAnswer}
@@ -57,3 +58,12 @@ pub record SearchingCall (result : Answer Search) (r : FindAnswer) (work work′
 -- Find
 abbrev pub FindCall : List ℕ → ℕ → ℕ → FindAnswer → List ℕ → List ℕ → List ℕ → List ℕ → Type 0
 FindCall sheet low high r work work′ output output′ = SearchingCall (findResult sheet low high (length work) (length output)) r work work′ output output′
+
+-- a call that searches with this result and is lent no work area, or is refused
+pub record PlainSearchingCall (result : Answer Search) (r : FindAnswer) (output output′ : List ℕ) : Type 0 where
+  pub answer : findIn r ≡ findAnswer result
+  pub left : output′ ≡ findOutput result output
+
+-- Find plain
+abbrev pub PlainCall : List ℕ → ℕ → ℕ → FindAnswer → List ℕ → List ℕ → Type 0
+PlainCall sheet low high r output output′ = PlainSearchingCall (plainResult sheet low high (length output)) r output output′

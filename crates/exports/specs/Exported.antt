@@ -5,6 +5,7 @@ use mathlib.Core.List.{List}
 use lib.ListN.{length}
 use Rattle.theory.specs.Refusals.{Answer}
 use Rattle.theory.specs.Operations.{lengthAnswer, outputAfter, writtenText, readBackText, settingText, Search, findResult, findAnswer, findWork, findOutput}
+use Rattle.theory.specs.PlainSearch.{plainResult}
 use Rattle.tptp.specs.Tptp.{tptpText}
 use Rattle.solver.specs.SolverText.{solverText, solverAnswer, solverOutput}
 use Rattle.exports.specs.declared.WriteOut.{WriteOut}
@@ -37,6 +38,11 @@ pub record SearchingExport (result : Answer Search) (r : FindOut) (work work′ 
 -- Find
 abbrev pub FindExport : List ℕ → ℕ → ℕ → FindOut → List ℕ → List ℕ → List ℕ → List ℕ → Type 0
 FindExport sheet low high r work work′ output output′ = SearchingExport (findResult sheet low high (length work) (length output)) r work work′ output output′
+
+-- Find plain, which is lent no work area
+pub record PlainExport (sheet : List ℕ) (low high : ℕ) (r : FindOut) (output output′ : List ℕ) : Type 0 where
+  pub answer : r ≡ findOut (findAnswer (plainResult sheet low high (length output)))
+  pub left : output′ ≡ findOutput (plainResult sheet low high (length output)) output
 
 -- From TPTP
 abbrev pub TptpExport : List ℕ → WriteOut → List ℕ → List ℕ → Type 0

@@ -15,7 +15,7 @@ ghost use Rattle.answers.specs.Calls.{ReasoningCall};
 ghost use Rattle.theory.specs.Refusals.{Answer};
 ghost use Rattle.theory.specs.Operations as theory;
 ghost use Rattle.accepting.specs.Calls.{solverIn};
-ghost use Rattle.exports.specs.Exported.{FindExport, FromSolverExport, ReadBackExport, SettingExport, TptpExport, WriteExport};
+ghost use Rattle.exports.specs.Exported.{FindExport, FromSolverExport, PlainExport, ReadBackExport, SettingExport, TptpExport, WriteExport};
 ghost use Rattle.exports.specs.Layouts.{readOut, judgeOut, explainOut, writeOut, solverOut, findOut};
 
 #[repr(C)]
@@ -219,6 +219,13 @@ pub extern "C" fn nk_find(
     ensures { λ r. ⌜ FindExport (now (sheet .entry)) low high r (now (work .entry)) (now (work .exit)) (now (output .entry)) (now (output .exit)) ⌝ }
 {
     find_out(nesskettle::find(sheet, low, high, work, output))
+}
+
+#[no_mangle]
+pub extern "C" fn nk_find_plain(sheet: &[u8], low: u64, high: u64, output: &mut [u8]) -> FindOut
+    ensures { λ r. ⌜ PlainExport (now (sheet .entry)) low high r (now (output .entry)) (now (output .exit)) ⌝ }
+{
+    find_out(nesskettle::find_plain(sheet, low, high, output))
 }
 
 fn find_out(answer: FindAnswer) -> FindOut

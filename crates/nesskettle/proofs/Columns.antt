@@ -11,13 +11,14 @@ use lib.ListN.{length}
 use Rattle.theory.specs.Propositional.{propCount}
 use Rattle.theory.specs.PropClauses.{instanceCount, workNeeded}
 use Rattle.theory.specs.Syntax.{Signature}
-use Rattle.theory.specs.Cells.{isModel}
+use Rattle.theory.specs.Cells.{cellCount, isModel}
 use Rattle.theory.specs.Valuation.{isValuation, isFunctional, readBack}
 use Rattle.theory.specs.Refusals.{Refusal, Answer, answer, refused, atLine, unplaced, needing, _>>=_, check, orRefuse}
 use Rattle.theory.specs.Problem.{Problem, readProblem}
 use Rattle.theory.specs.CaseText.{caseLength}
 use Rattle.theory.specs.Columns.{sheetColumn, caseColumn, placedProblem, placedCase}
 use Rattle.theory.specs.Operations.{maxSize, maxInstances, isSize, readAnswer, judgeAnswer, contentOf, writtenText, readBackText, settingText, Search, found, nothing, findResult, findAnswer}
+use Rattle.theory.specs.PlainSearch.{maxPlainCells, plainResult}
 use Rattle.theory.specs.LineForms.{LineForm}
 use Rattle.theory.specs.DueLines.{firstLine, fromLine, dueInSheet, sheetSymbols}
 use Rattle.theory.specs.Claims.Columns.{twoOn, twelveOn, ByteBeyondHelp, OverNumber, BadName, WordBeyondHelp, FirstUnknown, OverLimit}
@@ -122,6 +123,14 @@ find-placed sheet low high work room q e =
     checked sheet (leb (workNeeded high (p .symbols) (p .clauses)) work) (needing 10 (workNeeded high (p .symbols) (p .clauses))) _ q (refl, refl) e₃ λ e₄.
     checked sheet (leb (caseLength high (p .symbols)) room) (needing 11 (caseLength high (p .symbols))) _ q (refl, refl) e₄ λ e₅. absurd (answer≢refused _ q e₅)
 
+plain-placed : (sheet : List ℕ) (low high room : ℕ) (q : Refusal) → plainResult sheet low high room ≡ refused q → Placed sheet q
+unfolding plainResult
+plain-placed sheet low high room q e =
+    unrefused (placedProblem sheet) _ q e (λ h. inl (of-the-sheet sheet q h)) λ (p : Problem) _ e₁.
+    checked sheet (leb 1 low && leb high maxSize && leb low high) (unplaced 8) _ q (refl, refl) e₁ λ e₂.
+    checked sheet (leb (cellCount high (p .symbols)) maxPlainCells) (unplaced 20) _ q (refl, refl) e₂ λ e₃.
+    checked sheet (leb (caseLength high (p .symbols)) room) (needing 11 (caseLength high (p .symbols))) _ q (refl, refl) e₃ λ e₄. absurd (answer≢refused _ q e₄)
+
 read-placed : (sheet : List ℕ) (q : Refusal) → readAnswer sheet ≡ refused q → OfTheSheet sheet q
 unfolding readAnswer
 read-placed sheet q e = unrefused (placedProblem sheet) _ q e (of-the-sheet sheet q) λ (p : Problem) _ e₁. absurd (answer≢refused _ q e₁)
@@ -183,5 +192,6 @@ columns-of-calls =
       readBack = λ sheet size setting r output output′ c q e. read-back-placed sheet size setting (length output) q (refused-text _ q (sym (c .answer) ∙ e));
       setting = λ sheet case r output output′ c q e. setting-placed sheet case (length output) q (refused-text _ q (sym (c .answer) ∙ e));
       find = λ sheet low high r work work′ output output′ c q e. find-placed sheet low high (length work) (length output) q (search-refused _ q (sym (c .answer) ∙ e));
+      findPlain = λ sheet low high r output output′ c q e. plain-placed sheet low high (length output) q (search-refused _ q (sym (c .answer) ∙ e));
       fromSolver = λ sheet size text r output output′ c q e. solver-placed sheet size text (length output) q (outcome-refused _ q (sym (c .answer) ∙ e));
     }

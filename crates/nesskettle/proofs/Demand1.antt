@@ -9,7 +9,7 @@ use lib.Dec.{eqb, leb}
 use lib.ListN.{length}
 use Rattle.theory.specs.Lists.{all, upFrom, elem, same}
 use Rattle.theory.specs.Syntax.{Signature}
-use Rattle.theory.specs.Cells.{isModel}
+use Rattle.theory.specs.Cells.{cellCount, isModel}
 use Rattle.theory.specs.Propositional.{propCount}
 use Rattle.theory.specs.PropClauses.{instanceCount, workNeeded}
 use Rattle.theory.specs.Valuation.{isValuation, isFunctional, readBack}
@@ -19,6 +19,7 @@ use Rattle.theory.specs.Columns.{placedProblem, placedCase}
 use Rattle.theory.specs.SheetText.{sheetText}
 use Rattle.theory.specs.CaseText.{caseLength}
 use Rattle.theory.specs.Operations.{maxSize, maxInstances, isSize, readAnswer, judgeAnswer, explainAnswer, lengthAnswer, outputAfter, contentOf, writtenText, readBackText, settingText, Search, found, nothing, findResult, findAnswer, findWork, findOutput}
+use Rattle.theory.specs.PlainSearch.{maxPlainCells, plainResult}
 use Rattle.theory.proofs.Tests.{leb-true, and-left, and-right, or-left, or-right}
 use Rattle.theory.proofs.Lists.{elem-append, upFrom-elem}
 use Rattle.theory.proofs.Answers.{answer≢refused, refused-inj, unrefused}
@@ -35,9 +36,9 @@ use Rattle.accepting.specs.Calls.{solverIn, OutcomeCall}
 use Rattle.answers.specs.declared.WriteAnswer.{WriteAnswer}
 use Rattle.answers.specs.declared.FindAnswer.{FindAnswer}
 use Rattle.answers.specs.Answers.{lengthIn, findIn}
-use Rattle.answers.specs.Calls.{WritingCall, SearchingCall}
+use Rattle.answers.specs.Calls.{WritingCall, SearchingCall, PlainSearchingCall}
 use Rattle.writing.specs.Texts.{clausesText}
-use Rattle.nesskettle.specs.Demand1.{readNumbers, judgeNumbers, writeNumbers, readBackNumbers, settingNumbers, findNumbers, tptpNumbers, solverNumbers, NumberOf, ResultOr, Demand1}
+use Rattle.nesskettle.specs.Demand1.{readNumbers, judgeNumbers, writeNumbers, readBackNumbers, settingNumbers, findNumbers, plainNumbers, tptpNumbers, solverNumbers, NumberOf, ResultOr, Demand1}
 use Rattle.nesskettle.proofs.TptpNumbers.{isTptpNumber, text-numbers}
 
 -- the number of every refusal of the answer is one of these
@@ -143,6 +144,15 @@ find-within sheet low high work room =
     (checks findNumbers (leb (workNeeded high (p .symbols) (p .clauses)) work) (needing 10 (workNeeded high (p .symbols) (p .clauses))) _ refl
     (checks findNumbers (leb (caseLength high (p .symbols)) room) (needing 11 (caseLength high (p .symbols))) _ refl (ends findNumbers _))))
 
+-- Find plain
+plain-within : (sheet : List ℕ) (low high room : ℕ) → Within plainNumbers (plainResult sheet low high room)
+unfolding plainResult
+plain-within sheet low high room =
+    then plainNumbers _ _ (sheet-within (8 ∷ 11 ∷ 20 ∷ []) sheet) λ p.
+    checks plainNumbers (leb 1 low && leb high maxSize && leb low high) (unplaced 8) _ refl
+    (checks plainNumbers (leb (cellCount high (p .symbols)) maxPlainCells) (unplaced 20) _ refl
+    (checks plainNumbers (leb (caseLength high (p .symbols)) room) (needing 11 (caseLength high (p .symbols))) _ refl (ends plainNumbers _)))
+
 -- From TPTP: 15 to 17 at the first fault, else 11
 tptp-within : (text : List ℕ) (room : ℕ) → Within tptpNumbers (tptpText text room)
 unfolding tptpText
@@ -205,6 +215,16 @@ searching-kept numbers result r work work′ output output′ f h =
     go (answer (nothing b)) w l h = tt
     go (refused q) w l h = (h q refl, w, l)
 
+-- a refused search that is lent no work leaves the output as it was
+plain-kept : (numbers : List ℕ) (result : Answer Search) (r : FindAnswer) (output output′ : List ℕ) → PlainSearchingCall result r output output′ → Within numbers result
+    → ResultOr (λ q. NumberOf numbers q × (output′ ≡ output)) (findIn r)
+plain-kept numbers result r output output′ f h = subst (ResultOr (λ q. NumberOf numbers q × (output′ ≡ output))) (sym (f .answer)) (go result (f .left) h)
+  where
+    go : (result : Answer Search) → output′ ≡ findOutput result output → Within numbers result → ResultOr (λ q. NumberOf numbers q × (output′ ≡ output)) (findAnswer result)
+    go (answer (found s t)) l h = tt
+    go (answer (nothing b)) l h = tt
+    go (refused q) l h = (h q refl, l)
+
 -- a refused answer of a solver leaves the output as it was
 outcome-kept : (numbers : List ℕ) (outcome : Answer (Outcome (List ℕ))) (r : SolverAnswer) (output output′ : List ℕ) → OutcomeCall outcome r output output′ → Within numbers outcome
     → ResultOr (λ q. NumberOf numbers q × (output′ ≡ output)) (solverIn r)
@@ -229,6 +249,7 @@ demand1-of-calls =
           writing-kept settingNumbers (settingText sheet case (length output)) r output output′ c (setting-within sheet case (length output));
       find = λ sheet low high r work work′ output output′ c.
           searching-kept findNumbers (findResult sheet low high (length work) (length output)) r work work′ output output′ c (find-within sheet low high (length work) (length output));
+      findPlain = λ sheet low high r output output′ c. plain-kept plainNumbers (plainResult sheet low high (length output)) r output output′ c (plain-within sheet low high (length output));
       fromTptp = λ text r output output′ c. writing-kept tptpNumbers (tptpText text (length output)) r output output′ c (tptp-within text (length output));
       fromSolver = λ sheet size text r output output′ c. outcome-kept solverNumbers (solverText sheet size text (length output)) r output output′ c (solver-within sheet size text (length output));
     }

@@ -14,7 +14,7 @@ use Rattle.answers.specs.declared.ExplainAnswer.{ExplainAnswer}
 use Rattle.answers.specs.declared.WriteAnswer.{WriteAnswer}
 use Rattle.answers.specs.declared.FindAnswer.{FindAnswer}
 use Rattle.answers.specs.Answers.{readIn, judgeIn, explainIn, lengthIn, findIn}
-use Rattle.answers.specs.Calls.{ReadCall, JudgeCall, ExplainCall, WriteCall, ReadBackCall, SettingCall, FindCall}
+use Rattle.answers.specs.Calls.{ReadCall, JudgeCall, ExplainCall, WriteCall, ReadBackCall, SettingCall, FindCall, PlainCall}
 use Rattle.accepting.specs.declared.SolverAnswer.{SolverAnswer}
 use Rattle.accepting.specs.Calls.{solverIn, FromSolverCall}
 
@@ -57,6 +57,8 @@ pub record Columns : Type 0 where
   pub setting : (sheet case : List ℕ) (r : WriteAnswer) (output output′ : List ℕ) → SettingCall sheet case r output output′
       → (q : Refusal) → lengthIn r ≡ refused q → OfTheSheet sheet q ⊎ (OfTheCase sheet case q ⊎ NoPlace q)
   pub find : (sheet : List ℕ) (low high : ℕ) (r : FindAnswer) (work work′ output output′ : List ℕ) → FindCall sheet low high r work work′ output output′
+      → (q : Refusal) → findIn r ≡ refused q → OfTheSheet sheet q ⊎ NoPlace q
+  pub findPlain : (sheet : List ℕ) (low high : ℕ) (r : FindAnswer) (output output′ : List ℕ) → PlainCall sheet low high r output output′
       → (q : Refusal) → findIn r ≡ refused q → OfTheSheet sheet q ⊎ NoPlace q
   pub fromSolver : (sheet : List ℕ) (size : ℕ) (text : List ℕ) (r : SolverAnswer) (output output′ : List ℕ) → FromSolverCall sheet size text r output output′
       → (q : Refusal) → solverIn r ≡ refused q → OfTheSheet sheet q ⊎ NoPlace q

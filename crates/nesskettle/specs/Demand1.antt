@@ -12,7 +12,7 @@ use Rattle.answers.specs.declared.ExplainAnswer.{ExplainAnswer}
 use Rattle.answers.specs.declared.WriteAnswer.{WriteAnswer}
 use Rattle.answers.specs.declared.FindAnswer.{FindAnswer}
 use Rattle.answers.specs.Answers.{readIn, judgeIn, explainIn, lengthIn, findIn}
-use Rattle.answers.specs.Calls.{ReadCall, JudgeCall, ExplainCall, WriteCall, ReadBackCall, SettingCall, FindCall}
+use Rattle.answers.specs.Calls.{ReadCall, JudgeCall, ExplainCall, WriteCall, ReadBackCall, SettingCall, FindCall, PlainCall}
 use Rattle.importing.specs.Calls.{TptpCall}
 use Rattle.accepting.specs.declared.SolverAnswer.{SolverAnswer}
 use Rattle.accepting.specs.Calls.{solverIn, FromSolverCall}
@@ -40,6 +40,10 @@ settingNumbers = upFrom 1 7 ++ (11 ∷ 12 ∷ [])
 -- Find: 1 to 11
 abbrev pub findNumbers : List ℕ
 findNumbers = upFrom 1 11
+
+-- Find plain: 1 to 8, 11 and 20
+abbrev pub plainNumbers : List ℕ
+plainNumbers = upFrom 1 8 ++ (11 ∷ 20 ∷ [])
 
 -- From TPTP: 11, and 15 to 17
 abbrev pub tptpNumbers : List ℕ
@@ -71,6 +75,8 @@ pub record Demand1 : Type 0 where
       → ResultOr (λ q. NumberOf settingNumbers q × (output′ ≡ output)) (lengthIn r)
   pub find : (sheet : List ℕ) (low high : ℕ) (r : FindAnswer) (work work′ output output′ : List ℕ) → FindCall sheet low high r work work′ output output′
       → ResultOr (λ q. NumberOf findNumbers q × (work′ ≡ work) × (output′ ≡ output)) (findIn r)
+  pub findPlain : (sheet : List ℕ) (low high : ℕ) (r : FindAnswer) (output output′ : List ℕ) → PlainCall sheet low high r output output′
+      → ResultOr (λ q. NumberOf plainNumbers q × (output′ ≡ output)) (findIn r)
   pub fromTptp : (text : List ℕ) (r : WriteAnswer) (output output′ : List ℕ) → TptpCall text r output output′
       → ResultOr (λ q. NumberOf tptpNumbers q × (output′ ≡ output)) (lengthIn r)
   pub fromSolver : (sheet : List ℕ) (size : ℕ) (text : List ℕ) (r : SolverAnswer) (output output′ : List ℕ) → FromSolverCall sheet size text r output output′

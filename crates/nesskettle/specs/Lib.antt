@@ -9,3 +9,4 @@ pub mod Settings
 pub mod Settles
 pub mod FromTptp
 pub mod FromSolver
+pub mod SameAnswers

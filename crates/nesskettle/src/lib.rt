@@ -1,10 +1,10 @@
 // The operations of documents 01 and 02. Each answers every byte string, number and lent buffer with a result or a numbered refusal, and
 // ends. A promise is a record of `answers/specs/Calls` (From TPTP's of `importing/specs/Calls`, From solver's of `accepting/specs/Calls`):
-// equations with the definitions of `theory/specs/Operations`, `tptp/specs/Tptp` and `solver/specs/SolverText`, where
+// equations with the definitions of `theory/specs/Operations`, `theory/specs/PlainSearch`, `tptp/specs/Tptp` and `solver/specs/SolverText`, where
 // `answers/specs/Answers` says what each answer means. What is lent as `&` cannot change; what is lent as `&mut` is told to the last byte
 // and number. The demands (`specs/Demand1` to `specs/Demand3`) and what is asked of From TPTP (`specs/FromTptp`), From solver
-// (`specs/FromSolver`), Explain (`specs/Explains`) and Setting (`specs/Settings`), what settled means (`specs/Settles`), and where refusals
-// point (`specs/Columns`), are proved of these records.
+// (`specs/FromSolver`), Explain (`specs/Explains`) and Setting (`specs/Settings`), what settled means (`specs/Settles`), that Find and Find
+// plain answer the same (`specs/SameAnswers`), and where refusals point (`specs/Columns`), are proved of these records.
 mod reading;
 
 use accepting::SolverAnswer;
@@ -18,10 +18,11 @@ use finding::find_model;
 use importing::import_clauses;
 use judging::explain::explain_case;
 use judging::verdict::judge_case;
+use plain::find_plainly;
 use reading_back::setting::read_setting_back;
 use settings::setting::write_case_setting;
 use writing::write_clauses;
-ghost use Rattle.answers.specs.Calls.{ExplainCall, FindCall, JudgeCall, ReadBackCall, ReadCall, SettingCall, WriteCall};
+ghost use Rattle.answers.specs.Calls.{ExplainCall, FindCall, JudgeCall, PlainCall, ReadBackCall, ReadCall, SettingCall, WriteCall};
 ghost use Rattle.importing.specs.Calls.{TptpCall};
 ghost use Rattle.accepting.specs.Calls.{FromSolverCall};
 
@@ -72,6 +73,13 @@ pub fn find(sheet: &[u8], low: u64, high: u64, work: &mut [u32], output: &mut [u
     ensures { λ r. ⌜ FindCall (now (sheet .entry)) low high r (now (work .entry)) (now (work .exit)) (now (output .entry)) (now (output .exit)) ⌝ }
 {
     find_model(sheet, low, high, work, output)
+}
+
+// Find plain: the same by trying all cases in order, for at most 64 cells, without a work area.
+pub fn find_plain(sheet: &[u8], low: u64, high: u64, output: &mut [u8]) -> FindAnswer
+    ensures { λ r. ⌜ PlainCall (now (sheet .entry)) low high r (now (output .entry)) (now (output .exit)) ⌝ }
+{
+    find_plainly(sheet, low, high, output)
 }
 
 // From TPTP: the sheet of a text of TPTP clauses, at the front of the output.

@@ -4,6 +4,7 @@ pub mod ExplainerExamples
 pub mod SettingExamples
 pub mod ColumnExamples
 pub mod SettledExamples
+pub mod PlainExamples
 pub mod Tests
 pub mod Lists
 pub mod Vectors

@@ -7,7 +7,7 @@ use native.Mathlib.Omega.{arith}
 use lib.ListN.{length}
 use Rattle.theory.specs.Lists.{sum}
 use Rattle.theory.specs.Syntax.{Kind, function, predicate, Symbol, Signature, symbolAt, Clause}
-use Rattle.theory.specs.Cells.{tableSize}
+use Rattle.theory.specs.Cells.{tableSize, cellCount}
 use Rattle.theory.specs.Flattening.{flatten, variableCount}
 use Rattle.theory.specs.Propositional.{width, blockSize, propCount}
 use Rattle.theory.specs.PropClauses.{Part, functionPart, clausePart, functionPlaces, parts, instanceCount, literalCount, workNeeded}
@@ -44,6 +44,9 @@ module _ (s t : ℕ) (h : s ≤ t) where
 
   table-grows : (f : Symbol) → tableSize s f ≤ tableSize t f
   table-grows f = pow-grows s t (f .arity) h
+
+  pub cellCount-grows : (g : Signature) → cellCount s g ≤ cellCount t g
+  cellCount-grows g = sum-grows (tableSize s) (tableSize t) table-grows g
 
   function-clauses : (g : Signature) (i : ℕ) → functionPart s g i .clauseCount ≤ functionPart t g i .clauseCount
   unfolding functionPart

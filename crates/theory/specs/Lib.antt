@@ -24,6 +24,7 @@ pub mod Columns
 pub mod Least
 pub mod Walk
 pub mod Operations
+pub mod PlainSearch
 pub mod Program
 pub mod Explainer
 pub mod Examples
@@ -32,4 +33,5 @@ pub mod ExplainExamples
 pub mod ExplainerExamples
 pub mod SettingExamples
 pub mod SettledExamples
+pub mod PlainExamples
 pub mod Claims

@@ -48,4 +48,5 @@ fn main() {
     run_file(b"explain", Operation::Explain);
     run_file(b"setting", Operation::Setting);
     run_file(b"from_solver", Operation::FromSolver);
+    run_file(b"find_plain", Operation::FindPlain);
 }

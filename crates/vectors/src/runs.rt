@@ -30,6 +30,7 @@ pub enum Operation {
     Explain,
     Setting,
     FromSolver,
+    FindPlain,
 }
 
 fn read(sheet: &[u8]) {
@@ -49,7 +50,7 @@ fn judge(sheet: &[u8], case: &[u8]) {
     say(b"\n");
 }
 
-// What Write, Read back and From TPTP answer and leave; From solver too, where it writes a case or is refused.
+// What Write, Read back and From TPTP answer and leave; From solver and Find plain too, where they write a case or are refused.
 fn text(answer: WriteAnswer, output: &[u8]) {
     match answer {
         WriteAnswer::Written(n) => {
@@ -104,6 +105,28 @@ fn search(answer: FindAnswer, work: &[u32], output: &[u8]) {
 fn find(sheet: &[u8], low: u64, high: u64, work: &mut [u32], output: &mut [u8]) {
     let answer = nesskettle::find(sheet, low, high, work, output);
     search(answer, work, output);
+}
+
+// What Find plain answers and leaves.
+fn plain(answer: FindAnswer, output: &[u8]) {
+    match answer {
+        FindAnswer::Found(size, n) => {
+            say(b" found");
+            tell(size);
+            text(WriteAnswer::Written(n), output);
+        }
+        FindAnswer::Nothing(settled) => {
+            nothing(settled);
+            rest(output, 0);
+            say(b"\n");
+        }
+        FindAnswer::Refused(r) => text(WriteAnswer::Refused(r), output),
+    }
+}
+
+fn find_plain(sheet: &[u8], low: u64, high: u64, output: &mut [u8]) {
+    let answer = nesskettle::find_plain(sheet, low, high, output);
+    plain(answer, output);
 }
 
 fn from_tptp(clauses: &[u8], output: &mut [u8]) {
@@ -168,6 +191,7 @@ fn name(operation: Operation) {
         Operation::Explain => say(b"explain"),
         Operation::Setting => say(b"setting"),
         Operation::FromSolver => say(b"from_solver"),
+        Operation::FindPlain => say(b"find_plain"),
     }
 }
 
@@ -191,6 +215,7 @@ fn answer(
         Operation::Explain => explain(sheet, beside),
         Operation::Setting => setting(sheet, beside, output),
         Operation::FromSolver => from_solver(sheet, x.low, beside, output),
+        Operation::FindPlain => find_plain(sheet, x.low, x.high, output),
     }
 }
 

@@ -1,4 +1,5 @@
-//! The answers of the operations: read, judge, explain, write, read back, setting, find, from TPTP, and from solver.
+//! The answers of the operations: read, judge, explain, write, read back, setting, find, find plain, from TPTP,
+//! and from solver.
 //!
 //! Each call answers a result or a [`Refusal`]. A refusal has the number that the specification gives it.
 
@@ -46,11 +47,13 @@ pub enum Reason {
     BadAnswer = 18,
     /// 19: the case of a solver's answer is no model of the sheet.
     NoModel = 19,
+    /// 20: a case of size high has over 64 cells, the most that the plain search takes.
+    TooManyCells = 20,
 }
 
 impl Reason {
     /// Every reason, in order of its number.
-    pub const ALL: [Reason; 19] = [
+    pub const ALL: [Reason; 20] = [
         Reason::SheetTooLong,
         Reason::Layout,
         Reason::OverLimit,
@@ -70,6 +73,7 @@ impl Reason {
         Reason::BeyondSheets,
         Reason::BadAnswer,
         Reason::NoModel,
+        Reason::TooManyCells,
     ];
 
     /// The specification's number of this reason.
@@ -129,6 +133,10 @@ impl fmt::Display for Reason {
                  size once"
             }
             Reason::NoModel => "the solver's answer stands for a case that is no model of the sheet",
+            Reason::TooManyCells => {
+                "a case of size high has more than 64 cells, and the plain search takes at most 64: take a lower high, or \
+                 find without plain"
+            }
         })
     }
 }
@@ -238,6 +246,7 @@ pub struct Operations {
     pub read_back: fn(&[u8], u64, &[u8], &mut [u8]) -> Answer<usize>,
     pub setting: fn(&[u8], &[u8], &mut [u8]) -> Answer<usize>,
     pub find: fn(&[u8], u64, u64, &mut [u32], &mut [u8]) -> Answer<Search>,
+    pub find_plain: fn(&[u8], u64, u64, &mut [u8]) -> Answer<Search>,
     pub from_tptp: fn(&[u8], &mut [u8]) -> Answer<usize>,
     pub from_solver: fn(&[u8], u64, &[u8], &mut [u8]) -> Answer<SolverAnswer>,
 }
@@ -253,7 +262,7 @@ mod tests {
             assert_eq!(Reason::from_number(reason.number()), Some(reason));
         }
         assert_eq!(Reason::from_number(0), None);
-        assert_eq!(Reason::from_number(20), None);
+        assert_eq!(Reason::from_number(21), None);
     }
 
     #[test]

@@ -8,6 +8,7 @@ mod flattening;
 mod grounding;
 mod interpretation;
 mod lines;
+mod plain;
 mod problem;
 mod program;
 mod search;
@@ -30,6 +31,8 @@ use solver::Claim;
 pub const MAX_SIZE: u64 = 8;
 /// The most instances, before dropping.
 pub const MAX_INSTANCES: u64 = 1_000_000;
+/// The most cells that the plain search fills.
+pub const MAX_PLAIN_CELLS: usize = 64;
 
 /// The calls below as one value.
 pub const OPERATIONS: Operations = Operations {
@@ -41,6 +44,7 @@ pub const OPERATIONS: Operations = Operations {
     read_back,
     setting,
     find,
+    find_plain,
     from_tptp,
     from_solver,
 };
@@ -112,10 +116,7 @@ pub fn find_within(
     allowance: u64,
 ) -> Result<Option<Search>, Refusal> {
     let problem = Problem::read(sheet)?;
-    if low == 0 || low > high {
-        return Err(refused(Reason::BadSize));
-    }
-    let top = checked_size(high)?;
+    let top = checked_range(low, high)?;
     let counted = Counted::new(&problem, top);
     few_instances(&counted)?;
     if (work.len() as u64) < counted.work() {
@@ -145,6 +146,45 @@ pub fn find_within(
     Ok(Some(Search::None {
         settled: settled(&problem, low, high),
     }))
+}
+
+/// The same search as on a whiteboard: it fills cells one by one and judges full cases.
+pub fn find_plain(sheet: &[u8], low: u64, high: u64, out: &mut [u8]) -> Result<Search, Refusal> {
+    let search = find_plain_within(sheet, low, high, out, u64::MAX)?;
+    Ok(search.expect("no search judges so many cases"))
+}
+
+/// As [`find_plain`], but a search that judges more cases than allowed ends with nothing, and has changed nothing.
+pub fn find_plain_within(
+    sheet: &[u8],
+    low: u64,
+    high: u64,
+    out: &mut [u8],
+    allowance: u64,
+) -> Result<Option<Search>, Refusal> {
+    let problem = Problem::read(sheet)?;
+    let top = checked_range(low, high)?;
+    if plain::cell_values(&problem, top).len() > MAX_PLAIN_CELLS {
+        return Err(refused(Reason::TooManyCells));
+    }
+    let longest = interpretation::text_length(&problem, top);
+    if out.len() < longest {
+        return Err(short(Reason::OutputTooShort, longest as u64));
+    }
+    let mut left = allowance;
+    for size in low as usize..=top {
+        match plain::least_model(&problem, size, &mut left) {
+            plain::Outcome::Stopped => return Ok(None),
+            plain::Outcome::None => {}
+            plain::Outcome::Found(case) => {
+                let length = put(&case.text(&problem), out)?;
+                let size = size as u64;
+                return Ok(Some(Search::Found { size, length }));
+            }
+        }
+    }
+    let settled = settled(&problem, low, high);
+    Ok(Some(Search::None { settled }))
 }
 
 /// Reads TPTP clauses into a sheet and writes it; the sheet's length.
@@ -188,6 +228,14 @@ pub fn instances_and_variables(sheet: &[u8], size: u64) -> Result<(u64, u64), Re
 /// The sizes from 1 on were searched, no function has arguments, and high is at least the number of constants.
 fn settled(problem: &Problem, low: u64, high: u64) -> bool {
     low == 1 && problem.functions.iter().all(|f| f.arity == 0) && high >= problem.functions.len() as u64
+}
+
+/// The larger of two sizes that are 1 to 8 and in order.
+fn checked_range(low: u64, high: u64) -> Result<usize, Refusal> {
+    if low == 0 || low > high {
+        return Err(refused(Reason::BadSize));
+    }
+    checked_size(high)
 }
 
 fn checked_size(size: u64) -> Result<usize, Refusal> {

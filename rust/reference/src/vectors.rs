@@ -130,6 +130,7 @@ pub fn run(operations: &Operations, vector: &Vector) -> Result<(), String> {
             .map(|n| format!("length={n}")),
         "setting" => (operations.setting)(sheet, given.bytes("case"), &mut out).map(|n| format!("length={n}")),
         "find" => (operations.find)(sheet, given.number("low"), given.number("high"), &mut work, &mut out).map(found),
+        "find-plain" => (operations.find_plain)(sheet, given.number("low"), given.number("high"), &mut out).map(found),
         "from-tptp" => (operations.from_tptp)(given.bytes("text"), &mut out).map(|n| format!("length={n}")),
         "from-solver" => {
             (operations.from_solver)(sheet, given.number("size"), given.bytes("text"), &mut out).map(from_solver)

@@ -68,6 +68,8 @@ pub const LONG_CLAUSES: Style = Style {
 const KEYS: [&str; 12] = [
     "sheet", "funs", "fun", "preds", "pred", "clauses", "clause", "case", "size", "low", "high", "a",
 ];
+/// How many functions a sheet can have, and how many predicates.
+const MOST_SYMBOLS: usize = 12;
 const LETTERS: [&str; 8] = ["A", "B", "C", "D", "E", "F", "G", "H"];
 
 impl Draft {
@@ -83,10 +85,36 @@ impl Draft {
             let symbol = draft.symbol(random, style);
             draft.predicates.push(symbol);
         }
-        for _ in 0..random.between(0, style.clauses) {
-            draft.clauses.push(draft.clause(random, style));
-        }
+        draft.add_clauses(random, style);
         draft
+    }
+
+    /// A draft whose tables have exactly so many cells at a size.
+    pub fn with_cells(random: &mut Random, style: Style, size: usize, cells: usize) -> Draft {
+        let mut draft = Draft::default();
+        let mut left = cells;
+        while left > 0 {
+            let arity = random.between(0, style.arity);
+            let kind = random.below(2);
+            let full = [draft.functions.len(), draft.predicates.len()][kind] == MOST_SYMBOLS;
+            if full {
+                return Draft::with_cells(random, style, size, cells);
+            }
+            let table = size.pow(arity as u32);
+            if table <= left {
+                left -= table;
+                let symbol = draft.named(random, arity);
+                [&mut draft.functions, &mut draft.predicates][kind].push(symbol);
+            }
+        }
+        draft.add_clauses(random, style);
+        draft
+    }
+
+    fn add_clauses(&mut self, random: &mut Random, style: Style) {
+        for _ in 0..random.between(0, style.clauses) {
+            self.clauses.push(self.clause(random, style));
+        }
     }
 
     /// A draft of one clause with about 64 words, 16 literals and 10 variables.
@@ -148,7 +176,7 @@ impl Draft {
                 name: format!("{letter}{i}"),
                 arity: 3,
             };
-            (0..12).map(symbol).collect()
+            (0..MOST_SYMBOLS).map(symbol).collect()
         };
         Draft {
             functions: symbols('f'),
@@ -157,9 +185,13 @@ impl Draft {
         }
     }
 
-    /// A symbol with a name that is not taken.
     fn symbol(&self, random: &mut Random, style: Style) -> Symbol {
         let arity = random.between(0, style.arity).min(random.between(0, style.arity + 1));
+        self.named(random, arity)
+    }
+
+    /// A symbol with a name that is not taken.
+    fn named(&self, random: &mut Random, arity: usize) -> Symbol {
         loop {
             let name = name(random);
             if self.symbols().all(|s| s.name != name) {

@@ -4,6 +4,7 @@ pub mod buffers;
 pub mod damage;
 pub mod dimacs;
 pub mod draft;
+pub mod expected;
 pub mod models;
 pub mod places;
 pub mod problems;

@@ -3,11 +3,12 @@
 //! Inputs are generated from fixed seeds. Each test also counts what came out, so that a generator that no longer reaches
 //! a result or a refusal fails.
 
-use nesskettle::raw::{self, ExplainAnswer, FindAnswer, JudgeAnswer, ReadAnswer, WriteAnswer};
-use nesskettle_reference::{self as reference, Refusal, Search};
+use nesskettle::raw::{self, ExplainAnswer, JudgeAnswer, ReadAnswer, WriteAnswer};
+use nesskettle_reference::{self as reference, Refusal};
 use nesskettle_trials::buffers::{length_around, Lent};
 use nesskettle_trials::damage::damaged;
 use nesskettle_trials::draft::{long_sheet, Draft, Style, BROAD, LIMITS, LONG_CLAUSES, SMALL};
+use nesskettle_trials::expected;
 use nesskettle_trials::models::{small_model, CHOICES};
 use nesskettle_trials::places::pointed_at;
 use nesskettle_trials::problems::{self, MILLION};
@@ -269,48 +270,12 @@ fn check_find_within(
 ) {
     let mut should = vec![0; output_length];
     let mut scratch = vec![0; work_length];
-    let nothing = FindAnswer {
-        outcome: 0,
-        reason: 0,
-        line: 0,
-        column: 0,
-        size: 0,
-        length: 0,
-        settled: 0,
+    let within = reference::find_within(sheet, low, high, &mut scratch, &mut should, choices);
+    let Some(search) = within.transpose() else {
+        return tally.add("left out", 0);
     };
-    let (expected, front, zeros) = match reference::find_within(sheet, low, high, &mut scratch, &mut should, choices) {
-        Err(refusal) => (
-            FindAnswer {
-                reason: refusal.reason.number(),
-                line: refusal.line,
-                column: refusal.column,
-                length: refusal.needed,
-                ..nothing
-            },
-            0,
-            0,
-        ),
-        Ok(None) => return tally.add("left out", 0),
-        Ok(Some(Search::Found { size, length })) => (
-            FindAnswer {
-                outcome: 1,
-                size,
-                length: length as u64,
-                ..nothing
-            },
-            length,
-            work_length,
-        ),
-        Ok(Some(Search::None { settled })) => (
-            FindAnswer {
-                outcome: 2,
-                settled: settled as u32,
-                ..nothing
-            },
-            0,
-            work_length,
-        ),
-    };
+    let zeros = if search.is_ok() { work_length } else { 0 };
+    let (expected, front) = expected::search(search);
     let lent = sheet.to_vec();
     let mut work = Lent::numbers(work_length);
     let mut output = Lent::bytes(output_length);
@@ -340,12 +305,7 @@ fn check_find_within(
         call()
     );
     assert!(work.holds(&vec![0; zeros]), "lent numbers: {}", call());
-    let outcome = match (answer.outcome, answer.settled) {
-        (1, _) => "found",
-        (_, 1) => "none, settled",
-        _ => "none",
-    };
-    tally.add(outcome, answer.reason);
+    tally.add(expected::outcome(&answer), answer.reason);
 }
 
 /// A draft in one of the styles.

@@ -1,6 +1,6 @@
 //! The specification's examples, executed on the proved library.
 
-use nesskettle::{find, from_solver, judge, read, read_back, setting, write};
+use nesskettle::{find, find_plain, from_solver, judge, read, read_back, setting, write};
 use nesskettle::{Counts, Reason, Refusal, Search, SolverAnswer};
 use nesskettle_reference::sheet_of;
 use nesskettle_trials::problems::{sheet, GROUP_CASE};
@@ -32,7 +32,17 @@ fn clauses_at(sheet: &[u8], size: u64) -> String {
 fn found(sheet: &[u8], low: u64, high: u64) -> Result<String, bool> {
     let mut work = vec![7; 2_000_000];
     let mut output = vec![0; 25_000];
-    match find(sheet, low, high, &mut work, &mut output).expect("it is searched") {
+    model_or_mark(find(sheet, low, high, &mut work, &mut output), &output)
+}
+
+/// The same by the plain search.
+fn found_plain(sheet: &[u8], low: u64, high: u64) -> Result<String, bool> {
+    let mut output = vec![0; 1_000];
+    model_or_mark(find_plain(sheet, low, high, &mut output), &output)
+}
+
+fn model_or_mark(search: Result<Search, Refusal>, output: &[u8]) -> Result<String, bool> {
+    match search.expect("it is searched") {
         Search::Found { length, .. } => Ok(String::from_utf8_lossy(&output[..length]).into_owned()),
         Search::None { settled } => Err(settled),
     }
@@ -187,6 +197,52 @@ fn least_models() {
     assert_eq!(found(&moved, 3, 3).as_deref(), Ok("case=1\nsize=3\nf=2 1 1\n"));
     let single = sheet_of(&["a/0"], &["p/1"], &["+ p a", "- p A + = A a"]);
     assert_eq!(found(&single, 2, 2).as_deref(), Ok("case=1\nsize=2\na=1\np=1 0\n"));
+}
+
+/// Cells in order, the least value first: the specification's examples again, with the marks.
+#[test]
+fn plain_searches() {
+    let constants = sheet("two-constants");
+    assert_eq!(found_plain(constants, 1, 1), Err(false));
+    assert_eq!(
+        found_plain(constants, 1, 3).as_deref(),
+        Ok("case=1\nsize=2\na=1\nb=2\n")
+    );
+    let moved = sheet_of(&["f/1"], &[], &["- = f A A"]);
+    assert_eq!(found_plain(&moved, 1, 1), Err(false));
+    assert_eq!(found_plain(&moved, 1, 2).as_deref(), Ok("case=1\nsize=2\nf=2 1\n"));
+    assert_eq!(found_plain(&moved, 3, 3).as_deref(), Ok("case=1\nsize=3\nf=2 1 1\n"));
+    let single = sheet_of(&["a/0"], &["p/1"], &["+ p a", "- p A + = A a"]);
+    assert_eq!(
+        found_plain(&single, 2, 2).as_deref(),
+        Ok("case=1\nsize=2\na=1\np=1 0\n")
+    );
+    assert_eq!(found_plain(&sheet_of(&[], &[], &[""]), 1, 8), Err(true));
+    assert_eq!(found_plain(&sheet_of(&[], &[], &[""]), 2, 8), Err(false));
+    assert_eq!(
+        found_plain(&sheet_of(&[], &[], &[]), 3, 8).as_deref(),
+        Ok("case=1\nsize=3\n")
+    );
+}
+
+/// 64 cells are taken, 65 are refused: after 8, before 11, and by high alone.
+#[test]
+fn limits_of_the_plain_search() {
+    let taken = sheet_of(&[], &["r/2"], &[]);
+    let mut output = [7; 144];
+    assert_eq!(
+        find_plain(&taken, 8, 8, &mut output),
+        Ok(Search::Found { size: 8, length: 144 })
+    );
+    let table = ["r=0", &" 0".repeat(63), "\n"].concat();
+    assert_eq!(output[14..], *table.as_bytes());
+    let refused_cells = sheet_of(&["a/0"], &["r/2"], &[]);
+    let mut reason = |low: u64, high: u64| find_plain(&refused_cells, low, high, &mut output[..1]);
+    assert_eq!(reason(1, 8), refused(Reason::TooManyCells, NO_PLACE));
+    assert_eq!(reason(0, 8), refused(Reason::BadSize, NO_PLACE));
+    assert_eq!(reason(2, 1), refused(Reason::BadSize, NO_PLACE));
+    assert_eq!(reason(1, 7).expect_err("a byte is no room").needed, 118);
+    assert_eq!(output[14..], *table.as_bytes());
 }
 
 #[test]

@@ -1,8 +1,8 @@
 //! Every call does with the stack that the top README promises, also on the deepest terms that a clause of 64 words has, with
 //! the most cells, and on TPTP terms of any depth: 192 kB, and 256 kB for From solver.
 
-use nesskettle::{explain, find, from_solver, from_tptp, judge, read, read_back, setting, write};
-use nesskettle::{FirstFailure, Reason, SolverAnswer};
+use nesskettle::{explain, find, find_plain, from_solver, from_tptp, judge, read, read_back, setting, write};
+use nesskettle::{FirstFailure, Reason, Search, SolverAnswer};
 use nesskettle_reference::sheet_of;
 use nesskettle_trials::draft::Draft;
 use nesskettle_trials::random::Random;
@@ -53,6 +53,10 @@ fn the_deepest_terms_are_refused() {
             find(&sheet, 1, 2, &mut work, &mut output).unwrap_err().reason,
             Reason::ClauseTooLarge
         );
+        assert_eq!(
+            find_plain(&sheet, 1, 2, &mut output).unwrap_err().reason,
+            Reason::ClauseTooLarge
+        );
     });
     let sheet = nested(61);
     on_a_stack(STACK_OF_FROM_SOLVER, move || {
@@ -74,6 +78,7 @@ fn the_deepest_terms_are_taken() {
         assert!(write(&sheet, 2, &mut output).is_ok());
         assert!(read_back(&sheet, 1, &[1, 1], &mut output).is_ok());
         assert!(find(&sheet, 1, 2, &mut work, &mut output).is_ok());
+        assert!(find_plain(&sheet, 1, 2, &mut output).is_ok());
     });
     let sheet = nested(9);
     on_a_stack(STACK_OF_FROM_SOLVER, move || {
@@ -101,6 +106,21 @@ fn the_most_cells_are_taken() {
             );
             assert_eq!(bytes[..length], case);
         });
+    });
+}
+
+/// 64 cells filled one by one, and clauses of many letters and of nested functions judged each time.
+#[test]
+fn the_most_cells_of_a_plain_search_are_filled() {
+    let deep = format!("+ v {}A", "f ".repeat(9));
+    let many = "- p A - p f B - q C - r D - s E - t f F";
+    let predicates = ["p/1", "q/1", "r/1", "s/1", "t/1", "u/1", "v/1"];
+    let sheet = sheet_of(&["f/1"], &predicates, &[&deep, many]);
+    on_a_small_stack(move || {
+        let mut output = [0; 158];
+        let found = Search::Found { size: 8, length: 158 };
+        assert_eq!(find_plain(&sheet, 8, 8, &mut output), Ok(found));
+        assert!(output.ends_with(b"v=1 0 0 0 0 0 0 0\n"));
     });
 }
 

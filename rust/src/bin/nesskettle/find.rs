@@ -2,9 +2,9 @@
 
 use crate::options::Sheet;
 use crate::report::{Failure, File};
-use crate::room::Room;
+use crate::room::{Engine, Room};
 use crate::{print, read_sheet, szs, tables, NO, YES};
-use nesskettle::{Refusal, Search};
+use nesskettle::{Reason, Refusal, Search};
 use std::io::IsTerminal;
 use std::time::Instant;
 
@@ -19,8 +19,8 @@ pub enum Layout {
     Szs,
 }
 
-pub fn find(sheet: &Sheet, low: u64, high: u64, layout: Layout) -> Result<u8, Failure> {
-    let searched = read_sheet(sheet).and_then(|file| search(file, low, high));
+pub fn find(sheet: &Sheet, low: u64, high: u64, engine: Engine, layout: Layout) -> Result<u8, Failure> {
+    let searched = read_sheet(sheet).and_then(|file| search(file, low, high, engine));
     if let (Layout::Szs, Err(failure)) = (layout, &searched) {
         print(szs::failed(&sheet.path, failure).as_bytes())?;
     }
@@ -48,8 +48,12 @@ pub fn find(sheet: &Sheet, low: u64, high: u64, layout: Layout) -> Result<u8, Fa
 }
 
 /// The sheet, what the search came to, and the room in which a case stands.
-fn search(sheet: File, low: u64, high: u64) -> Result<(File, Search, Room), Failure> {
-    let mut room = Room::new(&sheet.bytes, low, high).map_err(|r| sheet.refused(r))?;
+fn search(sheet: File, low: u64, high: u64, engine: Engine) -> Result<(File, Search, Room), Failure> {
+    let room = Room::new(engine, &sheet.bytes, low, high);
+    let mut room = room.map_err(|r| match r.reason {
+        Reason::TooManyCells => sheet.refused(r).with(&fewer_cells(&sheet.bytes, low, high)),
+        _ => sheet.refused(r),
+    })?;
     let search = if std::io::stderr().is_terminal() {
         find_by_size
     } else {
@@ -57,6 +61,15 @@ fn search(sheet: File, low: u64, high: u64) -> Result<(File, Search, Room), Fail
     };
     let search = search(&mut room, &sheet.bytes, low, high).map_err(|r| sheet.refused(r))?;
     Ok((sheet, search, room))
+}
+
+/// What to do about too many cells. The library is asked which high it takes.
+fn fewer_cells(sheet: &[u8], low: u64, high: u64) -> String {
+    let is_taken = |&high: &u64| Room::new(Engine::Plain, sheet, low, high).is_ok();
+    match (low..high).rev().find(is_taken) {
+        Some(high) => format!("--plain takes this sheet up to --high {high}"),
+        None => format!("--plain does not take this sheet at size {low}"),
+    }
 }
 
 /// The search size by size, told on standard error. A size's model is the whole search's answer where all sizes before

@@ -63,8 +63,9 @@ fn run(command: Command) -> Result<u8, Failure> {
             sheet,
             low,
             high,
+            engine,
             layout,
-        } => find::find(&sheet, low, high, layout),
+        } => find::find(&sheet, low, high, engine, layout),
     }
 }
 

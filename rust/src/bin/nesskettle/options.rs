@@ -2,11 +2,12 @@
 
 use crate::find::Layout;
 use crate::report::Failure;
+use crate::room::Engine;
 
 pub const HELP: &str = "\
 nesskettle: a finite model finder. Every answer is the proved library's.
 
-  nesskettle find SHEET [--low N] [--high N] [--tables or --szs]
+  nesskettle find SHEET [--low N] [--high N] [--plain] [--tables or --szs]
       the least model at the smallest size from low to high (1 and 8 if not given):
       prints answer=found and the case, or answer=none and settled=yes (there is no
       model of any size) or settled=no (none of the sizes that were searched)
@@ -57,15 +58,22 @@ feed. Lines that begin with c are passed over.
 ones, and three arguments make one table for each first argument. A predicate's
 table has 1 where it holds and . where it does not.
 
+--plain searches as one would on a whiteboard: it fills the cells of the tables in
+order, the least value first, and looks at the clauses once all are filled. Where
+both take a sheet, it answers what find answers without it. It goes together with
+every other option of find; other commands do not search and take no --plain. A
+case of size --high may have at most 64 cells (refusal 20), and time grows with the
+number of cases: at size N a cell of a function has N values, one of a predicate 2.
+
 None is settled where low is 1, no function takes an argument, and high is at
 least the number of constants.
 
 --szs prints what TPTP's tools print. `% SZS status`, then Satisfiable, and the
 model as a finite interpretation (fi_domain, fi_functors, fi_predicates) in which
 \"1\", \"2\", .. are the elements; Unsatisfiable where none is settled; else GaveUp,
-also where a limit is in the way (refusals 9 and 17). A file that is not taken for
-another reason is InputError, a wrong --low or --high UsageError; the words stand
-on standard error as always.
+also where a limit is in the way (refusals 9, 17 and 20). A file that is not taken
+for another reason is InputError, a wrong --low or --high UsageError; the words
+stand on standard error as always.
 
 Where standard error is a terminal, find tells there which size it is at.
 
@@ -128,6 +136,7 @@ pub enum Command {
         sheet: Sheet,
         low: u64,
         high: u64,
+        engine: Engine,
         layout: Layout,
     },
 }
@@ -200,12 +209,14 @@ pub fn parse(arguments: impl Iterator<Item = String>) -> Result<Command, Failure
         "find" => {
             let low = rest.number("--low")?.unwrap_or(1);
             let high = rest.number("--high")?.unwrap_or(8);
+            let engine = rest.engine();
             let layout = rest.layout()?;
             let [sheet] = rest.files("SHEET")?;
             Ok(Command::Find {
                 sheet: sheet_in(sheet),
                 low,
                 high,
+                engine,
                 layout,
             })
         }
@@ -241,6 +252,15 @@ impl Rest {
 
     fn size(&mut self) -> Result<u64, Failure> {
         self.number("--size")?.ok_or(wrong("--size N is needed"))
+    }
+
+    /// Takes the flag of the plain search out.
+    fn engine(&mut self) -> Engine {
+        if self.flag("--plain") {
+            Engine::Plain
+        } else {
+            Engine::Clauses
+        }
     }
 
     /// Takes the flags of a layout out.

@@ -20,6 +20,12 @@ impl Failure {
     pub fn new(words: String) -> Failure {
         Failure { words, reason: None }
     }
+
+    /// With a line more.
+    pub fn with(self, line: &str) -> Failure {
+        let words = format!("{}\n  {line}", self.words);
+        Failure { words, ..self }
+    }
 }
 
 impl fmt::Display for Failure {

@@ -1,4 +1,4 @@
-//! Buffers as long as a call says that it needs.
+//! Buffers as long as a call says that it needs, and the searches that are lent them.
 
 use nesskettle::{Reason, Refusal, Search};
 
@@ -17,19 +17,39 @@ pub fn text(mut call: impl FnMut(&mut [u8]) -> Result<usize, Refusal>) -> Result
     }
 }
 
+/// Which of the two searches.
+#[derive(Clone, Copy, Debug, PartialEq, Eq)]
+pub enum Engine {
+    Clauses,
+    Plain,
+}
+
+impl Engine {
+    fn find(self, sheet: &[u8], low: u64, high: u64, work: &mut [u32], output: &mut [u8]) -> Result<Search, Refusal> {
+        match self {
+            Engine::Clauses => nesskettle::find(sheet, low, high, work, output),
+            Engine::Plain => nesskettle::find_plain(sheet, low, high, output),
+        }
+    }
+}
+
 /// Work area and output of a search.
-#[derive(Default)]
 pub struct Room {
+    engine: Engine,
     work: Vec<u32>,
     pub output: Vec<u8>,
 }
 
 impl Room {
     /// The room that a search up to `high` needs. No size is searched: each call here lends too little.
-    pub fn new(sheet: &[u8], low: u64, high: u64) -> Result<Room, Refusal> {
-        let mut room = Room::default();
+    pub fn new(engine: Engine, sheet: &[u8], low: u64, high: u64) -> Result<Room, Refusal> {
+        let mut room = Room {
+            engine,
+            work: Vec::new(),
+            output: Vec::new(),
+        };
         loop {
-            let refusal = match nesskettle::find(sheet, low, high, &mut room.work, &mut []) {
+            let refusal = match engine.find(sheet, low, high, &mut room.work, &mut []) {
                 Err(refusal) => refusal,
                 Ok(_) => return Ok(room),
             };
@@ -45,6 +65,6 @@ impl Room {
     }
 
     pub fn find(&mut self, sheet: &[u8], low: u64, high: u64) -> Result<Search, Refusal> {
-        nesskettle::find(sheet, low, high, &mut self.work, &mut self.output)
+        self.engine.find(sheet, low, high, &mut self.work, &mut self.output)
     }
 }

@@ -24,6 +24,7 @@ fn main() {
     write(&bench);
     read_back(&bench);
     find(&bench);
+    find_plain(&bench);
     from_tptp(&bench);
 }
 
@@ -199,6 +200,28 @@ fn find(bench: &Bench) {
         };
         bench.row(&format!("find, {name} at size {size}, {outcome}"), times, None, |o| {
             assert_eq!((o.find)(sheet, size, size, &mut work, &mut output), expected);
+        });
+    }
+}
+
+/// Both searches on the same small sheets that have no model: one makes clauses, the other tries so many cases.
+fn find_plain(bench: &Bench) {
+    for (name, size, cases) in [
+        ("serial-order", 3, 13_824),
+        ("pigeonhole", 4, 1_024),
+        ("pigeonhole", 6, 279_936),
+    ] {
+        let sheet = sheet(name);
+        let (work, output) = reference::needed(sheet, size).expect("it is a sheet");
+        let mut work = vec![0; work as usize];
+        let mut output = vec![0; output as usize];
+        let none = Ok(Search::None { settled: false });
+        bench.row(&format!("find, {name} at size {size}, none"), 10, None, |o| {
+            assert_eq!((o.find)(sheet, size, size, &mut work, &mut output), none);
+        });
+        let amount = Some((cases as f64 / 1e3, "thousand cases"));
+        bench.row(&format!("find plain, {name} at size {size}, none"), 1, amount, |o| {
+            assert_eq!((o.find_plain)(sheet, size, size, &mut output), none);
         });
     }
 }

@@ -82,6 +82,10 @@ pub fn finding(sheet: impl AsRef<[u8]>, low: u64, high: u64, work: u64, output: 
     }
 }
 
+pub fn finding_plain(sheet: impl AsRef<[u8]>, low: u64, high: u64, output: u64) -> Call {
+    finding(sheet, low, high, 0, output)
+}
+
 pub fn importing(clauses: impl AsRef<[u8]>, output: u64) -> Call {
     Call {
         output,

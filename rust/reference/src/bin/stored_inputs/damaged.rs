@@ -1,6 +1,8 @@
 //! Damaged inputs: each refusal several times, several faults at once, bytes at the edges of what is allowed.
 
-use crate::calls::{answered, file, finding, importing, judging, reading, reading_back, setting_of, writing, Call};
+use crate::calls::{
+    answered, file, finding, finding_plain, importing, judging, reading, reading_back, setting_of, writing, Call,
+};
 use crate::examples::{full, two_constants};
 use nesskettle_reference::sheet_of;
 
@@ -27,6 +29,7 @@ pub fn of(operation: &str) -> Vec<Call> {
         "from_solver" => answers(),
         "from_tptp" => clauses().iter().map(|text| importing(text, 300)).collect(),
         "find" => one_of_each().into_iter().map(|s| finding(s, 0, 9, 3, 10)).collect(),
+        "find_plain" => one_of_each().into_iter().map(|s| finding_plain(s, 0, 9, 10)).collect(),
         other => panic!("no operation {other}"),
     }
 }

@@ -2,10 +2,10 @@
 
 use crate::calls::Call;
 use crate::calls::{
-    answered, file, finding, importing, judging, reading, reading_back, searching, setting_of, writing,
+    answered, file, finding, finding_plain, importing, judging, reading, reading_back, searching, setting_of, writing,
 };
 use nesskettle_reference::sheet_of;
-use nesskettle_reference::{from_tptp, instances_and_variables, needed, setting, write};
+use nesskettle_reference::{find_plain_within, from_tptp, instances_and_variables, needed, setting, write};
 
 pub fn of(operation: &str) -> Vec<Call> {
     match operation {
@@ -14,6 +14,7 @@ pub fn of(operation: &str) -> Vec<Call> {
         "write" => writes(),
         "read_back" => read_backs(),
         "find" => finds(),
+        "find_plain" => plain_finds(),
         "from_tptp" => imports(),
         "setting" => settings(),
         "from_solver" => answers(),
@@ -524,6 +525,68 @@ fn harder_problems() -> Vec<Call> {
         .iter()
         .map(|(name, low, high)| searching(file(&format!("{name}.sheet")), *low, *high));
     calls.collect()
+}
+
+/// Find's inputs, but those on which the plain search would try many cases, and the limit of cells from both sides.
+fn plain_finds() -> Vec<Call> {
+    const MOST_CASES: u64 = 20_000;
+    let as_plain = |call: Call| finding_plain(call.sheet, call.low, call.high, call.output);
+    let is_quick = |call: &Call| {
+        let mut output = vec![0; call.output as usize];
+        let within = find_plain_within(&call.sheet, call.low, call.high, &mut output, MOST_CASES);
+        !matches!(within, Ok(None))
+    };
+    let mut calls: Vec<Call> = finds().into_iter().map(as_plain).filter(is_quick).collect();
+    calls.extend(limits_of_cells());
+    calls
+}
+
+/// 64 cells are taken, at each size that can have them, and one more is refused; with the output that a case needs, one byte
+/// less, and more.
+fn limits_of_cells() -> Vec<Call> {
+    let unary_first: Vec<String> = (0..12).map(|n| format!("c{n}/{}", usize::from(n < 4))).collect();
+    let unary_first: Vec<&str> = unary_first.iter().map(String::as_str).collect();
+    let shapes: [(u64, &[&str], &[&str], &str); 9] = [
+        (
+            2,
+            &["g/3", "h/3"],
+            &["t/3", "u/3", "v/3", "w/3", "x/3", "y/3"],
+            "+ y A A B",
+        ),
+        (3, &["f/3"], &["o/0", "t/3", "r/2"], "+ r A A"),
+        (4, &[], &["t/3"], "- t A B C + = A B"),
+        (4, &["f/2", "m/2"], &["r/2", "p/1", "q/1", "s/1", "u/1"], "+ u A - q A"),
+        (5, &["a/0", "b/0", "f/2"], &["o/0", "r/2", "n/0", "p/1", "q/1"], "+ q A"),
+        (
+            6,
+            &["a/0", "b/0", "f/2", "g/1", "c/0"],
+            &["p/1", "q/1", "o/0", "s/1"],
+            "+ s A",
+        ),
+        (7, &["f/2"], &["p/1", "o/0", "q/1"], "+ q A"),
+        (8, &[], &["r/2"], "- r A A"),
+        (8, &unary_first, &["p/1", "q/1", "r/1"], "+ r A"),
+    ];
+    let mut calls = Vec::new();
+    for (high, functions, predicates, clause) in shapes {
+        for more in [&[][..], &["more/0"]] {
+            let sheet = sheet_of(functions, &[more, predicates].concat(), &[clause]);
+            let (_, needed) = needed(&sheet, high).expect("the sheet is taken");
+            calls.extend([needed, needed - 1, needed + 9].map(|output| finding_plain(&sheet, high, high, output)));
+            calls.push(finding_plain(&sheet, 1, high, needed));
+        }
+    }
+    let cells = sheet_of(&["a/0"], &["r/2"], &["- r A A"]);
+    calls.extend([
+        // 8 before 20 before 11, and 20 though a smaller size has a model
+        finding_plain(&cells, 0, 8, 0),
+        finding_plain(&cells, 1, 9, 0),
+        finding_plain(&cells, 3, 2, 0),
+        finding_plain(&cells, 1, 8, 0),
+        finding_plain(&cells, 1, 7, 0),
+        finding_plain(&cells, 1, 7, 200),
+    ]);
+    calls
 }
 
 /// TPTP clauses that are taken, most with just the output that they need, one byte less, and more.

@@ -12,7 +12,7 @@ mod examples;
 
 use calls::Call;
 use nesskettle_reference::vectors::{self, patterned_bytes, patterned_numbers};
-use nesskettle_reference::{explain, find, from_solver, from_tptp, judge, read, read_back, setting, write};
+use nesskettle_reference::{explain, find, find_plain, from_solver, from_tptp, judge, read, read_back, setting, write};
 use nesskettle_reference::{FirstFailure, Refusal, Search, SolverAnswer, OPERATIONS};
 use std::path::Path;
 use std::{fs, io};
@@ -26,7 +26,7 @@ const MOST_STORED: usize = 100;
 const MOST_SHEET: usize = 700;
 
 /// The files of inputs, in the order in which the program takes them.
-const OPERATIONS_IN_ORDER: [&str; 9] = [
+const OPERATIONS_IN_ORDER: [&str; 10] = [
     "read",
     "judge",
     "write",
@@ -36,6 +36,7 @@ const OPERATIONS_IN_ORDER: [&str; 9] = [
     "explain",
     "setting",
     "from_solver",
+    "find_plain",
 ];
 
 fn main() -> io::Result<()> {
@@ -116,6 +117,7 @@ fn answer(operation: &str, call: &Call) -> Vec<u8> {
         "from_tptp" => from_tptp(sheet, &mut output).map(written),
         "from_solver" => from_solver(sheet, call.low, beside, &mut output).map(solved),
         "find" => find(sheet, call.low, call.high, &mut work, &mut output).map(found),
+        "find_plain" => find_plain(sheet, call.low, call.high, &mut output).map(found),
         other => panic!("no operation {other}"),
     };
     let length = told.as_ref().map_or(0, |(_, length)| length.unwrap_or(0));

@@ -1,0 +1,6 @@
+pub mod Guesses
+pub mod Filled
+pub mod Choosing
+pub mod LeastFilled
+pub mod Models
+pub mod Endings

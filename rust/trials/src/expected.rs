@@ -1,0 +1,55 @@
+//! What the C interface must answer where the reference answers this.
+
+use nesskettle::raw::FindAnswer;
+use nesskettle_reference::{Refusal, Search};
+
+/// The answer of a search, and how many bytes it writes.
+pub fn search(answer: Result<Search, Refusal>) -> (FindAnswer, usize) {
+    let nothing = FindAnswer {
+        outcome: 0,
+        reason: 0,
+        line: 0,
+        column: 0,
+        size: 0,
+        length: 0,
+        settled: 0,
+    };
+    match answer {
+        Err(refusal) => {
+            let refused = FindAnswer {
+                reason: refusal.reason.number(),
+                line: refusal.line,
+                column: refusal.column,
+                length: refusal.needed,
+                ..nothing
+            };
+            (refused, 0)
+        }
+        Ok(Search::Found { size, length }) => {
+            let found = FindAnswer {
+                outcome: 1,
+                size,
+                length: length as u64,
+                ..nothing
+            };
+            (found, length)
+        }
+        Ok(Search::None { settled }) => {
+            let none = FindAnswer {
+                outcome: 2,
+                settled: settled as u32,
+                ..nothing
+            };
+            (none, 0)
+        }
+    }
+}
+
+/// An outcome of a search in words, for a tally.
+pub fn outcome(answer: &FindAnswer) -> &'static str {
+    match (answer.outcome, answer.settled) {
+        (1, _) => "found",
+        (_, 1) => "none, settled",
+        _ => "none",
+    }
+}
