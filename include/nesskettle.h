@@ -53,7 +53,7 @@ enum {
  *   for 6          the start of the first word that cannot stand after those before it; one past the line's end where
  *                  more words would have made a clause;
  *   for 7          the start of the 65th word or the sign of the 17th literal, whichever comes first; 1 where only the
- *                  variables are too many;
+ *                  variables are too many, and always 1 where terms are named;
  *   for 15 to 17   told at nk_from_tptp.
  */
 enum {
@@ -64,7 +64,8 @@ enum {
     NK_BAD_NAME = 4,         /* a name badly formed or repeated */
     NK_UNKNOWN_WORD = 5,     /* an unknown or empty word */
     NK_NOT_A_CLAUSE = 6,     /* words that are no clause */
-    NK_CLAUSE_TOO_LARGE = 7, /* over 64 words, 16 literals or 10 variables after flattening */
+    NK_CLAUSE_TOO_LARGE = 7, /* over 64 words, 16 literals or 10 variables after flattening; where terms are named, of the
+                                clause with the names put in or of a helper's own that is new on the line */
 
     /* The other arguments; only NK_BAD_CASE names line and column. */
     NK_BAD_SIZE = 8,            /* a size that is not 1 to 8, or low above high */
@@ -85,8 +86,30 @@ enum {
     NK_NO_MODEL = 19,   /* its case is no model of the sheet */
 
     /* The search of nk_find_plain; it names no line. */
-    NK_TOO_MANY_CELLS = 20 /* over 64 cells at high */
+    NK_TOO_MANY_CELLS = 20, /* over 64 cells at high */
+
+    /* Named terms; it names no line, and comes directly after the sheet's numbers. */
+    NK_TOO_MANY_HELPERS = 21 /* over 32 helper constants */
 };
+
+/*
+ * Named terms. nk_write, nk_read_back and nk_find take a number `named`: 0 takes a sheet's terms as they are written, every
+ * other number names its fixed terms.
+ *
+ * A fixed term is one without variables that is no constant. Each outermost one, in every place of a clause, gets a fresh
+ * constant, a helper, and terms that are equal word for word, over the whole sheet, share one. The helper stands in the
+ * clauses instead of its term, and one clause `+ = helper term` for each helper, in order of first appearance, stands in
+ * front of the sheet's clauses. So a clause with deep terms on constants has fewer variables after flattening.
+ *
+ * The limits of a clause (7) are then those of the clauses with the names put in and of the helpers' own; how many words a
+ * line has as it is written does not matter. There are at most 32 helpers (21). They are function symbols without arguments
+ * whose cells and propositional variables come after those of all predicates; they count in the number of instances, of
+ * propositional variables and of work, and settings have their cells, but they are never shown in a case. A case and its
+ * length are the same with and without them.
+ *
+ * Some sheets are taken with named terms alone, and some as written alone. Where neither call is refused, nk_find answers
+ * the same and leaves the same in the output. What is said of settings and models at nk_read_back holds in both.
+ */
 
 /* The answer of nk_read. */
 typedef struct {
@@ -166,29 +189,31 @@ nk_explain_answer nk_explain(const uint8_t *sheet, size_t sheet_length,
                              const uint8_t *case_, size_t case_length);
 
 /*
- * Writes the sheet's clauses at this size as DIMACS text.
+ * Writes the sheet's clauses at this size as DIMACS text; where terms are named, the helpers' own in front.
  * Afterwards the output's first `length` bytes are the text; the bytes after it are as they were.
- * Refused: 1 to 7, then 8, 9, 11; every byte of the output is then as it was.
+ * Refused: 1 to 7, then 21 (only where terms are named), 8, 9, 11; every byte of the output is then as it was.
  */
-nk_write_answer nk_write(const uint8_t *sheet, size_t sheet_length, uint64_t size,
+nk_write_answer nk_write(const uint8_t *sheet, size_t sheet_length, uint64_t size, uint32_t named,
                          uint8_t *output, size_t output_length);
 
 /*
  * Reads a setting back: writes the case in which a function cell's value is the one result whose variable is 1, and a
  * predicate cell's value is its byte. The setting has one byte, the number 0 or 1 (not the digit), for each
- * propositional variable.
+ * propositional variable of the text that nk_write writes with the same `named`. A helper's cell must have one result too,
+ * but that need not be its term's value, and it is not shown.
+ * Settings that satisfy the clauses that nk_write writes are read back as models of the sheet, each model from exactly one.
  * Afterwards the output's first `length` bytes are the case; the bytes after it are as they were.
- * Refused: 1 to 7, then 8, 13, 14, 11; every byte of the output is then as it was.
+ * Refused: 1 to 7, then 21 (only where terms are named), 8, 13, 14, 11; every byte of the output is then as it was.
  */
-nk_write_answer nk_read_back(const uint8_t *sheet, size_t sheet_length, uint64_t size,
+nk_write_answer nk_read_back(const uint8_t *sheet, size_t sheet_length, uint64_t size, uint32_t named,
                              const uint8_t *setting, size_t setting_length,
                              uint8_t *output, size_t output_length);
 
 /*
  * The other way of nk_read_back: writes the setting of a case, at the case's own size. Of the variables of a function cell
  * the one of its value is 1, the others are 0; a predicate cell's variable is its value. nk_read_back of the setting, at
- * that size, writes the same case. The case need not be a model: the setting satisfies the clauses that nk_write writes at
- * that size exactly if it is one.
+ * that size and of terms as written, writes the same case. The case need not be a model: the setting satisfies the clauses
+ * that nk_write writes at that size, of terms as written, exactly if it is one.
  * Afterwards the output's first `length` bytes are the setting, each the number 0 or 1; the bytes after it are as they
  * were.
  * Refused: as nk_judge, 1 to 7, then 12; then 11; every byte of the output is then as it was.
@@ -203,15 +228,15 @@ nk_write_answer nk_setting(const uint8_t *sheet, size_t sheet_length,
  * The caller lends the work area; what stands in it before does not matter.
  * Afterwards every number of the work area is 0, on both results. Found: the output's first `length` bytes are the
  * case, and the bytes after it are as they were. None: every byte of the output is as it was.
- * Refused: 1 to 7, then 8, 9 (at high), 10, 11 (output shorter than a case of size high); every byte of the output and
- * every number of the work area is then as it was.
+ * Refused: 1 to 7, then 21 (only where terms are named), 8, 9 (at high), 10, 11 (output shorter than a case of size high);
+ * every byte of the output and every number of the work area is then as it was.
  */
-nk_find_answer nk_find(const uint8_t *sheet, size_t sheet_length, uint64_t low, uint64_t high,
+nk_find_answer nk_find(const uint8_t *sheet, size_t sheet_length, uint64_t low, uint64_t high, uint32_t named,
                        uint32_t *work, size_t work_length,
                        uint8_t *output, size_t output_length);
 
 /*
- * The search of nk_find a second time, as on a whiteboard: it fills the cells of a case in order, the least value first,
+ * The search of nk_find a second time, of terms as written, as on a whiteboard: it fills the cells of a case in order, the least value first,
  * copies the tables before each guess, and judges each full case by truth alone. It makes no clauses and is lent no work
  * area. Where neither call is refused, both answer the same and leave the same in the output.
  * Time grows with the number of cases that are tried, at worst all of the searched sizes: at size s a function cell has s
@@ -247,8 +272,8 @@ nk_write_answer nk_from_tptp(const uint8_t *text, size_t text_length,
                              uint8_t *output, size_t output_length);
 
 /*
- * Reads what a SAT solver answers to the clauses that nk_write writes of the sheet at this size, in the layout of the
- * solver competitions:
+ * Reads what a SAT solver answers to the clauses that nk_write writes of the sheet at this size, of terms as written, in the
+ * layout of the solver competitions:
  *
  *     c any bytes
  *     s SATISFIABLE

@@ -13,11 +13,13 @@
 //! | [`from_tptp`] | the sheet that a file of TPTP clauses is read into |
 //! | [`from_solver`] | the case that a SAT solver answers, if it is a model; or the solver's claim that there is none |
 //!
+//! [`write`], [`read_back`] and [`find`] take a sheet's fixed terms as they are written or named, see [`Terms`].
+//!
 //! Every call takes any bytes and numbers. A refused call has changed no lent byte and no lent number.
 
 pub mod raw;
 
-pub use nesskettle_answers::{Counts, FirstFailure, Operations, Reason, Refusal, Search, SolverAnswer};
+pub use nesskettle_answers::{Counts, FirstFailure, Operations, Reason, Refusal, Search, SolverAnswer, Terms};
 
 /// The calls below as one value.
 pub const OPERATIONS: Operations = Operations {
@@ -76,21 +78,31 @@ pub fn explain(sheet: &[u8], case: &[u8]) -> Result<Option<FirstFailure>, Refusa
 }
 
 /// Writes the sheet's clauses at a size as DIMACS text and answers its length. The bytes after it are unchanged.
-pub fn write(sheet: &[u8], size: u64, output: &mut [u8]) -> Result<usize, Refusal> {
+pub fn write(sheet: &[u8], size: u64, terms: Terms, output: &mut [u8]) -> Result<usize, Refusal> {
     // SAFETY: pointers and lengths are slices', and the output is lent to this call alone.
-    written(unsafe { raw::nk_write(sheet.as_ptr(), sheet.len(), size, output.as_mut_ptr(), output.len()) })
+    written(unsafe {
+        raw::nk_write(
+            sheet.as_ptr(),
+            sheet.len(),
+            size,
+            named(terms),
+            output.as_mut_ptr(),
+            output.len(),
+        )
+    })
 }
 
 /// Writes the case that a setting stands for and answers its length. The bytes after it are unchanged.
 ///
-/// The setting has one byte, 0 or 1, for each propositional variable.
-pub fn read_back(sheet: &[u8], size: u64, setting: &[u8], output: &mut [u8]) -> Result<usize, Refusal> {
+/// The setting has one byte, 0 or 1, for each propositional variable of the text that [`write`] leaves of the same `terms`.
+pub fn read_back(sheet: &[u8], size: u64, terms: Terms, setting: &[u8], output: &mut [u8]) -> Result<usize, Refusal> {
     // SAFETY: pointers and lengths are slices', and the output is lent to this call alone.
     written(unsafe {
         raw::nk_read_back(
             sheet.as_ptr(),
             sheet.len(),
             size,
+            named(terms),
             setting.as_ptr(),
             setting.len(),
             output.as_mut_ptr(),
@@ -101,8 +113,8 @@ pub fn read_back(sheet: &[u8], size: u64, setting: &[u8], output: &mut [u8]) -> 
 
 /// Writes the setting of a case at its own size and answers its length. The bytes after it are unchanged.
 ///
-/// The setting has one byte, 0 or 1, for each propositional variable, and [`read_back`] of it gives the case. The case need
-/// not be a model.
+/// The setting has one byte, 0 or 1, for each propositional variable, and [`read_back`] of it, of terms as they are written,
+/// gives the case. The case need not be a model.
 pub fn setting(sheet: &[u8], case: &[u8], output: &mut [u8]) -> Result<usize, Refusal> {
     // SAFETY: pointers and lengths are slices', and the output is lent to this call alone.
     written(unsafe {
@@ -124,7 +136,14 @@ pub fn setting(sheet: &[u8], case: &[u8], output: &mut [u8]) -> Result<usize, Re
 ///
 /// On both results `work` holds zeros. Found, the case stands at the output's front, and the bytes after it are
 /// unchanged; none, the whole output is.
-pub fn find(sheet: &[u8], low: u64, high: u64, work: &mut [u32], output: &mut [u8]) -> Result<Search, Refusal> {
+pub fn find(
+    sheet: &[u8],
+    low: u64,
+    high: u64,
+    terms: Terms,
+    work: &mut [u32],
+    output: &mut [u8],
+) -> Result<Search, Refusal> {
     // SAFETY: pointers and lengths are slices', and work and output are lent to this call alone.
     searched(unsafe {
         raw::nk_find(
@@ -132,6 +151,7 @@ pub fn find(sheet: &[u8], low: u64, high: u64, work: &mut [u32], output: &mut [u
             sheet.len(),
             low,
             high,
+            named(terms),
             work.as_mut_ptr(),
             work.len(),
             output.as_mut_ptr(),
@@ -170,7 +190,7 @@ pub fn from_tptp(text: &[u8], output: &mut [u8]) -> Result<usize, Refusal> {
 }
 
 /// Reads what a SAT solver answers, in the layout of the solver competitions, to the clauses that [`write`] writes of the
-/// sheet at this size; writes the case and answers its length. The bytes after it are unchanged.
+/// sheet at this size, of terms as they are written; writes the case and answers its length. The bytes after it are unchanged.
 ///
 /// A case that comes out is a model of the sheet. That there is none is the solver's claim alone; the output, which may
 /// have any length, is then unchanged.
@@ -190,6 +210,14 @@ pub fn from_solver(sheet: &[u8], size: u64, text: &[u8], output: &mut [u8]) -> R
     match answer.outcome {
         2 => Ok(SolverAnswer::ClaimedNone),
         _ => written(answer).map(|length| SolverAnswer::Case { length }),
+    }
+}
+
+/// The C interface's number.
+fn named(terms: Terms) -> u32 {
+    match terms {
+        Terms::AsWritten => 0,
+        Terms::Named => 1,
     }
 }
 

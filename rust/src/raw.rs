@@ -72,6 +72,7 @@ extern "C" {
         sheet: *const u8,
         sheet_length: usize,
         size: u64,
+        named: u32,
         output: *mut u8,
         output_length: usize,
     ) -> WriteAnswer;
@@ -80,6 +81,7 @@ extern "C" {
         sheet: *const u8,
         sheet_length: usize,
         size: u64,
+        named: u32,
         setting: *const u8,
         setting_length: usize,
         output: *mut u8,
@@ -100,6 +102,7 @@ extern "C" {
         sheet_length: usize,
         low: u64,
         high: u64,
+        named: u32,
         work: *mut u32,
         work_length: usize,
         output: *mut u8,

@@ -441,6 +441,132 @@ fn too_many_cells() {
     );
 }
 
+/// A sheet whose last clause has too many variables as written: two terms of six functions on a constant.
+const COUNTER: &str = "../../../examples/counter.sheet";
+
+#[test]
+fn named_terms_are_searched() {
+    let case = "case=1\nsize=3\nleft=1\nright=2\nagain=2 3 3\n";
+    let found = format!("answer=found\n{case}");
+    prints(&format!("find {COUNTER} --named --high 4"), "", 0, &found);
+    prints(
+        &format!("find --named --high 2 {COUNTER}"),
+        "",
+        1,
+        "answer=none\nsettled=no\n",
+    );
+    prints(
+        &format!("find --named --high 3 {COUNTER} --tables"),
+        "",
+        0,
+        "found: a model of size 3\n\nleft = 1\nright = 2\n\nagain | 1 2 3\n------+------\n      | 2 3 3\n",
+    );
+    // the helpers' digits come last
+    let call = format!("read-back {COUNTER} --size 3 --named -");
+    prints(&call, "100 010 010 001 001 001 001", 0, case);
+    for (setting, reason) in [("100 010 010 001 001", 13), ("100 010 010 001 001 001 011", 14)] {
+        let told = String::from_utf8(run(&call, setting).stderr).expect("words are text");
+        assert!(told.starts_with(&format!("nesskettle: refused {reason}: ")), "{told}");
+    }
+    // a is 1, f is 2, p is 3 and f a is 4
+    let sheet = "sheet=1\nfuns=2\nfun=a/0\nfun=f/1\npreds=1\npred=p/1\nclauses=1\nclause=+ p f a\n";
+    prints(
+        "clauses - --size 1 --named",
+        sheet,
+        0,
+        "p cnf 4 5\n1 0\n2 0\n4 0\n-1 -2 4 0\n-4 3 0\n",
+    );
+    prints("clauses - --size 1", sheet, 0, "p cnf 3 3\n1 0\n2 0\n-1 -2 3 0\n");
+    // the same with and without
+    for arguments in [
+        "two-constants.sheet",
+        "steiner.sheet --low 7",
+        "../../../examples/both-eyes.p --high 3",
+    ] {
+        let other = String::from_utf8(run(&format!("find {arguments}"), "").stdout).expect("an answer is text");
+        prints(&format!("find {arguments} --named"), "", 0, &other);
+    }
+}
+
+/// What the command says after the refusal itself and, where it names a line, the line and its mark.
+fn hints(arguments: &str, input: &str, number: u32, hint: &str) {
+    let told = String::from_utf8(run(arguments, input).stderr).expect("words are text");
+    assert!(told.starts_with(&format!("nesskettle: refused {number}")), "{told}");
+    let hints: Vec<&str> = told.lines().skip(if told.contains('^') { 3 } else { 1 }).collect();
+    assert_eq!(hints.join("\n"), hint, "{arguments}");
+}
+
+/// `--named` is named only where it takes the sheet, and so is going without it.
+#[test]
+fn what_to_do_about_limits_of_clauses() {
+    let named = |limit: &str| {
+        format!("  --named takes this sheet{limit}: it names the terms without variables, and they count by their names alone")
+    };
+    let counted = "  with --named this is counted with the names put in, and for the clause + = NAME TERM of each term that first \
+                   stands on this line;\n  a constant of your own for a part of a large term helps: fun=c/0 and clause=+ = c \
+                   PART";
+    let without = "  without --named this sheet is taken";
+    hints(&format!("find {COUNTER} --high 4"), "", 7, &named(""));
+    hints(&format!("find {COUNTER}"), "", 7, &named(" up to --high 6"));
+    hints(&format!("find {COUNTER} --high 9"), "", 7, &named(" up to --high 6"));
+    hints(&format!("find {COUNTER} --low 8"), "", 7, "");
+    hints(
+        &format!("find {COUNTER} --low 0 --high 18446744073709551615"),
+        "",
+        7,
+        "",
+    );
+    hints(&format!("clauses {COUNTER} --size 6"), "", 7, &named(""));
+    hints(&format!("clauses {COUNTER} --size 7"), "", 7, "");
+    hints(&format!("read-back {COUNTER} --size 1 -"), "11111", 7, &named(""));
+    hints(&format!("read-back {COUNTER} --size 1 -"), "111", 7, "");
+    // no other command names terms
+    hints(&format!("find {COUNTER} --plain"), "", 7, "");
+    hints(&format!("check {COUNTER}"), "", 7, "");
+    let sheet =
+        |clause: &str| format!("sheet=1\nfuns=2\nfun=a/0\nfun=f/1\npreds=1\npred=p/1\nclauses=1\nclause={clause}\n");
+    let deep = |before: &str, after: &str| sheet(&format!("{before} {}a{after}", "f ".repeat(10)));
+    hints("find - --named", &deep("+ p", ""), 7, counted);
+    hints("find - --high 2", &deep("+ p", ""), 7, "");
+    hints(
+        "find - --named --high 2",
+        &deep("+ =", " a"),
+        7,
+        &format!("{counted}\n{without}"),
+    );
+    hints(
+        "find - --named",
+        &deep("+ =", " a"),
+        7,
+        &format!("{counted}\n{without} up to --high 3"),
+    );
+    hints(
+        "clauses - --size 3 --named",
+        &deep("+ =", " a"),
+        7,
+        &format!("{counted}\n{without}"),
+    );
+}
+
+#[test]
+fn too_many_helpers() {
+    let functions: String = (0..6).map(|i| format!("fun=c{i}/0\n")).collect();
+    let clauses: String = (0..33)
+        .map(|i| format!("clause=+ p g c{} c{}\n", i / 6, i % 6))
+        .collect();
+    let sheet = format!("sheet=1\nfuns=7\n{functions}fun=g/2\npreds=1\npred=p/1\nclauses=33\n{clauses}");
+    let refused = "nesskettle: refused 21: the sheet has more than 32 different terms to name (terms without variables that are no \
+                   constants and stand inside no other), and at most 32 are named: declare constants for some of them, or \
+                   leave terms as they are written\n  without --named this sheet is taken\n";
+    fails("find - --named --high 3", &sheet, refused);
+    fails("clauses - --size 3 --named", &sheet, refused);
+    fails(
+        "find - --named --high 2 --low 3",
+        &sheet,
+        refused.strip_suffix("  without --named this sheet is taken\n").unwrap(),
+    );
+}
+
 #[test]
 fn tables() {
     let sheet = "sheet=1\nfuns=3\nfun=a/0\nfun=f/1\nfun=g/2\npreds=3\npred=on/0\npred=p/1\npred=t/3\nclauses=4\n\
@@ -611,6 +737,13 @@ fn wrong_calls_are_told() {
     fails("check group.sheet --tables", "", &format!("{option}{more}"));
     let option = "nesskettle: --plain is no option of this command, or stands there twice";
     fails("clauses group.sheet --size 2 --plain", "", &format!("{option}{more}"));
+    let option = "nesskettle: --named is no option of this command, or stands there twice";
+    fails("judge group.sheet group-6.case --named", "", &format!("{option}{more}"));
+    fails(
+        "find group.sheet --named --plain",
+        "",
+        &format!("nesskettle: --plain and --named are not for one search{more}"),
+    );
     assert_eq!(run("check no-such.sheet", "").status.code(), Some(2));
     assert!(run("--help", "")
         .stdout

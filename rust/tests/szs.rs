@@ -90,6 +90,12 @@ fn nothing_is_searched() {
         "sheet=1\nfuns=0\npreds=1\npred=q/3\nclauses=4\n".to_string() + &"clause=+ q A B C + q D E F\n".repeat(4);
     tells("find -", &many, "GaveUp for -");
     tells("find - --plain", &many, "GaveUp for -");
+    let constants: String = (0..6).map(|i| format!("fun=c{i}/0\n")).collect();
+    let terms: String = (0..33)
+        .map(|i| format!("clause=+ = g c{} c{} A\n", i / 6, i % 6))
+        .collect();
+    let many = format!("sheet=1\nfuns=7\n{constants}fun=g/2\npreds=0\nclauses=33\n{terms}");
+    tells("find - --named", &many, "GaveUp for -");
     tells("find group.sheet --low 0", "", "UsageError for group.sheet");
     tells("find group.sheet --low 3 --high 2", "", "UsageError for group.sheet");
     fails(
@@ -118,6 +124,8 @@ fn models_are_read_and_judged() {
         "group.sheet --low 6 --high 6",
         "../../../examples/both-eyes.sheet --high 4",
         "../../../examples/both-eyes.p --high 4",
+        "tournament.sheet --named",
+        "group.sheet --low 6 --high 6 --named",
     ] {
         read_and_judged(arguments, "");
     }

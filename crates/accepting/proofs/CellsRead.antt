@@ -1,43 +1,34 @@
 -- The cells of a setting's interpretation, one symbol's table more at a time.
 use Prim.Native.Nat.{ℕ, suc, _+_, _-_, _*_, _^_, _≤_, _<_}
 use mathlib.Core.Path.{_≡_, refl, sym, ap, _∙_}
-use mathlib.Core.List.{List, [], _∷_, _++_}
+use mathlib.Core.List.{List, [], _++_}
 use native.Mathlib.Nat.{zero-add}
 use native.Mathlib.Numerals.{add-one}
 use native.Mathlib.Omega.{arith}
 use lib.ListN.{length, getD, take, drop, replicate, take-append-drop}
 use lib.Seq.{take-add, take-all, length-take-le}
-use Rattle.theory.specs.Syntax.{Kind, symbolAt}
+use Rattle.theory.specs.Syntax.{symbolAt}
 use Rattle.theory.specs.Syntax as theory
-use Rattle.theory.specs.Cells.{tableSize, cellCount, cellBase, cellKinds}
+use Rattle.theory.specs.Cells.{tableSize, cellCount, cellBase}
 use Rattle.theory.specs.Propositional.{width, blockSize, propBase}
 use Rattle.theory.specs.Valuation.{valuesOf, readBack}
 use Rattle.theory.proofs.Lists.{sum-map-append}
-use Rattle.theory.proofs.Numbering.{cellBase-suc, cellBase-length, length-cellKinds}
+use Rattle.theory.proofs.Numbering.{cellBase-suc, cellBase-length}
 use Rattle.syntax.specs.declared.signature.Symbol.{Symbol}
 use Rattle.syntax.specs.declared.signature.Signature.{Signature}
-use Rattle.syntax.specs.Signatures.{kindOf, symbolIn, signatureIn}
+use Rattle.syntax.specs.Signatures.{maxCells, kindOf, symbolIn, signatureIn}
 use Rattle.clauses.specs.Names.{Limited}
-use Rattle.clauses.proofs.Held.{blank, arity-at, count-signatureIn, symbolAt-signatureIn, small-signatureIn}
-use Rattle.interpretation.proofs.Ranks.{table-within}
-use Rattle.interpretation.proofs.Tabling.{base-within, cellCount-small}
+use Rattle.clauses.proofs.Held.{blank, count-signatureIn, symbolAt-signatureIn}
+use Rattle.interpretation.proofs.Tabling.{table-limited, cells-limited}
 use Rattle.text.specs.Lines.{part}
 use Rattle.text.specs.Put.{put, put-none, length-put, put-run, part-put, take-put}
 use Rattle.text.proofs.Part.{length-part}
 use Rattle.valuations.specs.declared.numbering.Numbering.{Numbering}
-use Rattle.valuations.specs.Numbers.{NumberingOf}
+use Rattle.valuations.specs.Numbers.{maxPropVars, NumberingOf}
 use Rattle.valuations.specs.Cells.{cellValues}
 use Rattle.valuations.proofs.Blocks.{block-room, table-at}
 use Rattle.valuations.proofs.Bits.{length-values}
-
--- a value for each cell
-length-valuesOf : (s : ℕ) (ks : List Kind) (σ : List ℕ) → length (valuesOf s ks σ) ≡ length ks
-length-valuesOf s [] σ = refl
-length-valuesOf s (k ∷ ks) σ = ap suc (length-valuesOf s ks (drop (width s k) σ))
-
-pub length-readBack : (s : ℕ) (g : theory.Signature) (σ : List ℕ) → length (readBack s g σ) ≡ cellCount s g
-unfolding readBack
-length-readBack s g σ = length-valuesOf s (cellKinds s g) σ ∙ length-cellKinds s g
+use Rattle.reading_back.proofs.Bits.{length-readBack}
 
 -- the cells of the first symbols are among all
 base-among : (s : ℕ) (g : theory.Signature) (i : ℕ) → cellBase s g i ≤ cellCount s g
@@ -53,25 +44,20 @@ pub none-read : (s : ℕ) (g : theory.Signature) (σ cells : List ℕ) → Cells
 none-read s g σ cells = record { based = refl; held = refl; front = sym (put-none cells 0) }
 
 module _ (y : Signature) (limited : Limited y) (s : ℕ) (small : s ≤ 8) (n : Numbering) (numbered : (sheet : List ℕ) → NumberingOf (signatureIn sheet y) s n) (σ : List ℕ) (counted : length σ ≡ n .count) where
-  module _ (cells₀ cells : List ℕ) (base i : ℕ) (room : 12288 ≤ length cells₀) (z : (sheet : List ℕ) → CellsTo s (signatureIn sheet y) σ cells₀ cells base i) (h : i < y .count) where
+  module _ (cells₀ cells : List ℕ) (base i : ℕ) (room : maxCells ≤ length cells₀) (z : (sheet : List ℕ) → CellsTo s (signatureIn sheet y) σ cells₀ cells base i) (h : i < y .count) where
     abbrev pub f : Symbol
     f = getD (y .symbols) i blank
-
-    arity : f .arity ≤ 3
-    arity = arity-at y limited i h
 
     -- the table's place and size
     abbrev pub count : ℕ
     count = s ^ f .arity
 
-    pub bounded : base + count ≤ 12288
+    pub bounded : base + count ≤ maxCells
     bounded =
         omega (
           arith,
           z [] .based,
-          base-within (signatureIn [] y) s i small (small-signatureIn y limited []) (omega (arith, count-signatureIn y limited [])),
-          limited .count,
-          table-within s (f .arity) small arity,
+          table-limited [] y limited s small i h,
         )
 
     pub fits : base + count ≤ length cells
@@ -95,7 +81,7 @@ module _ (y : Signature) (limited : Limited y) (s : ℕ) (small : s ≤ 8) (n : 
           ap (blockSize s) (symbolAt-signatureIn y limited [] i h),
         )
 
-    pub numbers-fit : length σ ≤ 98304
+    pub numbers-fit : length σ ≤ maxPropVars
     numbers-fit = omega (arith, counted, numbered [] .small)
 
     -- the table that was read stands behind those before it
@@ -151,12 +137,12 @@ module _ (y : Signature) (limited : Limited y) (s : ℕ) (small : s ≤ 8) (n : 
         both = ap (λ (l : List ℕ). take base rb ++ l) (sym is-table) ∙ sym (take-add base count rb) ∙ ap (λ (k : ℕ). take k rb) (sym e)
 
   -- all symbols' tables
-  pub all-read : (cells₀ cells : List ℕ) (base i : ℕ) → 12288 ≤ length cells₀ → ((sheet : List ℕ) → CellsTo s (signatureIn sheet y) σ cells₀ cells base i) → i ≡ y .count
+  pub all-read : (cells₀ cells : List ℕ) (base i : ℕ) → maxCells ≤ length cells₀ → ((sheet : List ℕ) → CellsTo s (signatureIn sheet y) σ cells₀ cells base i) → i ≡ y .count
       → (sheet : List ℕ) → take (cellCount s (signatureIn sheet y)) cells ≡ readBack s (signatureIn sheet y) σ
   all-read cells₀ cells base i room z e sheet =
       ap (take (cellCount s g)) (z sheet .front ∙ ap (put cells₀ 0) (take-all base rb (omega (arith, whole, long))))
       ∙ ap (λ (k : ℕ). take k (put cells₀ 0 rb)) (sym long ∙ sym (zero-add (length rb)))
-      ∙ take-put cells₀ 0 rb (omega (arith, long, room, cellCount-small g s small (small-signatureIn y limited sheet)))
+      ∙ take-put cells₀ 0 rb (omega (arith, long, room, cells-limited sheet y limited s small))
     where
       g : theory.Signature
       g = signatureIn sheet y

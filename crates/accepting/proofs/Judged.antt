@@ -11,9 +11,8 @@ use Rattle.theory.specs.Valuation.{readBack}
 use Rattle.theory.proofs.Answers.{answer-inj}
 use Rattle.theory.proofs.Valuations.{readBack-isInterpretation}
 use Rattle.syntax.specs.declared.limits.Problem.{Problem}
-use Rattle.syntax.specs.Signatures.{signatureIn}
-use Rattle.clauses.proofs.Held.{small-signatureIn}
-use Rattle.interpretation.proofs.Tabling.{cellCount-small}
+use Rattle.syntax.specs.Signatures.{maxCells, signatureIn}
+use Rattle.interpretation.proofs.Tabling.{cells-limited}
 use Rattle.problem.specs.Problems.{problemIn}
 use Rattle.valuations.specs.declared.numbering.Numbering.{Numbering}
 use Rattle.valuations.proofs.Bits.{is-counted}
@@ -27,7 +26,7 @@ use Rattle.accepting.specs.Accepting.{SettingLent, FunctionalSetting}
 pub setting-counted : (sheet : List ℕ) (p : Problem) (n : Numbering) (s : ℕ) (σ : List ℕ) → SettingLent sheet p n s σ → length σ ≡ n .count
 setting-counted sheet p n s σ h = is-counted s (signatureIn sheet (p .signature)) σ (h .valuation) ∙ sym (h .numbered sheet .count)
 
-module _ (sheet : List ℕ) (p : Problem) (n : Numbering) (s : ℕ) (σ : List ℕ) (h : FunctionalSetting sheet p n s σ) (cells : List ℕ) (long : length cells ≡ 12288)
+module _ (sheet : List ℕ) (p : Problem) (n : Numbering) (s : ℕ) (σ : List ℕ) (h : FunctionalSetting sheet p n s σ) (cells : List ℕ) (long : length cells ≡ maxCells)
     (read : (sheet : List ℕ) → take (cellCount s (signatureIn sheet (p .signature))) cells ≡ readBack s (signatureIn sheet (p .signature)) σ) where
   abbrev g : Signature
   g = signatureIn sheet (p .signature)
@@ -39,7 +38,7 @@ module _ (sheet : List ℕ) (p : Problem) (n : Numbering) (s : ℕ) (σ : List �
         positive = h .lent .sized .positive;
         size = h .lent .sized .size;
         accepted = h .lent .sized .accepted;
-        held = omega (arith, long, cellCount-small g s (h .lent .sized .size) (small-signatureIn (p .signature) (h .lent .sized .accepted .readable .limited) sheet));
+        held = omega (arith, long, cells-limited sheet (p .signature) (h .lent .sized .accepted .readable .limited) s (h .lent .sized .size));
         values = ap (isInterpretation s g) (read sheet) ∙ readBack-isInterpretation s g σ (h .lent .valuation) (h .functional);
       }
 

@@ -13,7 +13,7 @@ ghost use Prim.Native.Nat.{ℕ, _≤_};
 ghost use lib.ListN.{length, take};
 ghost use Rattle.theory.specs.Cells.{cellCount, isModel};
 ghost use Rattle.theory.specs.Valuation.{readBack};
-ghost use Rattle.syntax.specs.Signatures.{signatureIn};
+ghost use Rattle.syntax.specs.Signatures.{maxCells, signatureIn};
 ghost use Rattle.clauses.specs.Names.{Limited};
 ghost use Rattle.problem.specs.Problems.{problemIn};
 ghost use Rattle.valuations.specs.Numbers.{NumberingOf};
@@ -41,7 +41,7 @@ fn read_cells(
 )
     requires { ⌜ Limited signature × (size .0 ≤ 8) ⌝ }
     requires { ⌜ ((sheet : List ℕ) → NumberingOf (signatureIn sheet signature) (size .0) n) ⌝ }
-    requires { ⌜ (length (now setting) ≡ n .count) × (12288 ≤ length (now cells)) ⌝ }
+    requires { ⌜ (length (now setting) ≡ n .count) × (maxCells ≤ length (now cells)) ⌝ }
     ensures { λ _. ⌜ ((sheet : List ℕ) → take (cellCount (size .0) (signatureIn sheet signature)) (now (cells .exit)) ≡ readBack (size .0) (signatureIn sheet signature) (now (setting .entry))) ⌝ }
 {
     let mut base: usize = 0;

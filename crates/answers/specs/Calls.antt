@@ -2,12 +2,14 @@
 -- on the calls speak of them.
 use Prim.Native.Nat.{ℕ}
 use mathlib.Core.Path.{_≡_}
+use mathlib.Core.Bool.{Bool}
 use mathlib.Core.Option.{Option}
 use mathlib.Core.List.{List}
 use lib.ListN.{length}
 use Rattle.theory.specs.Refusals.{Answer}
-use Rattle.theory.specs.Operations.{readAnswer, judgeAnswer, Reason, explainAnswer, lengthAnswer, outputAfter, writtenText, readBackText, settingText, Search, findResult, findAnswer, findWork, findOutput}
+use Rattle.theory.specs.Operations.{readAnswer, judgeAnswer, Reason, explainAnswer, lengthAnswer, outputAfter, settingText, Search, findAnswer, findWork, findOutput}
 use Rattle.theory.specs.PlainSearch.{plainResult}
+use Rattle.naming.specs.NamedOperations.{writtenTextIn, readBackTextIn, findResultIn}
 use Rattle.answers.specs.declared.ReadAnswer.{ReadAnswer}
 use Rattle.answers.specs.declared.JudgeAnswer.{JudgeAnswer}
 use Rattle.answers.specs.declared.ExplainAnswer.{ExplainAnswer}
@@ -37,13 +39,13 @@ pub record WritingCall (text : Answer (List ℕ)) (r : WriteAnswer) (output outp
   pub answer : lengthIn r ≡ lengthAnswer text
   pub left : output′ ≡ outputAfter text output
 
--- Write
-abbrev pub WriteCall : List ℕ → ℕ → WriteAnswer → List ℕ → List ℕ → Type 0
-WriteCall sheet size r output output′ = WritingCall (writtenText sheet size (length output)) r output output′
+-- Write; plain, or with named terms
+abbrev pub WriteCall : List ℕ → ℕ → Bool → WriteAnswer → List ℕ → List ℕ → Type 0
+WriteCall sheet size named r output output′ = WritingCall (writtenTextIn named sheet size (length output)) r output output′
 
--- Read back
-abbrev pub ReadBackCall : List ℕ → ℕ → List ℕ → WriteAnswer → List ℕ → List ℕ → Type 0
-ReadBackCall sheet size setting r output output′ = WritingCall (readBackText sheet size setting (length output)) r output output′
+-- Read back; plain, or with named terms
+abbrev pub ReadBackCall : List ℕ → ℕ → Bool → List ℕ → WriteAnswer → List ℕ → List ℕ → Type 0
+ReadBackCall sheet size named setting r output output′ = WritingCall (readBackTextIn named sheet size setting (length output)) r output output′
 
 -- Setting
 abbrev pub SettingCall : List ℕ → List ℕ → WriteAnswer → List ℕ → List ℕ → Type 0
@@ -55,9 +57,9 @@ pub record SearchingCall (result : Answer Search) (r : FindAnswer) (work work′
   pub worked : work′ ≡ findWork result work
   pub left : output′ ≡ findOutput result output
 
--- Find
-abbrev pub FindCall : List ℕ → ℕ → ℕ → FindAnswer → List ℕ → List ℕ → List ℕ → List ℕ → Type 0
-FindCall sheet low high r work work′ output output′ = SearchingCall (findResult sheet low high (length work) (length output)) r work work′ output output′
+-- Find; plain, or with named terms
+abbrev pub FindCall : List ℕ → ℕ → ℕ → Bool → FindAnswer → List ℕ → List ℕ → List ℕ → List ℕ → Type 0
+FindCall sheet low high named r work work′ output output′ = SearchingCall (findResultIn named sheet low high (length work) (length output)) r work work′ output output′
 
 -- a call that searches with this result and is lent no work area, or is refused
 pub record PlainSearchingCall (result : Answer Search) (r : FindAnswer) (output output′ : List ℕ) : Type 0 where

@@ -1,5 +1,5 @@
 -- The symbols' lines one after the other: the values read so far stand at the front of the cells.
-use Prim.Native.Nat.{ℕ, suc, _+_, _^_, _≤_, _<_}
+use Prim.Native.Nat.{ℕ, suc, _+_, _≤_, _<_}
 use mathlib.Core.Path.{_≡_, refl, sym, ap, _∙_}
 use mathlib.Core.Bool.{false}
 use mathlib.Core.List.{List, [], _∷_, _++_, append-assoc, append-nil}
@@ -13,9 +13,6 @@ use Rattle.theory.specs.Refusals.{Refusal, Answer, answer, refused, atLine, _>>
 use Rattle.theory.specs.CaseText.{readTable, readTables}
 use Rattle.theory.proofs.Answers.{bind-step, bind-refused, check-of-true, check-of-false}
 use Rattle.theory.proofs.Numbering.{cellBase-suc, cellBase-length}
-use Rattle.syntax.specs.Signatures.{Small}
-use Rattle.interpretation.proofs.Ranks.{table-within}
-use Rattle.interpretation.proofs.Tabling.{base-within}
 use Rattle.cases.specs.declared.reading.TableLine.the-variants.{Next, Fault}
 use Rattle.cases.specs.Reading.{caseOfTables, TableRead}
 
@@ -117,9 +114,3 @@ module _ {s : ℕ} {g : Signature} {case : List ℕ} {at next base : ℕ} {cells
     case-ends z =
         let d : drop next case ≡ [] = drop-of-length-le case {i = next} (omega arith) in
         sym (bind-step _ _ _ _ all-tables (bind-step _ _ tt _ (check-of-true _ (atLine 12 (3 + length g)) (ap (λ (l : List ℕ). same l []) d)) refl))
-
--- the next symbol's table has room
-pub room-left : {s : ℕ} {g : Signature} {case : List ℕ} {at next base : ℕ} {cells : List ℕ} {i : ℕ} → TablesRead s g case at next base cells i → s ≤ 8 → Small g → (n : ℕ) → i < length g → symbolAt g i .arity ≡ n
-    → base + s ^ n ≤ 12288
-room-left {s} {g} {i = i} t h small n l e =
-    omega (arith, t .based, base-within g s i h small (omega arith), small .symbols, table-within s n h (omega (arith, small .arities i l)))

@@ -18,7 +18,7 @@ ghost use lib.ListN.{drop, length};
 ghost use Rattle.theory.specs.Bytes.{bytes};
 ghost use Rattle.theory.specs.Lines.{afterKey};
 ghost use Rattle.theory.specs.CaseText.{readCase};
-ghost use Rattle.syntax.specs.Signatures.{kindOf, signatureIn, symbolIn};
+ghost use Rattle.syntax.specs.Signatures.{maxCells, kindOf, signatureIn, symbolIn};
 ghost use Rattle.clauses.specs.Names.{Readable};
 ghost use Rattle.cases.specs.Reading.{TableLineLent, TableRead, ValuesRead, caseIn, caseOfTables, sizeAfter};
 
@@ -106,7 +106,7 @@ fn read_tables(
     size: DomainSize,
     cells: &mut [u8],
 ) -> CaseReading
-    requires { ⌜ (at ≤ length (now case)) × (Readable (now sheet) signature × ((1 ≤ size .0) × ((size .0 ≤ 8) × (12288 ≤ length (now cells))))) ⌝ }
+    requires { ⌜ (at ≤ length (now case)) × (Readable (now sheet) signature × ((1 ≤ size .0) × ((size .0 ≤ 8) × (maxCells ≤ length (now cells))))) ⌝ }
     ensures { λ r. ⌜ caseIn (signatureIn (now (sheet .entry)) signature) r (now (cells .exit))
         ≡ caseOfTables (size .0) (signatureIn (now (sheet .entry)) signature) (drop at (now (case .entry))) ⌝ }
 {
@@ -148,7 +148,7 @@ fn size_of(line: &[u8]) -> SizeCheck
 
 // The cells of a case text of a signature whose names stand in the sheet.
 pub fn read_case(case: &[u8], sheet: &[u8], signature: Signature, cells: &mut [u8]) -> CaseReading
-    requires { ⌜ Readable (now sheet) signature × (12288 ≤ length (now cells)) ⌝ }
+    requires { ⌜ Readable (now sheet) signature × (maxCells ≤ length (now cells)) ⌝ }
     ensures { λ r. ⌜ caseIn (signatureIn (now (sheet .entry)) signature) r (now (cells .exit)) ≡ readCase (signatureIn (now (sheet .entry)) signature) (now (case .entry)) ⌝ }
 {
     let first = line_end(case, 0);

@@ -14,76 +14,76 @@ use Rattle.theory.specs.Syntax as theory
 use Rattle.theory.specs.Grammar.{Word, equals, symbol, letter, terms, atom, Due, dueAfterFunction, dueAfterPredicate, dueAfter}
 use Rattle.theory.proofs.Tests.{or-cases, and-left}
 use Rattle.syntax.specs.declared.signature.Signature.{Signature}
-use Rattle.syntax.specs.Signatures.{kindOf, signatureIn}
-use Rattle.syntax.specs.Codes.{codeWord}
+use Rattle.syntax.specs.Signatures.{maxInAll, kindOf, signatureIn}
+use Rattle.syntax.specs.Codes.{plusCode, minusCode, equalsCode, letterCode, pastLetters, codeWord}
 use Rattle.syntax.proofs.Codes.{wordOf-symbol, wordOf-letter}
 use Rattle.clauses.specs.Names.{Limited}
-use Rattle.clauses.specs.Words.{isFixed, isCode}
+use Rattle.clauses.specs.Words.{isFixedCode, isCode}
 use Rattle.clauses.proofs.Held.{blank, symbolAt-signatureIn}
 
 -- where nothing is due, no word but a sign can stand
-pub no-sign : (g : theory.Signature) (c : ℕ) → (c ≡ 43 → ⊥) → (c ≡ 45 → ⊥) → none ≡ dueAfter g (terms 0) (codeWord c)
-no-sign g c h k = rw (ne-eqb c 43 h, ne-eqb c 45 k) (go (eqb c 61) (ltb c 65))
+pub no-sign : (g : theory.Signature) (c : ℕ) → (c ≡ plusCode → ⊥) → (c ≡ minusCode → ⊥) → none ≡ dueAfter g (terms 0) (codeWord c)
+no-sign g c h k = rw (ne-eqb c plusCode h, ne-eqb c minusCode k) (go (eqb c equalsCode) (ltb c letterCode))
   where
-    go : (e s : Bool) → none ≡ dueAfter g (terms 0) (cond e equals (cond s (symbol c) (letter (c - 65))))
+    go : (e s : Bool) → none ≡ dueAfter g (terms 0) (cond e equals (cond s (symbol c) (letter (c - letterCode))))
     go true s = refl
     go false true = refl
     go false false = refl
 
-pub plus-sign : (g : theory.Signature) (c : ℕ) → c ≡ 43 → some atom ≡ dueAfter g (terms 0) (codeWord c)
+pub plus-sign : (g : theory.Signature) (c : ℕ) → c ≡ plusCode → some atom ≡ dueAfter g (terms 0) (codeWord c)
 plus-sign g c e = ap (λ (n : ℕ). dueAfter g (terms 0) (codeWord n)) (sym e)
 
-pub minus-sign : (g : theory.Signature) (c : ℕ) → c ≡ 45 → some atom ≡ dueAfter g (terms 0) (codeWord c)
+pub minus-sign : (g : theory.Signature) (c : ℕ) → c ≡ minusCode → some atom ≡ dueAfter g (terms 0) (codeWord c)
 minus-sign g c e = ap (λ (n : ℕ). dueAfter g (terms 0) (codeWord n)) (sym e)
 
 -- the codes of words
-code-cases : {P : Type 0} (n c : ℕ) → (c < n → P) → (c ≡ 43 → P) → (c ≡ 45 → P) → (c ≡ 61 → P) → (65 ≤ c → P) → isCode n c ≡ true → P
-code-cases {P} n c name plus minus equality variable e = first (or-cases (ltb c n) (isFixed c) e)
+pub code-cases : {P : Type 0} (n c : ℕ) → (c < n → P) → (c ≡ plusCode → P) → (c ≡ minusCode → P) → (c ≡ equalsCode → P) → (letterCode ≤ c → P) → isCode n c ≡ true → P
+code-cases {P} n c name plus minus equality variable e = first (or-cases (ltb c n) (isFixedCode c) e)
   where
-    fourth : (eqb c 61 ≡ true) ⊎ ((leb 65 c && ltb c 73) ≡ true) → P
-    fourth (inl e) = equality (eqb-true c 61 e)
-    fourth (inr e) = variable (leb-true 65 c (and-left (leb 65 c) (ltb c 73) e))
+    fourth : (eqb c equalsCode ≡ true) ⊎ ((leb letterCode c && ltb c pastLetters) ≡ true) → P
+    fourth (inl e) = equality (eqb-true c equalsCode e)
+    fourth (inr e) = variable (leb-true letterCode c (and-left (leb letterCode c) (ltb c pastLetters) e))
 
-    third : (eqb c 45 ≡ true) ⊎ ((eqb c 61 || (leb 65 c && ltb c 73)) ≡ true) → P
-    third (inl e) = minus (eqb-true c 45 e)
-    third (inr e) = fourth (or-cases (eqb c 61) (leb 65 c && ltb c 73) e)
+    third : (eqb c minusCode ≡ true) ⊎ ((eqb c equalsCode || (leb letterCode c && ltb c pastLetters)) ≡ true) → P
+    third (inl e) = minus (eqb-true c minusCode e)
+    third (inr e) = fourth (or-cases (eqb c equalsCode) (leb letterCode c && ltb c pastLetters) e)
 
-    second : (eqb c 43 ≡ true) ⊎ ((eqb c 45 || (eqb c 61 || (leb 65 c && ltb c 73))) ≡ true) → P
-    second (inl e) = plus (eqb-true c 43 e)
-    second (inr e) = third (or-cases (eqb c 45) (eqb c 61 || (leb 65 c && ltb c 73)) e)
+    second : (eqb c plusCode ≡ true) ⊎ ((eqb c minusCode || (eqb c equalsCode || (leb letterCode c && ltb c pastLetters))) ≡ true) → P
+    second (inl e) = plus (eqb-true c plusCode e)
+    second (inr e) = third (or-cases (eqb c minusCode) (eqb c equalsCode || (leb letterCode c && ltb c pastLetters)) e)
 
-    first : (ltb c n ≡ true) ⊎ (isFixed c ≡ true) → P
+    first : (ltb c n ≡ true) ⊎ (isFixedCode c ≡ true) → P
     first (inl e) = name (ltb-true c n e)
-    first (inr e) = second (or-cases (eqb c 43) (eqb c 45 || (eqb c 61 || (leb 65 c && ltb c 73))) e)
+    first (inr e) = second (or-cases (eqb c plusCode) (eqb c minusCode || (eqb c equalsCode || (leb letterCode c && ltb c pastLetters))) e)
 
-module _ (n c : ℕ) (small : n ≤ 24) (coded : isCode n c ≡ true) where
-  -- the codes below 43 are those of symbols
-  pub symbol-code : c < 43 → c < n
+module _ (n c : ℕ) (small : n ≤ maxInAll) (coded : isCode n c ≡ true) where
+  -- the codes below that of + are those of symbols
+  pub symbol-code : c < plusCode → c < n
   symbol-code h = code-cases n c (λ l. l) (λ e. absurd (omega arith)) (λ e. absurd (omega arith)) (λ e. absurd (omega arith)) (λ l. absurd (omega arith)) coded
 
   module _ (g : theory.Signature) where
     -- neither a sign nor = is a term
-    pub no-term : (m : ℕ) → 43 ≤ c → c < 65 → none ≡ dueAfter g (terms (suc m)) (codeWord c)
+    pub no-term : (m : ℕ) → plusCode ≤ c → c < letterCode → none ≡ dueAfter g (terms (suc m)) (codeWord c)
     no-term m h k = code-cases n c (λ l. absurd (omega arith)) (at refl) (at refl) (at refl) (λ l. absurd (omega arith)) coded
       where
         at : {k : ℕ} → none ≡ dueAfter g (terms (suc m)) (codeWord k) → c ≡ k → none ≡ dueAfter g (terms (suc m)) (codeWord c)
         at e h = e ∙ ap (λ (n : ℕ). dueAfter g (terms (suc m)) (codeWord n)) (sym h)
 
     -- neither a sign nor a letter is an atom
-    pub no-atom : (c ≡ 61 → ⊥) → 43 ≤ c → none ≡ dueAfter g atom (codeWord c)
+    pub no-atom : (c ≡ equalsCode → ⊥) → plusCode ≤ c → none ≡ dueAfter g atom (codeWord c)
     no-atom ne h = code-cases n c (λ l. absurd (omega arith)) (at refl) (at refl) (λ e. absurd (ne e)) (λ l. ap (dueAfter g atom) (sym (wordOf-letter c l))) coded
       where
         at : {k : ℕ} → none ≡ dueAfter g atom (codeWord k) → c ≡ k → none ≡ dueAfter g atom (codeWord c)
         at e h = e ∙ ap (λ (n : ℕ). dueAfter g atom (codeWord n)) (sym h)
 
 -- a letter is a term
-pub letter-term : (g : theory.Signature) (c m : ℕ) → 65 ≤ c → some (terms m) ≡ dueAfter g (terms (suc m)) (codeWord c)
+pub letter-term : (g : theory.Signature) (c m : ℕ) → letterCode ≤ c → some (terms m) ≡ dueAfter g (terms (suc m)) (codeWord c)
 letter-term g c m h = ap (dueAfter g (terms (suc m))) (sym (wordOf-letter c h))
 
-pub equals-atom : (g : theory.Signature) (c : ℕ) → c ≡ 61 → some (terms 2) ≡ dueAfter g atom (codeWord c)
+pub equals-atom : (g : theory.Signature) (c : ℕ) → c ≡ equalsCode → some (terms 2) ≡ dueAfter g atom (codeWord c)
 equals-atom g c e = ap (λ (n : ℕ). dueAfter g atom (codeWord n)) (sym e)
 
-module _ (sheet : List ℕ) (s : Signature) (h : Limited s) (c : ℕ) (below : c < 43) (held : c < s .count) where
+module _ (sheet : List ℕ) (s : Signature) (h : Limited s) (c : ℕ) (below : c < plusCode) (held : c < s .count) where
   -- a symbol where a term, and where an atom, is due
   after-symbol : (d : Due) (f : Kind → ℕ → Option Due) → ((i : ℕ) → dueAfter (signatureIn sheet s) d (symbol i) ≡ f (symbolAt (signatureIn sheet s) i .kind) (symbolAt (signatureIn sheet s) i .arity))
       → dueAfter (signatureIn sheet s) d (codeWord c) ≡ f (kindOf (getD (s .symbols) c blank .function)) (getD (s .symbols) c blank .arity)

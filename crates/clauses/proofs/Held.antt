@@ -1,25 +1,30 @@
 -- Laws of a sheet's symbols as the code holds them: the symbol at a place, one symbol more.
-use Prim.Native.Nat.{ℕ, _+_, _≤_, _<_}
+use Prim.Native.Nat.{ℕ, _+_, _-_, _≤_, _<_}
 use mathlib.Core.Path.{_≡_, sym, ap, _∙_}
-use mathlib.Core.Bool.{Bool, false}
+use mathlib.Core.Bool.{Bool, true, false}
 use mathlib.Core.List.{List}
 use native.Mathlib.Omega.{arith}
-use lib.Dec.{leb}
-use lib.ListN.{length, getD, take, length-take, length-map}
-use lib.Seq.{getD-take, length-take-le}
+use lib.Dec.{eqb, leb}
+use lib.ListN.{length, getD, take, drop, length-take, length-drop, length-map, drop-of-length-le}
+use lib.Seq.{getD-take, getD-drop, length-take-le}
+use Rattle.theory.specs.Lists.{all}
 use Rattle.theory.specs.Syntax.{symbolAt, noSymbol}
 use Rattle.theory.specs.Syntax as theory
-use Rattle.theory.proofs.Tests.{leb-true}
+use Rattle.theory.proofs.Tests.{leb-true, eqb-true}
 use Rattle.theory.proofs.Lists.{all-at, map-at}
 use Rattle.syntax.specs.declared.signature.Symbol.{Symbol}
 use Rattle.syntax.specs.declared.signature.Signature.{Signature}
-use Rattle.syntax.specs.Signatures.{symbolIn, signatureIn, aritiesOf, Arities, Small}
+use Rattle.syntax.specs.Signatures.{maxDeclared, symbolIn, signatureIn, aritiesOf, Arities, Small}
 use Rattle.syntax.proofs.Signatures.{length-signatureIn, arities-signatureIn}
 use Rattle.clauses.specs.Names.{Limited, Readable}
 
 -- what stands past the symbols
 abbrev pub blank : Symbol
-blank = record { function = false; arity = 0; name = 0; length = 0 }
+blank = record { function = false; helper = false; arity = 0; name = 0; length = 0 }
+
+-- no symbol is past those that a sheet may have where there are no more
+pub none-past : (s : Signature) (p : Symbol → Bool) → s .count ≤ maxDeclared → all p (drop maxDeclared (take (s .count) (s .symbols))) ≡ true
+none-past s p h = ap (all p) (drop-of-length-le (take (s .count) (s .symbols)) {i = maxDeclared} (omega (arith, length-take (s .count) (s .symbols))))
 
 module _ (s : Signature) (h : Limited s) where
   front : length (take (s .count) (s .symbols)) ≡ s .count
@@ -30,6 +35,16 @@ module _ (s : Signature) (h : Limited s) where
       leb-true (getD (s .symbols) i blank .arity) 3
       (ap (λ (y : Symbol). leb (y .arity) 3) (sym (getD-take (s .count) (s .symbols) i blank l))
       ∙ all-at (λ (y : Symbol). leb (y .arity) 3) blank (take (s .count) (s .symbols)) i (h .arities) (omega (arith, front)))
+
+  -- past those that a sheet may have, all are constants
+  pub constant-at : (i : ℕ) → maxDeclared ≤ i → i < s .count → getD (s .symbols) i blank .arity ≡ 0
+  constant-at i past l =
+      let ys : List Symbol = take (s .count) (s .symbols) in
+      let e : maxDeclared + (i - maxDeclared) ≡ i = omega arith in
+      eqb-true (getD (s .symbols) i blank .arity) 0
+      (ap (λ (y : Symbol). eqb (y .arity) 0)
+      (sym (getD-drop maxDeclared ys (i - maxDeclared) blank ∙ ap (λ (j : ℕ). getD ys j blank) e ∙ getD-take (s .count) (s .symbols) i blank l))
+      ∙ all-at (λ (y : Symbol). eqb (y .arity) 0) blank (drop maxDeclared ys) (i - maxDeclared) (h .constants) (omega (arith, length-drop maxDeclared ys, front)))
 
   pub count-signatureIn : (sheet : List ℕ) → length (signatureIn sheet s) ≡ s .count
   count-signatureIn sheet = length-signatureIn sheet s (h .held)

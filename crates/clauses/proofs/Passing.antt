@@ -16,7 +16,7 @@ use Rattle.theory.specs.Syntax.{Signature}
 use Rattle.theory.specs.Grammar.{Word, sign, equals, symbol, letter, terms, Due}
 use Rattle.theory.specs.Problem.{maxWords}
 use Rattle.theory.proofs.Lists.{sum-map-append}
-use Rattle.syntax.specs.Codes.{codeWord}
+use Rattle.syntax.specs.Codes.{plusCode, minusCode, equalsCode, letterCode, codeWord}
 use Rattle.clauses.specs.declared.clause.Words.{Words}
 use Rattle.clauses.specs.declared.words.Word.the-variants.{Code, Unknown}
 use Rattle.clauses.specs.Words.{WordRead}
@@ -31,14 +31,14 @@ dueAfterAll-more g d (w ∷ ws) x = dueAfterAll-more g (dueNext g d w) ws x
 signs-more : (ws : List Word) (x : Word) → sum (map signCount (ws ++ (x ∷ []))) ≡ sum (map signCount ws) + signCount x
 signs-more ws x = sum-map-append signCount ws (x ∷ []) ∙ ap (λ (n : ℕ). sum (map signCount ws) + n) (add-zero (signCount x))
 
--- the signs have the codes 43 and 45
+-- the signs have two codes
 pub sign-code : (c k : ℕ) → 1 ≡ signCount (codeWord k) → c ≡ k → 1 ≡ signCount (codeWord c)
 sign-code c k h e = h ∙ ap (λ (n : ℕ). signCount (codeWord n)) (sym e)
 
-pub no-sign-code : (c : ℕ) → (c ≡ 43 → ⊥) → (c ≡ 45 → ⊥) → 0 ≡ signCount (codeWord c)
-no-sign-code c h k = rw (ne-eqb c 43 h, ne-eqb c 45 k) (go (eqb c 61) (ltb c 65))
+pub no-sign-code : (c : ℕ) → (c ≡ plusCode → ⊥) → (c ≡ minusCode → ⊥) → 0 ≡ signCount (codeWord c)
+no-sign-code c h k = rw (ne-eqb c plusCode h, ne-eqb c minusCode k) (go (eqb c equalsCode) (ltb c letterCode))
   where
-    go : (e s : Bool) → 0 ≡ signCount (cond e equals (cond s (symbol c) (letter (c - 65))))
+    go : (e s : Bool) → 0 ≡ signCount (cond e equals (cond s (symbol c) (letter (c - letterCode))))
     go true s = refl
     go false true = refl
     go false false = refl

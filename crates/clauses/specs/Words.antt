@@ -13,7 +13,7 @@ use Rattle.syntax.specs.Codes as codes
 use Rattle.clauses.specs.declared.words.Word.{Word}
 use Rattle.clauses.specs.declared.words.Word.the-variants.{Code, Unknown}
 
--- the code of +, -, = or a variable letter
+-- the byte of +, -, = or a variable letter
 abbrev pub isFixed : ℕ → Bool
 isFixed c = eqb c 43 || (eqb c 45 || (eqb c 61 || (leb 65 c && ltb c 73)))
 
@@ -23,9 +23,13 @@ isFixedWord [] = false
 isFixedWord (b ∷ []) = isFixed b
 isFixedWord (b ∷ c ∷ w) = false
 
+-- the code of one of those
+abbrev pub isFixedCode : ℕ → Bool
+isFixedCode c = eqb c codes.plusCode || (eqb c codes.minusCode || (eqb c codes.equalsCode || (leb codes.letterCode c && ltb c codes.pastLetters)))
+
 -- the code of a word over n symbols
 abbrev pub isCode : ℕ → ℕ → Bool
-isCode n c = ltb c n || isFixed c
+isCode n c = ltb c n || isFixedCode c
 
 -- the same of what was read
 abbrev pub isCoded : ℕ → Word → Bool

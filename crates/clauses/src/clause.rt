@@ -98,7 +98,7 @@ fn refused(fault: u8) -> ClauseLine
 }
 
 // The words of a line: none where it is empty.
-fn read_words(sheet: &[u8], signature: Signature, value: &[u8]) -> Words
+pub fn read_words(sheet: &[u8], signature: Signature, value: &[u8]) -> Words
     requires { ⌜ Readable (now sheet) signature ⌝ }
     ensures { λ r. ⌜ WordsRead (signatureIn (now (sheet .entry)) signature) (wordsOf (now (value .entry))) r ⌝ }
 {

@@ -1,11 +1,15 @@
 // One word of a clause line.
 use crate::names::find_name;
+use syntax::limits::Problem;
 use syntax::signature::Signature;
 use syntax::words::ClauseWords;
 ghost use mathlib.Core.Path.{_≡_};
 ghost use Rattle.syntax.specs.Signatures.{signatureIn};
 ghost use Rattle.clauses.specs.Names.{Readable};
 ghost use Rattle.clauses.specs.Words.{isFixed, isFixedWord, WordRead};
+
+// the byte after those of the variable letters
+const PAST_LETTERS: u8 = b'A' + Problem::MAX_LETTERS as u8;
 
 pub enum Word {
     // the word's code: see ClauseWords
@@ -22,7 +26,7 @@ pub fn word_of(sheet: &[u8], signature: Signature, word: &[u8]) -> Word
         return Word::Unknown;
     }
     if is_fixed_word(word) {
-        return Word::Code(word[0]);
+        return Word::Code(ClauseWords::MAX_PLACES + word[0]);
     }
     let i = find_name(sheet, signature, word);
     if i < signature.count {
@@ -45,14 +49,14 @@ fn is_fixed_word(word: &[u8]) -> bool
 fn is_fixed(b: u8) -> bool
     ensures { λ r. ⌜ r ≡ isFixed b ⌝ }
 {
-    if b == ClauseWords::PLUS {
+    if b == b'+' {
         return true;
     }
-    if b == ClauseWords::MINUS {
+    if b == b'-' {
         return true;
     }
-    if b == ClauseWords::EQUALS {
+    if b == b'=' {
         return true;
     }
-    ClauseWords::LETTER <= b && b < ClauseWords::PAST_LETTERS
+    b'A' <= b && b < PAST_LETTERS
 }

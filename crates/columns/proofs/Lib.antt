@@ -8,6 +8,7 @@ pub mod WordWalk
 pub mod WordFaults
 pub mod WordPlaces
 pub mod LineColumns
+pub mod HeadSections
 pub mod SymbolsAgain
 pub mod SheetRefused
 pub mod CaseLines

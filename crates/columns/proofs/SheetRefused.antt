@@ -1,11 +1,12 @@
 -- A sheet that is refused: what its number says of the line, and its column.
 use Prim.Native.Nat.{ℕ, zero, suc, _-_, _≤_, _<_}
-use mathlib.Core.Path.{_≡_, sym, ap, _∙_, subst}
+use mathlib.Core.Path.{_≡_, refl, sym, ap, _∙_, subst}
 use mathlib.Core.Logic.{inl, inr}
-use mathlib.Core.Bool.{true}
+use mathlib.Core.Bool.{Bool, true, false, cond}
 use mathlib.Core.List.{List}
 use native.Mathlib.Omega.{arith}
 use lib.ListN.{length}
+use borrow.Author.Tests.{eq-eqb, ne-eqb}
 use Rattle.theory.specs.Syntax.{Signature}
 use Rattle.theory.specs.Refusals.{refused, atLine, atPlace}
 use Rattle.theory.specs.Problem.{readAll, readProblem}
@@ -14,7 +15,10 @@ use Rattle.theory.specs.DueLines.{firstLine, fromLine, dueInSheet, sheetSymbols
 use Rattle.theory.specs.Columns.{isDeclaration, lineWords, lineColumn, sheetColumn, withColumns, placedProblem}
 use Rattle.theory.specs.Claims.Columns.{OverNumber}
 use Rattle.theory.proofs.Tests.{both-false}
-use Rattle.theory.proofs.SheetFaults.{HasFault, sheet-fault, clause-due}
+use Rattle.theory.proofs.SheetFaults.{HasFault, LineFault, sheet-fault, clause-due}
+use Rattle.naming.specs.NamedReading.{readNamed, namedColumn, placedNamed}
+use Rattle.naming.specs.NamedOperations.{readProblemIn}
+use Rattle.naming.proofs.NamedFaults.{named-fault}
 use Rattle.text.specs.Lines.{part}
 use Rattle.syntax.specs.declared.signature.Signature as declared
 use Rattle.syntax.specs.Signatures.{signatureIn}
@@ -23,7 +27,7 @@ use Rattle.columns.specs.declared.due.SheetLine.the-variants.{Clause}
 use Rattle.columns.specs.declared.lines.LineSpan.{LineSpan}
 use Rattle.columns.specs.Lines.{LineAt}
 use Rattle.columns.specs.Due.{formOf}
-use Rattle.columns.specs.Sheets.{ByteRefused, SymbolsFound, KnownFrom6, WordsRefused}
+use Rattle.columns.specs.Sheets.{ByteRefused, LineRefused, SymbolsFound, KnownFrom6, WordsRefused}
 
 pub refused-placed : (sheet : List ℕ) (n l c : ℕ) → readProblem sheet ≡ refused (atLine n l) → c ≡ sheetColumn sheet n l → placedProblem sheet ≡ refused (atPlace n (record { line = l; column = c }))
 unfolding placedProblem
@@ -54,8 +58,32 @@ arity-there : (d : LineForm) (l : List ℕ) (c : ℕ) → OverNumber d l c → i
 arity-there d l c (inl o) e = absurd (both-false e (ap isDeclaration (o .due)))
 arity-there d l c (inr o) e = omega (arith, o .last, o .second)
 
+-- the line of a refusal has its condition, in both modes
+line-fault : (sheet : List ℕ) (n l : ℕ) (named : Bool) → readProblemIn named sheet ≡ refused (atLine n (suc l)) → (named ≡ true → n ≡ 7 → ⊥) → LineFault sheet l n
+line-fault sheet n l false e other = sheet-fault sheet n l e
+line-fault sheet n l true e other = named-fault sheet n l (other refl) e
+
+-- the column of a 7 with named terms, and of any other
+pub seven-told : (sheet : List ℕ) (n l : ℕ) → n ≡ 7 → (l ≡ 0 → ⊥) → 1 ≡ namedColumn sheet n l
+unfolding namedColumn
+seven-told sheet n zero e h = absurd (h refl)
+seven-told sheet n (suc l) e h = sym (ap (λ (b : Bool). cond b 1 (sheetColumn sheet n (suc l))) (eq-eqb n 7 e))
+
+pub other-told : (sheet : List ℕ) (n l r : ℕ) → (n ≡ 7 → ⊥) → (l ≡ 0 → ⊥) → r ≡ sheetColumn sheet n l → r ≡ namedColumn sheet n l
+unfolding namedColumn
+other-told sheet n zero r ne h e = absurd (h refl)
+other-told sheet n (suc l) r ne h e = e ∙ sym (ap (λ (b : Bool). cond b 1 (sheetColumn sheet n (suc l))) (ne-eqb n 7 ne))
+
+pub named-lineless : (sheet : List ℕ) (n l : ℕ) → l ≡ 0 → 0 ≡ namedColumn sheet n l
+unfolding namedColumn
+named-lineless sheet n l e = ap (namedColumn sheet n) (sym e)
+
+pub named-placed : (sheet : List ℕ) (n l c : ℕ) → readNamed sheet ≡ refused (atLine n l) → c ≡ namedColumn sheet n l → placedNamed sheet ≡ refused (atPlace n (record { line = l; column = c }))
+unfolding placedNamed
+named-placed sheet n l c e h = ap (withColumns (namedColumn sheet)) e ∙ ap (λ (c : ℕ). refused (atPlace n (record { line = l; column = c }))) (sym h)
+
 -- a sheet that is refused on a line
-module _ (sheet : List ℕ) (n line : ℕ) (there : LineSpan) (e : readProblem sheet ≡ refused (atLine n line)) (h : line ≡ 0 → ⊥) (at : LineAt sheet (line - 1) there) where
+module _ (sheet : List ℕ) (n line : ℕ) (there : LineSpan) (e : LineRefused sheet n line) (h : line ≡ 0 → ⊥) (at : LineAt sheet (line - 1) there) where
   abbrev bytes : List ℕ
   bytes = part sheet (there .from) (there .to)
 
@@ -63,7 +91,7 @@ module _ (sheet : List ℕ) (n line : ℕ) (there : LineSpan) (e : readProblem s
   next = omega arith
 
   fault : HasFault sheet n (line - 1)
-  fault = sheet-fault sheet n (line - 1) (e ∙ ap (λ (l : ℕ). refused (atLine n l)) next) .has
+  fault = line-fault sheet n (line - 1) (e .named) (e .refusal ∙ ap (λ (l : ℕ). refused (atLine n l)) next) (e .other) .has
 
   -- the column of the line
   told : (d : LineForm) (r : ℕ) → d ≡ dueInSheet sheet (line - 1) → r ≡ lineColumn (sheetSymbols sheet) d bytes n → r ≡ sheetColumn sheet n line

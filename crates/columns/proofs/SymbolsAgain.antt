@@ -1,5 +1,5 @@
 -- The symbols of a sheet that is refused for a clause, read again section by section.
-use Prim.Native.Nat.{ℕ, _+_}
+use Prim.Native.Nat.{ℕ, _+_, _≤_}
 use mathlib.Core.Path.{_≡_, refl, sym, ap, _∙_}
 use mathlib.Core.Bool.{Bool, true, false, cond}
 use mathlib.Core.List.{List, []}
@@ -11,14 +11,17 @@ use Rattle.theory.specs.Syntax.{function, predicate}
 use Rattle.theory.specs.Refusals.{Answer, answer, refused, atLine}
 use Rattle.theory.specs.Problem.{maxSymbols, countLine, symbolLines}
 use Rattle.theory.specs.DueLines.{fromLine}
-use Rattle.theory.proofs.Answers.{bind-step, answer-inj, answer≢refused}
+use Rattle.theory.proofs.Answers.{bind-step, unrefused, answer-inj, answer≢refused}
 use Rattle.theory.proofs.SheetLines.{key-cut, at-next}
 use Rattle.theory.proofs.SheetSections.{SectionsRead, sections-refused, sections-said}
+use Rattle.naming.specs.NamedOperations.{readProblemIn}
+use Rattle.naming.proofs.SheetHead.{Head, head, namedRest, named-parts, head-refused}
 use Rattle.syntax.specs.Signatures.{signatureIn}
 use Rattle.problem.specs.declared.sections.Section.{Section}
 use Rattle.problem.specs.Sections.{Rest, linesFrom, sectionFrom, SectionRead}
 use Rattle.columns.specs.Lines.{LineStart}
 use Rattle.columns.specs.Sheets.{ClauseRefused, SymbolsFound}
+use Rattle.columns.proofs.HeadSections.{head-sections}
 
 -- what the code holds of a section that was answered
 section-held : (sheet : List ℕ) (most last : ℕ) (a : Answer Rest) (r : Section) (x : Rest) → SectionRead sheet most last a r → a ≡ answer x → (signatureIn sheet (r .signature), r .line, drop (r .next) sheet) ≡ x
@@ -67,8 +70,15 @@ module _ (sheet : List ℕ) (s : SectionsRead sheet) where
     found : SymbolsFound sheet (p .signature)
     found = record { readable = predicates .readable; symbols = ap (λ (x : Rest). x .0) all-held ∙ sections-said sheet s .symbols }
 
+-- the sections of a sheet that is refused with 5 or more were read, in both modes
+sections-in : (sheet : List ℕ) (n l : ℕ) → 5 ≤ n → (named : Bool) → readProblemIn named sheet ≡ refused (atLine n l) → SectionsRead sheet
+sections-in sheet n l late false e = sections-refused sheet n l late e
+sections-in sheet n l late true e =
+    unrefused (head sheet) namedRest (atLine n l) (sym (named-parts sheet) ∙ e) (λ h. sections-refused sheet n l late (head-refused sheet (atLine n l) h))
+    λ (h : Head) k _. head-sections sheet h k
+
 pub symbols-found : (sheet : List ℕ) (at most last most′ last′ : ℕ) (f p : Section) → ClauseRefused sheet → LineStart sheet 1 at
     → SectionRead sheet most last (sectionFrom (bytes "funs=") (bytes "fun=") function [] 2 (drop at sheet)) f
     → SectionRead sheet most′ last′ (sectionFrom (bytes "preds=") (bytes "pred=") predicate (signatureIn sheet (f .signature)) (f .line) (drop (f .next) sheet)) p → SymbolsFound sheet (p .signature)
 symbols-found sheet at most last most′ last′ f p c start functions predicates =
-    found sheet (sections-refused sheet (c .number) (c .line) (c .late) (c .refusal)) at most last most′ last′ f p start functions predicates
+    found sheet (sections-in sheet (c .number) (c .line) (c .late) (c .refusal .named) (c .refusal .refusal)) at most last most′ last′ f p start functions predicates

@@ -1,7 +1,7 @@
 -- What the columns of a sheet's refusals are told from.
 use Prim.Native.Nat.{ℕ, suc, _≤_, _<_}
 use mathlib.Core.Path.{_≡_}
-use mathlib.Core.Bool.{true, cond}
+use mathlib.Core.Bool.{Bool, true, cond}
 use mathlib.Core.Option.{Option, some}
 use mathlib.Core.List.{List}
 use lib.Dec.{eqb}
@@ -9,9 +9,10 @@ use lib.ListN.{length}
 use Rattle.theory.specs.Syntax.{Signature}
 use Rattle.theory.specs.Grammar.{Word}
 use Rattle.theory.specs.Refusals.{refused, atLine}
-use Rattle.theory.specs.Problem.{readAll, readProblem}
+use Rattle.theory.specs.Problem.{readAll}
 use Rattle.theory.specs.DueLines.{sheetSymbols}
 use Rattle.theory.specs.Columns.{isDeclaration, lineWords, firstUnknown, firstMisplaced, firstOver}
+use Rattle.naming.specs.NamedOperations.{readProblemIn}
 use Rattle.syntax.specs.declared.signature.Signature as declared
 use Rattle.syntax.specs.Signatures.{signatureIn}
 use Rattle.clauses.specs.Names.{Readable}
@@ -24,12 +25,18 @@ pub record ByteRefused (due : SheetLine) (n : ℕ) (line : List ℕ) : Type 0 wh
   pub most : n < 5
   pub arity : n ≡ 3 → isDeclaration (formOf due) ≡ true → 2 ≤ length line
 
+-- the sheet is refused with this number on this line, plain or with named terms; there the words do not tell a 7
+pub record LineRefused (sheet : List ℕ) (n l : ℕ) : Type 0 where
+  pub named : Bool
+  pub refusal : readProblemIn named sheet ≡ refused (atLine n l)
+  pub other : named ≡ true → n ≡ 7 → ⊥
+
 -- the sheet is refused for a clause
 pub record ClauseRefused (sheet : List ℕ) : Type 0 where
   pub number : ℕ
   pub line : ℕ
   pub late : 5 ≤ number
-  pub refusal : readProblem sheet ≡ refused (atLine number line)
+  pub refusal : LineRefused sheet number line
 
 -- s are the symbols of the sheet
 pub record SymbolsFound (sheet : List ℕ) (s : declared.Signature) : Type 0 where

@@ -22,13 +22,16 @@ ghost use Rattle.theory.specs.Syntax as theory;
 ghost use Rattle.theory.specs.Refusals.{refused, atLine};
 ghost use Rattle.theory.specs.Problem.{readProblem};
 ghost use Rattle.theory.specs.Columns.{lineColumn, sheetColumn, placedProblem};
+ghost use Rattle.naming.specs.NamedReading.{readNamed, namedColumn};
+ghost use Rattle.naming.specs.NamedOperations.{readProblemIn};
 ghost use Rattle.syntax.specs.Signatures.{signatureIn};
 ghost use Rattle.clauses.specs.Names.{Readable};
+ghost use Rattle.problem.specs.Modes.{placedIn};
 ghost use Rattle.answers.specs.Answers.{refusalIn};
 ghost use Rattle.columns.specs.declared.due.SheetLine.the-variants.{Clause};
 ghost use Rattle.columns.specs.Due.{formOf};
 ghost use Rattle.columns.specs.Words.{startIn, startFrom, StartWithin};
-ghost use Rattle.columns.specs.Sheets.{ByteRefused, ClauseRefused, SymbolsFound, KnownFrom6, WordsRefused, wordFault, wordless};
+ghost use Rattle.columns.specs.Sheets.{ByteRefused, LineRefused, ClauseRefused, SymbolsFound, KnownFrom6, WordsRefused, wordFault, wordless};
 
 // The refusal that reading the sheet gave, at its column.
 pub fn sheet_refusal(sheet: &[u8], number: u8, line: usize) -> Refusal
@@ -38,8 +41,33 @@ pub fn sheet_refusal(sheet: &[u8], number: u8, line: usize) -> Refusal
     at_place(number, line, sheet_column(sheet, number, line))
 }
 
+// The refusal that reading the sheet in a mode gave, at its column.
+pub fn refusal_in(sheet: &[u8], named: bool, number: u8, line: usize) -> Refusal
+    requires { ⌜ readProblemIn named (now sheet) ≡ refused (atLine number line) ⌝ }
+    ensures { λ r. ⌜ placedIn named (now (sheet .entry)) ≡ refused (refusalIn r) ⌝ }
+{
+    if named {
+        return at_place(number, line, named_column(sheet, number, line));
+    }
+    sheet_refusal(sheet, number, line)
+}
+
+// With named terms a 7 tells no word.
+fn named_column(sheet: &[u8], number: u8, line: usize) -> usize
+    requires { ⌜ readNamed (now sheet) ≡ refused (atLine number line) ⌝ }
+    ensures { λ r. ⌜ r ≡ namedColumn (now (sheet .entry)) number line ⌝ }
+{
+    if line == 0 {
+        return 0;
+    }
+    if number == 7 {
+        return 1;
+    }
+    sheet_column(sheet, number, line)
+}
+
 fn sheet_column(sheet: &[u8], number: u8, line: usize) -> usize
-    requires { ⌜ readProblem (now sheet) ≡ refused (atLine number line) ⌝ }
+    requires { ⌜ LineRefused (now sheet) number line ⌝ }
     ensures { λ r. ⌜ r ≡ sheetColumn (now (sheet .entry)) number line ⌝ }
 {
     if line == 0 {

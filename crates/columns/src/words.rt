@@ -5,7 +5,6 @@ use clauses::words::Word;
 use clauses::words::word_of;
 use syntax::limits::Problem;
 use syntax::signature::Signature;
-use syntax::words::ClauseWords;
 use text::lines::word_end;
 ghost use mathlib.Core.Path.{_≡_};
 ghost use mathlib.Core.Bool.{true, not};
@@ -119,10 +118,10 @@ fn signs_in(word: &[u8]) -> usize
     if word.len() != 1 {
         return 0;
     }
-    if word[0] == ClauseWords::PLUS {
+    if word[0] == b'+' {
         return 1;
     }
-    if word[0] == ClauseWords::MINUS {
+    if word[0] == b'-' {
         return 1;
     }
     0

@@ -6,7 +6,7 @@ use mathlib.Core.List.{List, [], _∷_, _++_, map, map-append}
 use native.Mathlib.Nat.{mul-le-mul, le-trans, pow-le-pow-left, pow-le-pow-right}
 use native.Mathlib.Omega.{arith}
 use lib.ListN.{length, getD, take, length-map}
-use lib.Seq.{take-suc, take-length, length-take-le}
+use lib.Seq.{take-suc, take-length}
 use Rattle.theory.specs.Lists.{sum, select, upTo}
 use Rattle.theory.specs.Syntax.{isFunction, Signature, symbolAt, Clause}
 use Rattle.theory.specs.Syntax as theory
@@ -18,9 +18,9 @@ use Rattle.theory.proofs.Limits.{flat-literals}
 use Rattle.syntax.specs.declared.signature.Symbol.{Symbol}
 use Rattle.syntax.specs.declared.limits.Problem.{Problem}
 use Rattle.syntax.specs.declared.words.ClauseWords.{ClauseWords}
-use Rattle.syntax.specs.Signatures.{kindOf, symbolIn, signatureIn, aritiesOf}
+use Rattle.syntax.specs.Signatures.{maxInAll, kindOf, symbolIn, signatureIn, aritiesOf}
 use Rattle.clauses.proofs.Held.{arities-held, small-signatureIn}
-use Rattle.problem.specs.Problems.{clauseAt, problemIn, Accepted, WordsOf}
+use Rattle.problem.specs.Problems.{problemIn, Accepted, WordsOf}
 use Rattle.shallow.specs.Placed.{placed, placedLiteral}
 use Rattle.shallow.specs.Literals.{literalIn}
 use Rattle.flattening.specs.declared.flat.FlatClause.{FlatClause}
@@ -78,10 +78,10 @@ one-function s g i a b r p q e f =
     (both-total (functionsBefore s g i) (functionAt s g i) (i * 2 ^ 15) (2 ^ 15) a b r p q e f))
 
 -- all symbols
-pub all-functions : (s : ℕ) (g : Signature) (i : ℕ) (r : Counts) → i ≡ length g → i ≤ 24 → TotalOf (functionsBefore s g i) (i * 2 ^ 15) r
-    → TotalOf (map (functionPart s g) (functionPlaces g)) (2 ^ 41) r
+pub all-functions : (s : ℕ) (g : Signature) (i : ℕ) (r : Counts) → i ≡ length g → i ≤ maxInAll → TotalOf (functionsBefore s g i) (i * 2 ^ 15) r
+    → TotalOf (map (functionPart s g) (functionPlaces g)) (2 ^ 40) r
 all-functions s g i r e h p =
-    total-within (map (functionPart s g) (functionPlaces g)) (i * 2 ^ 15) (2 ^ 41) r (omega arith) (subst (λ (k : ℕ). TotalOf (functionsBefore s g k) (i * 2 ^ 15) r) e p)
+    total-within (map (functionPart s g) (functionPlaces g)) (i * 2 ^ 15) (2 ^ 40) r (omega arith) (subst (λ (k : ℕ). TotalOf (functionsBefore s g k) (i * 2 ^ 15) r) e p)
 
 -- s(s-1) without a difference that may not exist
 pub square-less : (s : ℕ) → s * s - s ≡ s * (s - 1)
@@ -187,18 +187,14 @@ one-clause s g cs k a b r h p q e f =
     (both-total (map (clausePart s g) (take k cs)) (clausePart s g (getD cs k []) ∷ []) (k * (26 * 2 ^ 30)) (26 * 2 ^ 30) a b r p q e f))
 
 -- all clauses
-pub all-clauses : (s : ℕ) (g : Signature) (cs : List Clause) (k : ℕ) (r : Counts) → k ≡ length cs → k ≤ 64 → TotalOf (map (clausePart s g) (take k cs)) (k * (26 * 2 ^ 30)) r
-    → TotalOf (map (clausePart s g) cs) (2 ^ 41 - 1) r
+pub all-clauses : (s : ℕ) (g : Signature) (cs : List Clause) (k : ℕ) (r : Counts) → k ≡ length cs → k ≤ 96 → TotalOf (map (clausePart s g) (take k cs)) (k * (26 * 2 ^ 30)) r
+    → TotalOf (map (clausePart s g) cs) (3 * 2 ^ 40 - 1) r
 all-clauses s g cs k r e h p =
-    total-within (map (clausePart s g) cs) (k * (26 * 2 ^ 30)) (2 ^ 41 - 1) r (omega arith)
+    total-within (map (clausePart s g) cs) (k * (26 * 2 ^ 30)) (3 * 2 ^ 40 - 1) r (omega arith)
     (subst (λ (ds : List Clause). TotalOf (map (clausePart s g) ds) (k * (26 * 2 ^ 30)) r) (ap (λ (j : ℕ). take j cs) e ∙ take-length cs) p)
 
 -- The clauses of an accepted problem.
 module _ (sheet : List ℕ) (p : Problem) (h : Accepted sheet p) where
-  pub clause-count : length (problemIn sheet p .clauses) ≡ p .count
-  unfolding problemIn
-  clause-count = length-map (take (p .count) (p .clauses)) (clauseAt sheet (signatureIn sheet (p .signature))) ∙ length-take-le (p .count) (p .clauses) (h .held)
-
   -- its words can be flattened
   abbrev pub words-within : (k : ℕ) (w : ClauseWords) (arities : List ℕ) → WordsOf sheet p k w
       → take (p .signature .count) arities ≡ aritiesOf (take (p .signature .count) (p .signature .symbols)) → WithinLimits arities w

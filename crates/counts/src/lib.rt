@@ -42,7 +42,7 @@ pub fn counts_at(sheet: &[u8], p: Problem, size: DomainSize) -> Counts
 // What the function cells add.
 fn function_counts(signature: Signature, size: DomainSize) -> Counts
     requires { ⌜ Limited signature × (size .0 ≤ 8) ⌝ }
-    ensures { λ r. ⌜ ((sheet : List ℕ) → TotalOf (map (functionPart (size .0) (signatureIn sheet signature)) (functionPlaces (signatureIn sheet signature))) (2 ^ 41) r) ⌝ }
+    ensures { λ r. ⌜ ((sheet : List ℕ) → TotalOf (map (functionPart (size .0) (signatureIn sheet signature)) (functionPlaces (signatureIn sheet signature))) (2 ^ 40) r) ⌝ }
 {
     let mut total = Counts {
         instances: 0,
@@ -83,7 +83,7 @@ fn symbol_counts(symbol: Symbol, size: DomainSize) -> Counts
 // What the instances of all clauses add.
 fn all_clause_counts(sheet: &[u8], p: Problem, size: DomainSize) -> Counts
     requires { ⌜ Accepted (now sheet) p × (size .0 ≤ 8) ⌝ }
-    ensures { λ r. ⌜ TotalOf (map (clausePart (size .0) (signatureIn (now (sheet .entry)) (p .signature))) (problemIn (now (sheet .entry)) p .clauses)) (2 ^ 41 - 1) r ⌝ }
+    ensures { λ r. ⌜ TotalOf (map (clausePart (size .0) (signatureIn (now (sheet .entry)) (p .signature))) (problemIn (now (sheet .entry)) p .clauses)) (3 * 2 ^ 40 - 1) r ⌝ }
 {
     let mut total = Counts {
         instances: 0,

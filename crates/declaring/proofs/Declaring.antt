@@ -67,7 +67,7 @@ module _ (text : List ℕ) (t : Symbols) (h : LimitedTable text t) where
     o = symbolOccurrence text start end fn arity
 
     abbrev self : theory.Symbol
-    self = record { kind = kindOf fn; name = w; arity = arity }
+    self = record { kind = kindOf fn; name = w; arity = arity; origin = theory.declared }
 
     -- the two tests of an occurrence
     abbrev differs : theory.Symbol → Bool
@@ -176,7 +176,7 @@ module _ (text : List ℕ) (t : Symbols) (h : LimitedTable text t) where
         pub over-count : 12 ≤ countOfKind t fn → SymbolDeclared text t start o (record { table = t; fault = 17 })
         over-count k = over (or-right (ltb 3 arity || not (isName w)) (leb 12 (countOfKind t fn)) (leb-of-≤ 12 (countOfKind t fn) k))
 
-        module _ (r : Symbols) (a : WithSymbol t (record { function = fn; arity = arity; name = start; length = end - start }) r) where
+        module _ (r : Symbols) (a : WithSymbol t (record { function = fn; helper = false; arity = arity; name = start; length = end - start }) r) where
           abbrev at : ℕ
           at = cond fn (t .functions) (t .signature .count)
 

@@ -4,7 +4,7 @@ use mathlib.Core.Path.{_≡_, refl, sym, ap, _∙_, subst}
 use mathlib.Core.Bool.{Bool, true, false, cond}
 use mathlib.Core.List.{List, [], _∷_, _++_, map}
 use native.Mathlib.Omega.{arith}
-use lib.Dec.{leb}
+use lib.Dec.{eqb, leb}
 use lib.ListN.{length, take, drop, length-take}
 use Rattle.theory.specs.Lists.{all}
 use Rattle.theory.specs.Syntax.{Signature, functions, predicates}
@@ -16,7 +16,7 @@ use Rattle.theory.proofs.Lists.{all-imply}
 use Rattle.syntax.specs.declared.signature.Symbol.{Symbol}
 use Rattle.syntax.specs.declared.signature.Signature as syntax
 use Rattle.syntax.specs.Signatures.{symbolIn, signatureIn}
-use Rattle.clauses.proofs.Held.{count-signatureIn}
+use Rattle.clauses.proofs.Held.{none-past, count-signatureIn}
 use Rattle.tptp.specs.Symbols.{firstOfName}
 use Rattle.tptp.specs.Claims.Order.{signatureBy}
 use Rattle.tptp.proofs.Fresh.{first-fresh, parts-fresh, fresh-differ, self-named}
@@ -38,7 +38,12 @@ module _ (text : List ℕ) (s : syntax.Signature) (e : s .count ≡ 0) where
   none-tabled =
       record {
         readable = record {
-          limited = record { count = omega arith; held = omega arith; arities = ap (all (λ (y : Symbol). leb (y .arity) 3)) none-held };
+          limited = record {
+            count = omega arith;
+            held = omega arith;
+            arities = ap (all (λ (y : Symbol). leb (y .arity) 3)) none-held;
+            constants = none-past s (λ (y : Symbol). eqb (y .arity) 0) (omega arith);
+          };
           names = ap (all (λ (y : Symbol). leb (y .name + y .length) (length text))) none-held;
         };
         ordered = omega arith;
@@ -105,6 +110,7 @@ module _ (text : List ℕ) (t : Symbols) (h : LimitedTable text t) (y : Symbol) 
             count = omega (arith, c);
             held = omega (arith, ap length (a .signature .symbols), length-insert at y (heldIn (t .signature)), old-count, a .signature .count, length-take (r .signature .count) (r .signature .symbols));
             arities = held-all (λ (y : Symbol). leb (y .arity) 3) (h .readable .limited .arities) (leb-of-≤ (y .arity) 3 arity);
+            constants = none-past (r .signature) (λ (y : Symbol). eqb (y .arity) 0) (omega (arith, c));
           };
           names = held-all (λ (y : Symbol). leb (y .name + y .length) (length text)) (h .readable .names) (leb-of-≤ (y .name + y .length) (length text) within);
         };

@@ -65,6 +65,7 @@ pub fn declare(
     }
     let symbol = Symbol {
         function,
+        helper: false,
         arity: arity as u8,
         name: start,
         length: end - start,

@@ -1,46 +1,38 @@
 -- What an accepted problem's clauses need, within the limits: variables, clauses, literals, work, bytes of text.
-use Prim.Native.Nat.{ℕ, suc, _^_, _≤_, _<_}
-use mathlib.Core.Path.{_≡_, refl, ap, _∙_}
-use mathlib.Core.Bool.{Bool, true}
-use mathlib.Core.Option.{Option}
-use mathlib.Core.List.{List, [], _∷_}
+use Prim.Native.Nat.{ℕ, _^_, _≤_, _<_}
+use mathlib.Core.Path.{_≡_, _∙_}
+use mathlib.Core.Bool.{true}
+use mathlib.Core.List.{List}
 use native.Mathlib.Nat.{mul-le-mul}
 use native.Mathlib.Omega.{arith}
 use lib.Dec.{leb, ltb}
-use lib.ListN.{length, getD, take, length-map}
-use lib.Seq.{getD-take, length-take-le}
+use lib.ListN.{length, take, length-map}
 use Rattle.theory.specs.Lists.{all}
 use Rattle.theory.specs.Syntax.{Kind, function, predicate, Symbol, Signature, Clause, clauseOk}
 use Rattle.theory.specs.Cells.{tableSize}
-use Rattle.theory.specs.Lines.{Cut}
 use Rattle.theory.specs.Flattening.{flatten}
 use Rattle.theory.specs.Propositional.{PropClause, width, blockSize, propCount}
 use Rattle.theory.specs.Instances.{instances}
 use Rattle.theory.specs.PropClauses.{propClauses, instanceCount, workNeeded}
-use Rattle.theory.specs.Problem.{clauseOf}
 use Rattle.theory.specs.Claims.Counts.{isNumbered}
 use Rattle.theory.specs.WellFormed.{clauseAccepted}
-use Rattle.theory.proofs.Tests.{and-join, leb-true, ltb-of-<}
+use Rattle.theory.proofs.Tests.{leb-true, ltb-of-<}
 use Rattle.theory.proofs.Lists.{all-map, all-imply, sum-within}
-use Rattle.theory.proofs.Parsing.{clauseOf-accepted}
 use Rattle.theory.proofs.Limits.{clause-limits}
 use Rattle.theory.proofs.Counts.{counts}
 use Rattle.syntax.specs.declared.limits.Problem.{Problem}
 use Rattle.syntax.specs.Signatures.{symbolIn, signatureIn}
 use Rattle.clauses.proofs.Held.{count-signatureIn}
-use Rattle.problem.specs.Problems.{lineOr, clauseOr, clauseAt, problemIn, ClauseThere, Accepted}
+use Rattle.problem.specs.Problems.{problemIn, Accepted}
 use Rattle.propagation.specs.Clauses.{codes}
 use Rattle.loading.specs.Filling.{literals, areaEnd}
 use Rattle.loading.proofs.Ready.{areaEnd-codes}
 use Rattle.stream.specs.Literals.{allCodes}
 use Rattle.stream.specs.Consuming.{texts}
 use Rattle.interpretation.proofs.Ranks.{table-within}
+use Rattle.valuations.specs.Numbers.{maxPropVars}
+use Rattle.problem.proofs.Counted.{clauses-accepted}
 use Rattle.encoding.proofs.Lengths.{isShort, instances-short, all-short, short-literals, texts-length}
-
--- what passes at each place passes everywhere
-at-all : (q : ℕ → Bool) (xs : List ℕ) → ((i : ℕ) → i < length xs → q (getD xs i 0) ≡ true) → all q xs ≡ true
-at-all q [] h = refl
-at-all q (x ∷ xs) h = and-join (q x) (all q xs) (h 0 (omega arith)) (at-all q xs (λ i l. h (suc i) (omega arith)))
 
 block-within : (s : ℕ) (f : Symbol) → s ≤ 8 → leb (f .arity) 3 ≡ true → blockSize s f ≤ 4096
 block-within s f h e = omega (arith, mul-le-mul {n₁ = tableSize s f} {m₁ = width s (f .kind)} {n₂ = 512} {m₂ = 8} (table-within s (f .arity) h (leb-true (f .arity) 3 e)) (wide (f .kind)))
@@ -61,7 +53,7 @@ module _ (sheet : List ℕ) (p : Problem) (h : Accepted sheet p) (s : ℕ) (high
   written = propClauses s g cs
 
   -- there are few variables
-  pub variables-few : propCount s g ≤ 98304
+  pub variables-few : propCount s g ≤ maxPropVars
   unfolding propCount problemIn signatureIn
   variables-few =
       let small : all (λ (f : Symbol). leb (f .arity) 3) g ≡ true =
@@ -73,33 +65,19 @@ module _ (sheet : List ℕ) (p : Problem) (h : Accepted sheet p) (s : ℕ) (high
         h .readable .limited .count,
       )
 
-  clause-there : (at : ℕ) → ClauseThere sheet (signatureIn sheet (p .signature)) at
-      → clauseAccepted (signatureIn sheet (p .signature)) (clauseAt sheet (signatureIn sheet (p .signature)) at) ≡ true
-  clause-there at t =
-      let g = signatureIn sheet (p .signature) in
-      let e : clauseAt sheet g at ≡ t .clause = ap (λ (o : Option Cut). clauseOr (clauseOf g 0 (lineOr o))) (t .cut) ∙ ap clauseOr (t .answered 0) in
-      ap (clauseAccepted g) e ∙ clauseOf-accepted g 0 (t .line .0) (t .clause) (t .answered 0)
-
   -- each clause is within the limits
-  clauses-accepted : all (clauseAccepted g) cs ≡ true
+  within : all (clauseAccepted g) cs ≡ true
   unfolding problemIn
-  clauses-accepted =
-      let f : ℕ → Clause = clauseAt sheet g in
-      let places : List ℕ = take (p .count) (p .clauses) in
-      let passes : ℕ → Bool = λ at. clauseAccepted g (f at) in
-      all-map (clauseAccepted g) f places
-      ∙ at-all passes places (λ k l.
-      let i : k < p .count = omega (arith, length-take-le (p .count) (p .clauses) (h .held)) in
-      ap passes (getD-take (p .count) (p .clauses) k 0 i) ∙ clause-there (getD (p .clauses) k 0) (h .clauses k i))
+  within = clauses-accepted sheet p h
 
   -- and over the signature
   pub clauses-over : all (clauseOk g) cs ≡ true
-  clauses-over = all-imply (clauseAccepted g) (clauseOk g) cs (λ c a. clause-limits g c a .over) clauses-accepted
+  clauses-over = all-imply (clauseAccepted g) (clauseOk g) cs (λ c a. clause-limits g c a .over) within
 
   written-short : all isShort written ≡ true
   written-short =
       all-short s g cs high
-      (all-imply (clauseAccepted g) (λ c. all isShort (instances s g (flatten c))) cs (λ c a. instances-short s g (flatten c) (clause-limits g c a .flat-count)) clauses-accepted)
+      (all-imply (clauseAccepted g) (λ c. all isShort (instances s g (flatten c))) cs (λ c a. instances-short s g (flatten c) (clause-limits g c a .flat-count)) within)
 
   pub clauses-short : all (λ (c : PropClause). ltb (length c) 64) written ≡ true
   clauses-short =
@@ -124,5 +102,5 @@ module _ (sheet : List ℕ) (p : Problem) (h : Accepted sheet p) (s : ℕ) (high
       pub all-numbered : all (all (isNumbered (propCount s g))) written ≡ true
       all-numbered = counts .numbers s g cs low clauses-over
 
-      pub texts-few : length (texts written) < 2 ^ 42
+      pub texts-few : length (texts written) < 2 ^ 43
       texts-few = omega (arith, texts-length (propCount s g) variables-few written written-short all-numbered, clauses-few)

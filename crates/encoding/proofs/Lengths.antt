@@ -25,6 +25,7 @@ use Rattle.propagation.specs.Clauses.{code}
 use Rattle.loading.specs.Filling.{literals}
 use Rattle.stream.specs.Literals.{allCodes}
 use Rattle.stream.specs.Consuming.{texts}
+use Rattle.valuations.specs.Numbers.{maxPropVars}
 
 -- at most 26 literals
 abbrev pub isShort : PropClause → Bool
@@ -103,8 +104,8 @@ unfolding decimal
 decimal-length n = digits-length (suc n) n
 
 -- The texts of clauses of few variables.
-module _ (v : ℕ) (h : v ≤ 98304) where
-  literal-length : (l : PropLiteral) → isNumbered v l ≡ true → length (literalText l ++ (space ∷ [])) ≤ 98307
+module _ (v : ℕ) (h : v ≤ maxPropVars) where
+  literal-length : (l : PropLiteral) → isNumbered v l ≡ true → length (literalText l ++ (space ∷ [])) ≤ 229379
   unfolding literalText
   literal-length l e =
       omega (
@@ -120,7 +121,7 @@ module _ (v : ℕ) (h : v ≤ 98304) where
       sign true = omega arith
       sign false = omega arith
 
-  literals-length : (c : PropClause) → all (isNumbered v) c ≡ true → length (concatMap (λ l. literalText l ++ (space ∷ [])) c) ≤ 98307 * length c
+  literals-length : (c : PropClause) → all (isNumbered v) c ≡ true → length (concatMap (λ l. literalText l ++ (space ∷ [])) c) ≤ 229379 * length c
   literals-length [] e = omega arith
   literals-length (l ∷ c) e =
       omega (
@@ -130,7 +131,7 @@ module _ (v : ℕ) (h : v ≤ 98304) where
         literals-length c (and-right (isNumbered v l) (all (isNumbered v) c) e),
       )
 
-  clause-length : (c : PropClause) → isShort c ≡ true → all (isNumbered v) c ≡ true → length (clauseText c) ≤ 2555984
+  clause-length : (c : PropClause) → isShort c ≡ true → all (isNumbered v) c ≡ true → length (clauseText c) ≤ 5963856
   unfolding clauseText
   clause-length c k e =
       omega (
@@ -140,7 +141,7 @@ module _ (v : ℕ) (h : v ≤ 98304) where
         leb-true (length c) 26 k,
       )
 
-  pub texts-length : (cs : List PropClause) → all isShort cs ≡ true → all (all (isNumbered v)) cs ≡ true → length (texts cs) ≤ 2555984 * length cs
+  pub texts-length : (cs : List PropClause) → all isShort cs ≡ true → all (all (isNumbered v)) cs ≡ true → length (texts cs) ≤ 5963856 * length cs
   texts-length [] k e = omega arith
   texts-length (c ∷ cs) k e =
       omega (

@@ -60,7 +60,7 @@ module _ (sheet : List ℕ) (p : Problem) (h : Accepted sheet p) (s : ℕ) (high
   ends mode start f a y c = c (whole start) [] [] refl (sym (append-nil written)) f a
 
   -- Measuring: a start that leaves room is all that is asked.
-  module _ (start : ℕ) (room : start < 2 ^ 42) where
+  module _ (start : ℕ) (room : start < 2 ^ 43) where
     measure-fits : Fits Measure (whole start)
     measure-fits = fitting Measure start (omega (arith, texts-few sheet p h s high few low))
 

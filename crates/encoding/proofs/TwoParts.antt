@@ -89,5 +89,6 @@ module _ (y : declared.Signature) (h : Limited y) (a b : List ℕ) (s : ℕ) whe
         widths-held = omega (arith, o .widths-held, la, lb);
         width = λ i l. o .width i (omega (arith, la, lb)) ∙ same-width i (omega (arith, lb));
         count = o .count ∙ same-count;
+        few = omega (arith, o .few, la, lb);
         small = o .small;
       }

@@ -1,11 +1,14 @@
 -- One call of each exported operation that is lent a buffer: the struct r that is answered, and each buffer before and after.
 use Prim.Native.Nat.{ℕ}
 use mathlib.Core.Path.{_≡_}
+use mathlib.Core.Bool.{Bool, not}
 use mathlib.Core.List.{List}
+use lib.Dec.{eqb}
 use lib.ListN.{length}
 use Rattle.theory.specs.Refusals.{Answer}
-use Rattle.theory.specs.Operations.{lengthAnswer, outputAfter, writtenText, readBackText, settingText, Search, findResult, findAnswer, findWork, findOutput}
+use Rattle.theory.specs.Operations.{lengthAnswer, outputAfter, settingText, Search, findAnswer, findWork, findOutput}
 use Rattle.theory.specs.PlainSearch.{plainResult}
+use Rattle.naming.specs.NamedOperations.{writtenTextIn, readBackTextIn, findResultIn}
 use Rattle.tptp.specs.Tptp.{tptpText}
 use Rattle.solver.specs.SolverText.{solverText, solverAnswer, solverOutput}
 use Rattle.exports.specs.declared.WriteOut.{WriteOut}
@@ -17,13 +20,17 @@ pub record WritingExport (text : Answer (List ℕ)) (r : WriteOut) (output outpu
   pub answer : r ≡ writeOut (lengthAnswer text)
   pub left : output′ ≡ outputAfter text output
 
+-- a switch as a number: 0 is off, every other number on
+abbrev pub isOn : ℕ → Bool
+isOn n = not (eqb n 0)
+
 -- Write
-abbrev pub WriteExport : List ℕ → ℕ → WriteOut → List ℕ → List ℕ → Type 0
-WriteExport sheet size r output output′ = WritingExport (writtenText sheet size (length output)) r output output′
+abbrev pub WriteExport : List ℕ → ℕ → ℕ → WriteOut → List ℕ → List ℕ → Type 0
+WriteExport sheet size named r output output′ = WritingExport (writtenTextIn (isOn named) sheet size (length output)) r output output′
 
 -- Read back
-abbrev pub ReadBackExport : List ℕ → ℕ → List ℕ → WriteOut → List ℕ → List ℕ → Type 0
-ReadBackExport sheet size setting r output output′ = WritingExport (readBackText sheet size setting (length output)) r output output′
+abbrev pub ReadBackExport : List ℕ → ℕ → ℕ → List ℕ → WriteOut → List ℕ → List ℕ → Type 0
+ReadBackExport sheet size named setting r output output′ = WritingExport (readBackTextIn (isOn named) sheet size setting (length output)) r output output′
 
 -- Setting
 abbrev pub SettingExport : List ℕ → List ℕ → WriteOut → List ℕ → List ℕ → Type 0
@@ -36,8 +43,8 @@ pub record SearchingExport (result : Answer Search) (r : FindOut) (work work′ 
   pub left : output′ ≡ findOutput result output
 
 -- Find
-abbrev pub FindExport : List ℕ → ℕ → ℕ → FindOut → List ℕ → List ℕ → List ℕ → List ℕ → Type 0
-FindExport sheet low high r work work′ output output′ = SearchingExport (findResult sheet low high (length work) (length output)) r work work′ output output′
+abbrev pub FindExport : List ℕ → ℕ → ℕ → ℕ → FindOut → List ℕ → List ℕ → List ℕ → List ℕ → Type 0
+FindExport sheet low high named r work work′ output output′ = SearchingExport (findResultIn (isOn named) sheet low high (length work) (length output)) r work work′ output output′
 
 -- Find plain, which is lent no work area
 pub record PlainExport (sheet : List ℕ) (low high : ℕ) (r : FindOut) (output output′ : List ℕ) : Type 0 where

@@ -162,10 +162,10 @@ fn explain_out(answer: ExplainAnswer) -> ExplainOut
 }
 
 #[no_mangle]
-pub extern "C" fn nk_write(sheet: &[u8], size: u64, output: &mut [u8]) -> WriteOut
-    ensures { λ r. ⌜ WriteExport (now (sheet .entry)) size r (now (output .entry)) (now (output .exit)) ⌝ }
+pub extern "C" fn nk_write(sheet: &[u8], size: u64, named: u32, output: &mut [u8]) -> WriteOut
+    ensures { λ r. ⌜ WriteExport (now (sheet .entry)) size named r (now (output .entry)) (now (output .exit)) ⌝ }
 {
-    write_out(nesskettle::write(sheet, size, output))
+    write_out(nesskettle::write(sheet, size, named != 0, output))
 }
 
 fn write_out(answer: WriteAnswer) -> WriteOut
@@ -193,12 +193,13 @@ fn write_out(answer: WriteAnswer) -> WriteOut
 pub extern "C" fn nk_read_back(
     sheet: &[u8],
     size: u64,
+    named: u32,
     setting: &[u8],
     output: &mut [u8],
 ) -> WriteOut
-    ensures { λ r. ⌜ ReadBackExport (now (sheet .entry)) size (now (setting .entry)) r (now (output .entry)) (now (output .exit)) ⌝ }
+    ensures { λ r. ⌜ ReadBackExport (now (sheet .entry)) size named (now (setting .entry)) r (now (output .entry)) (now (output .exit)) ⌝ }
 {
-    write_out(nesskettle::read_back(sheet, size, setting, output))
+    write_out(nesskettle::read_back(sheet, size, named != 0, setting, output))
 }
 
 #[no_mangle]
@@ -213,12 +214,13 @@ pub extern "C" fn nk_find(
     sheet: &[u8],
     low: u64,
     high: u64,
+    named: u32,
     work: &mut [u32],
     output: &mut [u8],
 ) -> FindOut
-    ensures { λ r. ⌜ FindExport (now (sheet .entry)) low high r (now (work .entry)) (now (work .exit)) (now (output .entry)) (now (output .exit)) ⌝ }
+    ensures { λ r. ⌜ FindExport (now (sheet .entry)) low high named r (now (work .entry)) (now (work .exit)) (now (output .entry)) (now (output .exit)) ⌝ }
 {
-    find_out(nesskettle::find(sheet, low, high, work, output))
+    find_out(nesskettle::find(sheet, low, high, named != 0, work, output))
 }
 
 #[no_mangle]

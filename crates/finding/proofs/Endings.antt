@@ -10,9 +10,11 @@ use Rattle.theory.specs.Valuation.{readBack}
 use Rattle.theory.specs.Refusals.{Answer, answer, refused}
 use Rattle.theory.specs.Refusals as theory
 use Rattle.theory.specs.Problem.{Problem}
-use Rattle.theory.specs.CaseText.{Case, caseText, caseLength}
+use Rattle.theory.specs.CaseText.{Case}
 use Rattle.theory.specs.Least.{leastModel, smallestModel, withSize, settled}
-use Rattle.theory.specs.Operations.{Search, found, nothing, searchOf, foundCase, noCase, over, findAnswer, findOutput, findWork}
+use Rattle.theory.specs.Operations.{Search, found, nothing, foundCase, noCase, over, findAnswer, findOutput, findWork}
+use Rattle.naming.specs.NamedProblem.{shownText}
+use Rattle.naming.specs.NamedOperations.{namedSearchOf}
 use Rattle.answers.specs.declared.Refusal.{Refusal}
 use Rattle.answers.specs.declared.FindAnswer.{FindAnswer}
 use Rattle.answers.specs.declared.FindAnswer.the-variants as find
@@ -43,14 +45,14 @@ ends-refused finds r q work output e f = ends-by finds (find.Refused r) work wor
 
 module _ (p : Problem) (low high : ℕ) (work work′ output output′ : List ℕ) where
   -- a case was written, and the work area cleared
-  pub ends-found : (s n : ℕ) (σ : List ℕ) → FoundAt s p σ → n ≡ caseLength s (p .symbols) → work′ ≡ replicate (length work) 0
-      → output′ ≡ over (caseText s (p .symbols) (readBack s (p .symbols) σ)) output → smallestModel p low high ≡ withSize s (leastModel s p)
+  pub ends-found : (s n : ℕ) (σ : List ℕ) → FoundAt s p σ → n ≡ length (shownText s (p .symbols) (readBack s (p .symbols) σ)) → work′ ≡ replicate (length work) 0
+      → output′ ≡ over (shownText s (p .symbols) (readBack s (p .symbols) σ)) output → smallestModel p low high ≡ withSize s (leastModel s p)
       → Ends (foundWithin p low high) (find.Found s n) work work′ output output′
   ends-found s n σ f l w o e =
       ends-by (foundWithin p low high) (find.Found s n) work work′ output output′
-      (answer (found s (caseText s (p .symbols) (readBack s (p .symbols) σ))))
-      (ap (λ (k : Option Case). answer (searchOf p low high k)) (e ∙ ap (withSize s) (f .least)))
-      (ap (λ (k : ℕ). answer (foundCase s k)) (l ∙ sym (f .long)))
+      (answer (found s (shownText s (p .symbols) (readBack s (p .symbols) σ))))
+      (ap (λ (k : Option Case). answer (namedSearchOf p low high k)) (e ∙ ap (withSize s) (f .least)))
+      (ap (λ (k : ℕ). answer (foundCase s k)) l)
       w
       o
 
@@ -60,7 +62,7 @@ module _ (p : Problem) (low high : ℕ) (work work′ output output′ : List �
   ends-none b e t w o =
       ends-by (foundWithin p low high) (find.Nothing b) work work′ output output′
       (answer (nothing (settled p low high)))
-      (ap (λ (k : Option Case). answer (searchOf p low high k)) e)
+      (ap (λ (k : Option Case). answer (namedSearchOf p low high k)) e)
       (ap (λ (b : Bool). answer (noCase b)) t)
       w
       o
@@ -74,11 +76,11 @@ pub ends-whole : (p : Problem) (low high s : ℕ) (vs : List ℕ) (r : FindAnswe
     → smallestModel p low high ≡ withSize s (leastModel s p) → length work ≡ length work₀ → output ≡ output₀
     → Ends (foundWithin p s s) r work work′ output output′ → Ends (foundWithin p low high) r work₀ work′ output₀ output′
 ends-whole p low high s vs r work₀ work work′ output₀ output output′ m e l k ends =
-    let f : Search = found s (caseText s (p .symbols) vs) in
-    let here : foundWithin p s s (length work) (length output) ≡ answer f = ap (λ (k : Option Case). answer (searchOf p s s k)) (alone p s vs m ∙ ap (withSize s) m) in
+    let f : Search = found s (shownText s (p .symbols) vs) in
+    let here : foundWithin p s s (length work) (length output) ≡ answer f = ap (λ (k : Option Case). answer (namedSearchOf p s s k)) (alone p s vs m ∙ ap (withSize s) m) in
     ends-by (foundWithin p low high) r work₀ work′ output₀ output′
     (answer f)
-    (ap (λ (k : Option Case). answer (searchOf p low high k)) (e ∙ ap (withSize s) m))
+    (ap (λ (k : Option Case). answer (namedSearchOf p low high k)) (e ∙ ap (withSize s) m))
     (ends .answer ∙ ap findAnswer here)
     (ends .worked ∙ ap (λ (a : Answer Search). findWork a work) here ∙ ap (λ (n : ℕ). replicate n 0) l)
-    (ends .left ∙ ap (λ (a : Answer Search). findOutput a output) here ∙ ap (over (caseText s (p .symbols) vs)) k)
+    (ends .left ∙ ap (λ (a : Answer Search). findOutput a output) here ∙ ap (over (shownText s (p .symbols) vs)) k)

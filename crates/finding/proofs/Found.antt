@@ -13,19 +13,17 @@ use Rattle.theory.specs.Propositional.{PropClause, propCount}
 use Rattle.theory.specs.PropClauses.{propClauses}
 use Rattle.theory.specs.Valuation.{satisfies, isValuation, isFunctional, readBack}
 use Rattle.theory.specs.Problem.{Problem}
-use Rattle.theory.specs.CaseText.{caseText, caseLength}
 use Rattle.theory.specs.Least.{leastModel}
 use Rattle.theory.specs.Walk.{yesFirst, searched}
 use Rattle.theory.specs.Claims.Walk.{readBackFound}
 use Rattle.theory.proofs.Tests.{and-left}
 use Rattle.theory.proofs.First.{first-some}
 use Rattle.theory.proofs.Numbering.{widths-total}
-use Rattle.theory.proofs.Valuations.{isValuation←, readBack-isInterpretation}
+use Rattle.theory.proofs.Valuations.{isValuation←}
 use Rattle.theory.proofs.Encoding.{encoding}
 use Rattle.theory.proofs.Completions.{completions, completion-bits}
 use Rattle.theory.proofs.Walking.{walked-first}
 use Rattle.theory.proofs.Walk.{walk}
-use Rattle.theory.proofs.CaseLengths.{case-lengths}
 
 -- what is known of a valuation that the search at size s found
 pub record FoundAt (s : ℕ) (p : Problem) (σ : List ℕ) : Type 0 where
@@ -33,7 +31,6 @@ pub record FoundAt (s : ℕ) (p : Problem) (σ : List ℕ) : Type 0 where
   pub binary : all (λ b. ltb b 2) σ ≡ true
   pub functional : isFunctional s (p .symbols) σ ≡ true
   pub least : leastModel s p ≡ some (readBack s (p .symbols) σ)
-  pub long : length (caseText s (p .symbols) (readBack s (p .symbols) σ)) ≡ caseLength s (p .symbols)
 
 module _ (s : ℕ) (p : Problem) (pos : zero < s) (ok : all (clauseOk (p .symbols)) (p .clauses) ≡ true) where
   abbrev g : Signature
@@ -56,5 +53,4 @@ module _ (s : ℕ) (p : Problem) (pos : zero < s) (ok : all (clauseOk (p .symbol
         binary = b .1;
         functional = f;
         least = sym (walk .least s p pos ok) ∙ ap (readBackFound s p) e;
-        long = case-lengths s g (readBack s g σ) pos (readBack-isInterpretation s g σ i f);
       }

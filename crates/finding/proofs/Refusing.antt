@@ -1,22 +1,31 @@
 -- Find's checks in order: the first that fails refuses, and where all pass the search decides.
 use Prim.Native.Nat.{ℕ, _+_, _*_, _≤_, _<_}
-use mathlib.Core.Path.{_≡_, refl}
-use mathlib.Core.Bool.{true, false}
+use mathlib.Core.Path.{_≡_, refl, sym, ap, _∙_}
+use mathlib.Core.Bool.{Bool, true, false}
+use mathlib.Core.Option.{Option, none, some}
 use mathlib.Core.List.{List}
 use native.Mathlib.Omega.{arith}
 use borrow.Author.Tests.{le-leb, lt-leb}
 use lib.Dec.{leb}
+use Rattle.theory.specs.Syntax.{allDeclared}
 use Rattle.theory.specs.Propositional.{propCount}
 use Rattle.theory.specs.PropClauses.{instanceCount, literalCount, workNeeded}
-use Rattle.theory.specs.Refusals.{Refusal, answer, refused, unplaced, needing}
+use Rattle.theory.specs.Refusals.{Refusal, Answer, answer, refused, unplaced, needing, _>>=_, check}
 use Rattle.theory.specs.Problem.{Problem}
-use Rattle.theory.specs.Columns.{placedProblem}
-use Rattle.theory.specs.CaseText.{caseLength}
-use Rattle.theory.specs.Operations.{maxInstances, findResult}
+use Rattle.theory.specs.CaseText.{Case, caseLength}
+use Rattle.theory.specs.Least.{smallestModel}
+use Rattle.theory.specs.Operations.{maxInstances, Search, found, searchOf, findResult}
 use Rattle.theory.proofs.Answers.{bind-step, bind-refused, check-of-true, check-of-false}
+use Rattle.theory.proofs.Interpretations.{length-interpretation}
+use Rattle.theory.proofs.Least.{least}
+use Rattle.naming.specs.NamedProblem.{shownSymbols}
+use Rattle.naming.specs.NamedOperations.{namedSearchOf, namedFindResult, modeProblem, findResultIn}
+use Rattle.naming.proofs.Helpers.{shown-declared, shown-whole}
 use Rattle.syntax.specs.declared.limits.Problem as code
-use Rattle.syntax.specs.Signatures.{signatureIn}
+use Rattle.syntax.specs.declared.signature.Signature.{Signature}
+use Rattle.syntax.specs.Signatures.{signatureIn, withoutHelpers}
 use Rattle.problem.specs.Problems.{problemIn}
+use Rattle.problem.specs.Modes.{placedIn, Shows}
 use Rattle.finding.specs.Ranges.{areSizes}
 use Rattle.finding.specs.Ending.{foundIn, foundWithin, Ranged, Sizes}
 
@@ -28,7 +37,7 @@ module _ (p : Problem) (low high work room : ℕ) where
   w = workNeeded high (p .symbols) (p .clauses)
 
   abbrev l : ℕ
-  l = caseLength high (p .symbols)
+  l = caseLength high (shownSymbols (p .symbols))
 
   pub refused-9 : maxInstances < i → foundIn p low high work room ≡ refused (unplaced 9)
   unfolding foundIn
@@ -56,22 +65,49 @@ module _ (p : Problem) (low high work room : ℕ) where
           (bind-step _ _ _ _ (check-of-true (leb w work) (needing 10 w) (le-leb w work enough))
           (bind-step _ _ _ _ (check-of-true (leb l room) (needing 11 l) (le-leb l room e)) refl))
 
+-- what is found where a case shows all symbols
+plain-search : (p : Problem) (low high : ℕ) → allDeclared (p .symbols) ≡ true → searchOf p low high (smallestModel p low high) ≡ namedSearchOf p low high (smallestModel p low high)
+plain-search p low high h = go (smallestModel p low high) refl
+  where
+    go : (o : Option Case) → smallestModel p low high ≡ o → searchOf p low high o ≡ namedSearchOf p low high o
+    go none e = refl
+    go (some k) e =
+        let m = least p .isLeast (k .size) (k .values) (least p .smallest low high k e .2) in
+        ap (found (k .size)) (sym (shown-whole (k .size) (p .symbols) (k .values) h (length-interpretation (k .size) (p .symbols) (k .values) (m .0 .interpretation))))
+
+-- and checked
+plain-found : (p : Problem) (low high work room : ℕ) → allDeclared (p .symbols) ≡ true
+    → (check (leb (instanceCount high (p .symbols) (p .clauses)) maxInstances) (unplaced 9) >>= λ _. check (leb (workNeeded high (p .symbols) (p .clauses)) work) (needing 10 (workNeeded high (p .symbols) (p .clauses)))
+    >>= λ _. check (leb (caseLength high (p .symbols)) room) (needing 11 (caseLength high (p .symbols))) >>= λ _. answer (searchOf p low high (smallestModel p low high)))
+    ≡ foundIn p low high work room
+unfolding foundIn
+plain-found p low high work room h =
+    let all : ℕ → Search → Answer Search = λ n r. check (leb (instanceCount high (p .symbols) (p .clauses)) maxInstances) (unplaced 9) >>= λ _.
+    check (leb (workNeeded high (p .symbols) (p .clauses)) work) (needing 10 (workNeeded high (p .symbols) (p .clauses))) >>= λ _. check (leb n room) (needing 11 n) >>= λ _. answer r in
+    ap (λ (n : ℕ). all n (searchOf p low high (smallestModel p low high))) (ap (caseLength high) (sym (shown-declared (p .symbols) h)))
+    ∙ ap (all (caseLength high (shownSymbols (p .symbols)))) (plain-search p low high h)
+
+-- the whole call, of both modes
 module _ (sheet : List ℕ) (low high work room : ℕ) where
   -- a sheet that is refused
-  pub result-refused : (r : Refusal) → placedProblem sheet ≡ refused r → findResult sheet low high work room ≡ refused r
-  unfolding findResult
-  result-refused r e = bind-refused _ _ r e
+  pub result-refused : (named : Bool) (r : Refusal) → placedIn named sheet ≡ refused r → findResultIn named sheet low high work room ≡ refused r
+  unfolding findResult namedFindResult
+  result-refused false r e = bind-refused _ _ r e
+  result-refused true r e = bind-refused _ _ r e
 
-  module _ (p : Problem) (read : placedProblem sheet ≡ answer p) where
+  module _ (p : Problem) where
     -- one that was read, at what are no sizes
-    pub result-8 : areSizes low high ≡ false → findResult sheet low high work room ≡ refused (unplaced 8)
-    unfolding findResult
-    result-8 e = bind-step _ _ _ _ read (bind-refused _ _ (unplaced 8) (check-of-false (areSizes low high) (unplaced 8) e))
+    pub result-8 : (named : Bool) → placedIn named sheet ≡ answer p → areSizes low high ≡ false → findResultIn named sheet low high work room ≡ refused (unplaced 8)
+    unfolding findResult namedFindResult
+    result-8 false read e = bind-step _ _ _ _ read (bind-refused _ _ (unplaced 8) (check-of-false (areSizes low high) (unplaced 8) e))
+    result-8 true read e = bind-step _ _ _ _ read (bind-refused _ _ (unplaced 8) (check-of-false (areSizes low high) (unplaced 8) e))
 
     -- and at sizes
-    pub result-read : areSizes low high ≡ true → findResult sheet low high work room ≡ foundIn p low high work room
-    unfolding findResult foundIn
-    result-read e = bind-step _ _ _ _ read (bind-step _ _ _ _ (check-of-true (areSizes low high) (unplaced 8) e) refl)
+    pub result-read : (named : Bool) → placedIn named sheet ≡ answer p → allDeclared (p .symbols) ≡ true → areSizes low high ≡ true
+        → findResultIn named sheet low high work room ≡ foundIn (modeProblem named p) low high work room
+    unfolding findResult namedFindResult foundIn
+    result-read false read h e = bind-step _ _ _ _ read (bind-step _ _ _ _ (check-of-true (areSizes low high) (unplaced 8) e) (plain-found p low high work room h))
+    result-read true read h e = bind-step _ _ _ _ read (bind-step _ _ _ _ (check-of-true (areSizes low high) (unplaced 8) e) refl)
 
 -- W, as the code has it
 pub work-is : (sheet : List ℕ) (p : code.Problem) (size v i l n : ℕ) → v ≡ propCount size (signatureIn sheet (p .signature))
@@ -80,14 +116,16 @@ pub work-is : (sheet : List ℕ) (p : code.Problem) (size v i l n : ℕ) → v �
 unfolding workNeeded problemIn
 work-is sheet p size v i l n e f g h = omega (arith, e, f, g, h)
 
-pub length-is : (sheet : List ℕ) (p : code.Problem) (size n : ℕ) → n ≡ caseLength size (signatureIn sheet (p .signature)) → n ≡ caseLength size (problemIn sheet p .symbols)
+-- the length of a case, which shows the declared symbols y
+pub length-is : (sheet : List ℕ) (p : code.Problem) (size n : ℕ) (y : Signature) → Shows sheet (p .signature) → y ≡ withoutHelpers (p .signature) → n ≡ caseLength size (signatureIn sheet y)
+    → n ≡ caseLength size (shownSymbols (problemIn sheet p .symbols))
 unfolding problemIn
-length-is sheet p size n e = e
+length-is sheet p size n y h is e = e ∙ ap (λ (y : Signature). caseLength size (signatureIn sheet y)) is ∙ sym (ap (caseLength size) h)
 
 -- all checks passed
 pub all-sizes : (sheet : List ℕ) (p : code.Problem) (low high work room : ℕ) → Ranged sheet p low high
     → instanceCount high (problemIn sheet p .symbols) (problemIn sheet p .clauses) ≤ maxInstances → workNeeded high (problemIn sheet p .symbols) (problemIn sheet p .clauses) ≤ work
-    → caseLength high (problemIn sheet p .symbols) ≤ room → Sizes sheet p low high work room
+    → caseLength high (shownSymbols (problemIn sheet p .symbols)) ≤ room → Sizes sheet p low high work room
 all-sizes sheet p low high work room h few enough case =
     record {
       positive = h .positive;
@@ -95,7 +133,8 @@ all-sizes sheet p low high work room h few enough case =
       searchable =
           record {
             accepted = h .accepted;
-            read = h .read;
+            bytes = h .bytes;
+            shows = h .shows;
             positive = omega (arith, h .positive, h .ordered);
             within = h .within;
             instances = few;

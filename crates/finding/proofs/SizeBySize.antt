@@ -13,16 +13,17 @@ use Rattle.theory.specs.Least.{orElse, firstOf, leastModel, withSize, smallestM
 use Rattle.theory.specs.Walk.{searched}
 use Rattle.theory.specs.Claims.Walk.{readBackFound}
 use Rattle.theory.proofs.Monotone.{instanceCount-grows, workNeeded-grows, caseLength-grows}
-use Rattle.theory.proofs.Parsing.{readProblem-wellFormed, clauses-ok}
 use Rattle.theory.proofs.Walk.{walk}
+use Rattle.naming.specs.NamedProblem.{shownSymbols}
 use Rattle.syntax.specs.declared.limits.Problem.{Problem}
 use Rattle.problem.specs.Problems.{problemIn}
+use Rattle.encoding.proofs.Bounds as bounds
 use Rattle.finding.specs.Searching.{Searchable}
 use Rattle.finding.specs.Ending.{Sizes}
 
 -- the clauses of a problem that was read are over its signature
 pub clauses-over : (sheet : List ℕ) (p : Problem) (size n : ℕ) → Searchable sheet p size n → all (clauseOk (problemIn sheet p .symbols)) (problemIn sheet p .clauses) ≡ true
-clauses-over sheet p size n h = clauses-ok (problemIn sheet p) (readProblem-wellFormed sheet (problemIn sheet p) (h .read))
+clauses-over sheet p size n h = bounds.clauses-over sheet p (h .accepted) size (h .within)
 
 module _ (sheet : List ℕ) (p : Problem) (low high work room : ℕ) (h : Sizes sheet p low high work room) (size : ℕ) (above : low ≤ size) (below : size ≤ high) where
   abbrev q : theory.Problem
@@ -33,15 +34,16 @@ module _ (sheet : List ℕ) (p : Problem) (low high work room : ℕ) (h : Sizes 
   size-searchable =
       record {
         accepted = h .searchable .accepted;
-        read = h .searchable .read;
+        bytes = h .searchable .bytes;
+        shows = h .searchable .shows;
         positive = omega (arith, h .positive);
         within = omega (arith, h .searchable .within);
         instances = omega (arith, h .searchable .instances, instanceCount-grows size high below (q .symbols) (q .clauses));
         space = omega (arith, h .searchable .space, workNeeded-grows size high below (q .symbols) (q .clauses));
       }
 
-  pub size-case : caseLength size (q .symbols) ≤ room
-  size-case = omega (arith, h .case, caseLength-grows size high below (q .symbols))
+  pub size-case : caseLength size (shownSymbols (q .symbols)) ≤ room
+  size-case = omega (arith, h .case, caseLength-grows size high below (shownSymbols (q .symbols)))
 
 module _ (p : theory.Problem) (high : ℕ) where
   -- the least model of size s, with its size

@@ -1,20 +1,22 @@
 -- What Find leaves when it ends.
 use Prim.Native.Nat.{ℕ, _≤_}
-use mathlib.Core.Path.{_≡_}
 use mathlib.Core.List.{List}
 use lib.Dec.{leb}
 use lib.ListN.{length}
 use Rattle.theory.specs.PropClauses.{instanceCount, workNeeded}
 use Rattle.theory.specs.Refusals.{Answer, answer, unplaced, needing, _>>=_, check}
-use Rattle.theory.specs.Problem.{readProblem}
+use Rattle.theory.specs.Problem.{maxBytes}
 use Rattle.theory.specs.Problem as theory
 use Rattle.theory.specs.CaseText.{caseLength}
 use Rattle.theory.specs.Least.{smallestModel}
-use Rattle.theory.specs.Operations.{maxSize, maxInstances, Search, searchOf}
+use Rattle.theory.specs.Operations.{maxSize, maxInstances, Search}
+use Rattle.naming.specs.NamedProblem.{shownSymbols}
+use Rattle.naming.specs.NamedOperations.{namedSearchOf}
 use Rattle.answers.specs.declared.FindAnswer.{FindAnswer}
 use Rattle.answers.specs.Calls.{SearchingCall}
 use Rattle.syntax.specs.declared.limits.Problem.{Problem}
 use Rattle.problem.specs.Problems.{problemIn, Accepted}
+use Rattle.problem.specs.Modes.{Shows}
 use Rattle.finding.specs.Searching.{Searchable}
 
 -- a call that ends with what is found, given so many numbers of work and so many bytes of output
@@ -23,20 +25,21 @@ Ends finds r work work′ output output′ = SearchingCall (finds (length work) 
 
 -- what Find finds of a problem that was read at the sizes from low to high where nothing is refused
 abbrev pub foundWithin : theory.Problem → ℕ → ℕ → ℕ → ℕ → Answer Search
-foundWithin p low high work room = answer (searchOf p low high (smallestModel p low high))
+foundWithin p low high work room = answer (namedSearchOf p low high (smallestModel p low high))
 
 -- and with the refusals that stand before it: 9, 10, 11
 unfoldable pub foundIn : theory.Problem → ℕ → ℕ → ℕ → ℕ → Answer Search
 foundIn p low high work room = do
   _ ← check (leb (instanceCount high (p .symbols) (p .clauses)) maxInstances) (unplaced 9)
   _ ← check (leb (workNeeded high (p .symbols) (p .clauses)) work) (needing 10 (workNeeded high (p .symbols) (p .clauses)))
-  _ ← check (leb (caseLength high (p .symbols)) room) (needing 11 (caseLength high (p .symbols)))
+  _ ← check (leb (caseLength high (shownSymbols (p .symbols))) room) (needing 11 (caseLength high (shownSymbols (p .symbols))))
   foundWithin p low high work room
 
--- a problem that was read of the sheet, and sizes in order
+-- a problem that was read of the sheet, its declared symbols before the helpers, and sizes in order
 pub record Ranged (sheet : List ℕ) (p : Problem) (low high : ℕ) : Type 0 where
   pub accepted : Accepted sheet p
-  pub read : readProblem sheet ≡ answer (problemIn sheet p)
+  pub bytes : length sheet ≤ maxBytes
+  pub shows : Shows sheet (p .signature)
   pub positive : 1 ≤ low
   pub ordered : low ≤ high
   pub within : high ≤ maxSize
@@ -46,4 +49,4 @@ pub record Sizes (sheet : List ℕ) (p : Problem) (low high work room : ℕ) : T
   pub positive : 1 ≤ low
   pub ordered : low ≤ high
   pub searchable : Searchable sheet p high work
-  pub case : caseLength high (problemIn sheet p .symbols) ≤ room
+  pub case : caseLength high (shownSymbols (problemIn sheet p .symbols)) ≤ room

@@ -1,19 +1,20 @@
 -- What a search at one size asks and leaves.
 use Prim.Native.Nat.{ℕ, _≤_}
-use mathlib.Core.Path.{_≡_}
 use mathlib.Core.List.{List}
+use lib.ListN.{length}
 use Rattle.theory.specs.PropClauses.{propClauses, instanceCount, workNeeded}
 use Rattle.theory.specs.Propositional.{PropClause}
-use Rattle.theory.specs.Refusals.{answer}
-use Rattle.theory.specs.Problem.{readProblem}
+use Rattle.theory.specs.Problem.{maxBytes}
 use Rattle.theory.specs.Operations.{maxSize, maxInstances}
 use Rattle.syntax.specs.declared.limits.Problem.{Problem}
 use Rattle.problem.specs.Problems.{problemIn, Accepted}
+use Rattle.problem.specs.Modes.{Shows}
 
--- a problem that was read of the sheet, a size that is not refused, and a work area of so many numbers that is large enough
+-- a problem that was read of the sheet, its declared symbols before the helpers, a size that is not refused, and a work area of so many numbers that is large enough
 pub record Searchable (sheet : List ℕ) (p : Problem) (size room : ℕ) : Type 0 where
   pub accepted : Accepted sheet p
-  pub read : readProblem sheet ≡ answer (problemIn sheet p)
+  pub bytes : length sheet ≤ maxBytes
+  pub shows : Shows sheet (p .signature)
   pub positive : 1 ≤ size
   pub within : size ≤ maxSize
   pub instances : instanceCount size (problemIn sheet p .symbols) (problemIn sheet p .clauses) ≤ maxInstances

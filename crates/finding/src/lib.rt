@@ -1,4 +1,4 @@
-// Find: the least model at the smallest size that has one.
+// Find: the least model at the smallest size that has one, plain or with named terms.
 pub mod first_values;
 pub mod one_size;
 pub mod range;
@@ -9,34 +9,42 @@ use answers::FindAnswer;
 use answers::at_line;
 use answers::needing;
 use cases::writing::case_length;
-use columns::sheet::sheet_refusal;
+use columns::sheet::refusal_in;
 use counts::Counts;
 use counts::counts_at;
-use problem::sheet::read_problem;
+use problem::modes::read_in;
 use range::RangeCheck;
 use range::checked_range;
 use sizes::search_sizes;
 use syntax::limits::Problem;
+use syntax::signature::Signature;
 use syntax::size::DomainSize;
 use valuations::numbering::numbering_of;
 ghost use mathlib.Core.Path.{_≡_};
-ghost use Prim.Native.Nat.{_+_, _*_, _≤_, _<_, _^_};
+ghost use mathlib.Core.List.{List};
+ghost use Prim.Native.Nat.{ℕ, _+_, _*_, _≤_, _<_, _^_};
+ghost use lib.ListN.{length};
+ghost use Rattle.theory.specs.CaseText.{caseLength};
 ghost use Rattle.answers.specs.Calls.{FindCall};
+ghost use Rattle.syntax.specs.Signatures.{signatureIn, withoutHelpers};
+ghost use Rattle.clauses.specs.Names.{Readable};
 ghost use Rattle.problem.specs.Problems.{problemIn};
+ghost use Rattle.valuations.specs.Numbers.{maxPropVars};
 ghost use Rattle.finding.specs.Ending.{Ends, Ranged, foundIn};
 
 pub fn find_model(
     sheet: &[u8],
     low: u64,
     high: u64,
+    named: bool,
     work: &mut [u32],
     output: &mut [u8],
 ) -> FindAnswer
-    ensures { λ r. ⌜ FindCall (now (sheet .entry)) low high r (now (work .entry)) (now (work .exit)) (now (output .entry)) (now (output .exit)) ⌝ }
+    ensures { λ r. ⌜ FindCall (now (sheet .entry)) low high named r (now (work .entry)) (now (work .exit)) (now (output .entry)) (now (output .exit)) ⌝ }
 {
-    let r = read_problem(sheet);
+    let r = read_in(sheet, named);
     if r.fault != 0 {
-        return FindAnswer::Refused(sheet_refusal(sheet, r.fault, r.line));
+        return FindAnswer::Refused(refusal_in(sheet, named, r.fault, r.line));
     }
     let p = r.problem;
     match checked_range(low, high) {
@@ -64,7 +72,7 @@ fn find_in(
     let signature = p.signature;
     let n = numbering_of(signature, high);
     let needed = work_needed(c, n.count as usize);
-    let length = case_length(signature, high);
+    let length = shown_length(signature, high);
     if work.len() < needed {
         return FindAnswer::Refused(needing(10, needed));
     }
@@ -74,9 +82,18 @@ fn find_in(
     search_sizes(sheet, p, low, high, work, output)
 }
 
+// The length of a case, which shows the declared symbols.
+fn shown_length(signature: Signature, size: DomainSize) -> usize
+    requires { ⌜ (size .0 ≤ 8) × ((sheet : List ℕ) × (Readable sheet signature × (length sheet ≤ 16384))) ⌝ }
+    ensures { λ r. ⌜ ((sheet : List ℕ) → Readable sheet signature → r ≡ caseLength (size .0) (signatureIn sheet (withoutHelpers signature))) ⌝ }
+{
+    let shown = signature.declared();
+    case_length(shown, size)
+}
+
 // W: the numbers of work that are needed for these counts and v variables.
 fn work_needed(c: Counts, v: usize) -> usize
-    requires { ⌜ (c .instances < 2 ^ 42) × (c .literals < 2 ^ 42) × (v ≤ 98304) ⌝ }
+    requires { ⌜ (c .instances < 2 ^ 42) × (c .literals < 2 ^ 42) × (v ≤ maxPropVars) ⌝ }
     ensures { λ r. ⌜ r ≡ c .literals + 2 * c .instances + 8 * v + 16 ⌝ }
 {
     c.literals + 2 * c.instances + 8 * v + 16

@@ -6,18 +6,17 @@ use loading::clear_all;
 use reading_back::writing::write_case;
 use syntax::limits::Problem;
 use syntax::size::DomainSize;
-use valuations::numbering::Numbering;
 use valuations::numbering::numbering_of;
 ghost use mathlib.Core.Path.{_≡_};
 ghost use mathlib.Core.Bool.{true};
 ghost use Prim.Native.Nat.{_≤_};
 ghost use lib.ListN.{length, take};
+ghost use Rattle.theory.specs.Propositional.{propCount};
 ghost use Rattle.theory.specs.CaseText.{caseLength};
 ghost use Rattle.theory.specs.Walk.{searched};
-ghost use Rattle.syntax.specs.Signatures.{signatureIn};
+ghost use Rattle.naming.specs.NamedProblem.{shownSymbols};
 ghost use Rattle.problem.specs.Problems.{problemIn};
 ghost use Rattle.search.specs.Search.{searchAnswer};
-ghost use Rattle.valuations.specs.Numbers.{NumberingOf};
 ghost use Rattle.finding.specs.Searching.{Searchable};
 ghost use Rattle.finding.specs.Ending.{Ends, Sizes, foundWithin};
 
@@ -38,7 +37,7 @@ pub fn search_sizes(
     loop {
         let n = numbering_of(signature, size);
         if search_size(sheet, p, n, size, work) {
-            return put_found(sheet, p, n, size, work, output);
+            return put_found(sheet, p, size, work, output);
         }
         if high.0 <= size.0 {
             clear_all(work);
@@ -48,24 +47,25 @@ pub fn search_sizes(
     }
 }
 
-// Writes the model whose valuation the first numbers of the work area are, and clears the work area.
+// Writes the model whose valuation the first numbers of the work area are, and clears the work area. The case shows the declared symbols, whose
+// variables come first.
 fn put_found(
     sheet: &[u8],
     p: Problem,
-    n: Numbering,
     size: DomainSize,
     work: &mut [u32],
     output: &mut [u8],
 ) -> FindAnswer
     requires { ⌜ Searchable (now sheet) p (size .0) (length (now work)) ⌝ }
-    requires { ⌜ NumberingOf (signatureIn (now sheet) (p .signature)) (size .0) n ⌝ }
-    requires { ⌜ searched (size .0) (problemIn (now sheet) p) .answer ≡ searchAnswer true (take (n .count) (now work)) ⌝ }
-    requires { ⌜ caseLength (size .0) (problemIn (now sheet) p .symbols) ≤ length (now output) ⌝ }
+    requires { ⌜ searched (size .0) (problemIn (now sheet) p) .answer ≡ searchAnswer true (take (propCount (size .0) (problemIn (now sheet) p .symbols)) (now work)) ⌝ }
+    requires { ⌜ caseLength (size .0) (shownSymbols (problemIn (now sheet) p .symbols)) ≤ length (now output) ⌝ }
     ensures { λ r. ⌜ Ends (foundWithin (problemIn (now (sheet .entry)) p) (size .0) (size .0)) r (now (work .entry)) (now (work .exit)) (now (output .entry)) (now (output .exit)) ⌝ }
 {
-    let v = n.count as usize;
     let signature = p.signature;
-    let length = write_case(sheet, signature, n, size, b"", &work[..v], output);
+    let shown = signature.declared();
+    let n = numbering_of(shown, size);
+    let v = n.count as usize;
+    let length = write_case(sheet, shown, n, size, b"", &work[..v], output);
     clear_all(work);
     FindAnswer::Found(size.0 as u64, length)
 }

@@ -28,6 +28,8 @@ use Rattle.valuations.specs.declared.numbering.Numbering.{Numbering}
 use Rattle.valuations.proofs.Blocks.{propBase-within}
 use Rattle.stream.specs.Literals.{literalOf}
 use Rattle.stream.proofs.Codes.{literalOf-code}
+use Rattle.valuations.specs.Numbers.{maxPropVars}
+use Rattle.syntax.specs.Signatures.{maxInAll}
 use Rattle.forms.specs.LinearForms.{equalityForm, linearForm, codeAt, addForm, Safe, Means, LiteralOver, literalOver}
 use Rattle.forms.proofs.Weights.{weight-small, place-below, products-rank, coefficient-small}
 
@@ -77,13 +79,13 @@ module _ (s : ℕ) (g : Signature) (i : ℕ) (b : Bool) (base arity step x y z w
 
 -- what is known of a literal's symbol
 pub record SymbolOver {arities : List ℕ} {n : Numbering} {s : ℕ} {l : Literal} {xs : List ℕ} (o : LiteralOver arities n s l xs) (k : Kind) (i : ℕ) : Type 0 where
-  pub held : i < 24
+  pub held : i < maxInAll
   pub listed : i < length arities
   pub kind : symbolAt (o .signature) i .kind ≡ k
   pub arity : getD arities i 0 ≡ symbolAt (o .signature) i .arity
   pub few : getD arities i 0 ≤ 3
   pub base : getD (n .bases) i 0 ≡ propBase s (o .signature) i
-  pub small : getD (n .bases) i 0 ≤ 98304
+  pub small : getD (n .bases) i 0 ≤ maxPropVars
   pub scope : all (scoped [] (o .variables)) (map new (take (symbolAt (o .signature) i .arity) xs)) ≡ true
 
 module _ {arities : List ℕ} {n : Numbering} {s : ℕ} {l : Literal} {x y z : ℕ} (o : LiteralOver arities n s l (x ∷ y ∷ z ∷ [])) where
@@ -101,7 +103,7 @@ module _ {arities : List ℕ} {n : Numbering} {s : ℕ} {l : Literal} {x y z : �
       let e : getD arities i 0 ≡ symbolAt g i .arity = o .table .arity i (d .below) in
       let eb : getD (n .bases) i 0 ≡ propBase s g i = o .numbering .base i (d .below) in
       record {
-        held = omega (arith, d .below, o .small .symbols);
+        held = omega (arith, d .below, o .numbering .few);
         listed = omega (arith, d .below, o .table .within);
         kind = d .kind;
         arity = e;

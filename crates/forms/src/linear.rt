@@ -16,6 +16,7 @@ ghost use Prim.Native.Nat.{_+_, _≤_};
 ghost use lib.ListN.{length};
 ghost use lib.Seq.{paste};
 ghost use Rattle.flattening.specs.Flat.{flatIn};
+ghost use Rattle.valuations.specs.Numbers.{maxPropVars};
 ghost use Rattle.forms.specs.LinearForms.{AllSafe, Groundable, Linear, LiteralOver, Means, Safe, argumentPlace, equalityForm, linearForm, literalOver, rankWeight};
 
 // A form for each literal, one after the other.
@@ -122,7 +123,7 @@ fn linear_form(
     d: u32,
     size: DomainSize,
 ) -> [u32; Problem::FORM]
-    requires { ⌜ (base .0 ≤ 98304) × ((step ≤ 16) × ((arity ≤ 3) × (size .0 ≤ 8))) ⌝ }
+    requires { ⌜ (base .0 ≤ maxPropVars) × ((step ≤ 16) × ((arity ≤ 3) × (size .0 ≤ 8))) ⌝ }
     ensures { λ r. ⌜ r ≡ linearForm positive (base .0) step arity x y z w d (size .0) ⌝ }
 {
     [

@@ -22,7 +22,7 @@ use Rattle.clauses.proofs.Held.{blank, count-signatureIn, symbolAt-signatureIn}
 use Rattle.stream.specs.Literals.{literalOf, propClauseOf}
 use Rattle.stream.proofs.Codes.{literalOf-code}
 use Rattle.valuations.specs.declared.numbering.Numbering.{Numbering}
-use Rattle.valuations.specs.Numbers.{NumberingOf}
+use Rattle.valuations.specs.Numbers.{maxPropVars, NumberingOf}
 use Rattle.valuations.proofs.Blocks.{propBase-within}
 use Rattle.grounding.specs.CellPart.{rowClauses, symbolClauses, cellPart}
 
@@ -110,7 +110,7 @@ module _ (y : declared.Signature) (h : Limited y) (size : ℕ) (n : Numbering) (
       symbolPart-clauses size (signatureIn sheet y) i (getD (n .bases) i 0) sheet (getD (y .symbols) i blank) (symbolAt-signatureIn y h sheet i l)
       (numbering sheet .base i (omega (arith, count-signatureIn y h sheet)))
 
-  pub base-small : (i : ℕ) → i < y .count → getD (n .bases) i 0 ≤ 98304
+  pub base-small : (i : ℕ) → i < y .count → getD (n .bases) i 0 ≤ maxPropVars
   base-small i l =
       omega (
         arith,

@@ -20,7 +20,7 @@ ghost use Rattle.syntax.specs.Signatures.{signatureIn};
 ghost use Rattle.clauses.specs.Names.{Limited};
 ghost use Rattle.stream.specs.Literals.{propClauseOf};
 ghost use Rattle.stream.specs.Consuming.{Consumed, Consumes, state};
-ghost use Rattle.valuations.specs.Numbers.{NumberingOf};
+ghost use Rattle.valuations.specs.Numbers.{maxPropVars, NumberingOf};
 ghost use Rattle.grounding.specs.CellPart.{CellsNext, CellsTaken, notWith, rowClauses, symbolClauses};
 
 // All function cells of a signature.
@@ -68,7 +68,7 @@ fn symbol_cells(
     work: &mut [u32],
     start: Progress,
 ) -> Progress
-    requires { ⌜ (symbol .arity ≤ 3) × (size .0 ≤ 8) × (base .0 ≤ 98304) ⌝ }
+    requires { ⌜ (symbol .arity ≤ 3) × (size .0 ≤ 8) × (base .0 ≤ maxPropVars) ⌝ }
     requires { ⌜ Consumes mode v (symbolClauses (size .0) (base .0) symbol) (state start (now out) (now work)) ⌝ }
     ensures { λ r. ⌜ Consumed mode v (symbolClauses (size .0) (base .0) symbol) (state start (now (out .entry)) (now (work .entry))) (state r (now (out .exit)) (now (work .exit))) ⌝ }
 {
@@ -90,7 +90,7 @@ fn table_cells(
     work: &mut [u32],
     start: Progress,
 ) -> Progress
-    requires { ⌜ (size .0 ≤ 8) × (cells ≤ 512) × (base .0 ≤ 98304) ⌝ }
+    requires { ⌜ (size .0 ≤ 8) × (cells ≤ 512) × (base .0 ≤ maxPropVars) ⌝ }
     requires { ⌜ Consumes mode v (rowClauses (size .0) (base .0) cells) (state start (now out) (now work)) ⌝ }
     ensures { λ r. ⌜ Consumed mode v (rowClauses (size .0) (base .0) cells) (state start (now (out .entry)) (now (work .entry))) (state r (now (out .exit)) (now (work .exit))) ⌝ }
 {

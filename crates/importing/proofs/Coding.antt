@@ -15,11 +15,11 @@ use Rattle.theory.specs.Problem.{isNamed, placeOfName}
 use Rattle.theory.proofs.Tests.{and-left, and-join, or-left, or-right}
 use Rattle.theory.proofs.Finding.{any→placeThat}
 use Rattle.syntax.specs.declared.signature.Signature.{Signature}
-use Rattle.syntax.specs.Signatures.{signatureIn}
-use Rattle.syntax.specs.Codes.{codeWord}
+use Rattle.syntax.specs.Signatures.{maxInAll, signatureIn}
+use Rattle.syntax.specs.Codes.{plusCode, minusCode, equalsCode, letterCode, pastLetters, codeWord}
 use Rattle.syntax.proofs.Codes.{wordOf-symbol, wordOf-letter}
 use Rattle.clauses.specs.declared.clause.Words.{Words}
-use Rattle.clauses.specs.Words.{isFixed, isCode}
+use Rattle.clauses.specs.Words.{isFixedCode, isCode}
 use Rattle.clauses.specs.Clauses.{WordsBounded, Passed}
 use Rattle.clauses.proofs.Passing.{passed-bounded}
 use Rattle.tptp.specs.Trees.{Name}
@@ -37,20 +37,20 @@ use Rattle.importing.specs.Words.{Begun, Continues, CodingOf, Ready, Cod
 use Rattle.importing.proofs.EntryLists.{fit-marked, words-marked, names-marked}
 
 -- the codes of a sign, of = and of a letter
-pub fixed-code : (n c : ℕ) → isFixed c ≡ true → isCode n c ≡ true
-fixed-code n c h = or-right (ltb c n) (isFixed c) h
+pub fixed-code : (n c : ℕ) → isFixedCode c ≡ true → isCode n c ≡ true
+fixed-code n c h = or-right (ltb c n) (isFixedCode c) h
 
-pub letter-code : (n p : ℕ) → p < 8 → isCode n (65 + p) ≡ true
+pub letter-code : (n p : ℕ) → p < 8 → isCode n (letterCode + p) ≡ true
 letter-code n p h =
-    let c : ℕ = 65 + p in
-    let low : (leb 65 c && ltb c 73) ≡ true = and-join (leb 65 c) (ltb c 73) (le-leb 65 c (omega arith)) (lt-ltb c 73 (omega arith)) in
-    fixed-code n c (or-right (eqb c 43) (eqb c 45 || (eqb c 61 || (leb 65 c && ltb c 73))) (or-right (eqb c 45) (eqb c 61 || (leb 65 c && ltb c 73)) (or-right (eqb c 61) (leb 65 c && ltb c 73) low)))
+    let c : ℕ = letterCode + p in
+    let low : (leb letterCode c && ltb c pastLetters) ≡ true = and-join (leb letterCode c) (ltb c pastLetters) (le-leb letterCode c (omega arith)) (lt-ltb c pastLetters (omega arith)) in
+    fixed-code n c (or-right (eqb c plusCode) (eqb c minusCode || (eqb c equalsCode || (leb letterCode c && ltb c pastLetters))) (or-right (eqb c minusCode) (eqb c equalsCode || (leb letterCode c && ltb c pastLetters)) (or-right (eqb c equalsCode) (leb letterCode c && ltb c pastLetters) low)))
 
-letter-word : (p : ℕ) → codeWord (65 + p) ≡ letter p
-letter-word p = let e : 65 + p - 65 ≡ p = omega arith in wordOf-letter (65 + p) (omega arith) ∙ ap letter e
+letter-word : (p : ℕ) → codeWord (letterCode + p) ≡ letter p
+letter-word p = let e : letterCode + p - letterCode ≡ p = omega arith in wordOf-letter (letterCode + p) (omega arith) ∙ ap letter e
 
 pub symbol-code : (n i : ℕ) → i < n → isCode n i ≡ true
-symbol-code n i h = or-left (ltb i n) (isFixed i) (lt-ltb i n h)
+symbol-code n i h = or-left (ltb i n) (isFixedCode i) (lt-ltb i n h)
 
 module _ (s : Signature) where
   pub begun-bounded : (w : Words) (n : ℕ) → n ≤ 67 → Begun s w n → WordsBounded w
@@ -100,9 +100,9 @@ module _ (text : List ℕ) (s : Signature) where
     pub ready-letter : (m : ℕ) → Ready text s c m variable → r .place < 8
     ready-letter m z = place-within (z .variables) (z .words) (z .coding) (z .fit)
 
-    pub variable-coded : (w : Words) → Continues s (c .words) (codeWord (65 + r .place) ∷ []) w → Coded text s c variable (record { words = w; letters = r .letters })
+    pub variable-coded : (w : Words) → Continues s (c .words) (codeWord (letterCode + r .place) ∷ []) w → Coded text s c variable (record { words = w; letters = r .letters })
     variable-coded w h U ws k f =
-        let e : codeWord (65 + r .place) ≡ letter (letterOfName (lettersBy (U ++ (n .bytes ∷ []))) (n .bytes)) = letter-word (r .place) ∙ ap letter (found .place U (k .letters)) in
+        let e : codeWord (letterCode + r .place) ≡ letter (letterOfName (lettersBy (U ++ (n .bytes ∷ []))) (n .bytes)) = letter-word (r .place) ∙ ap letter (found .place U (k .letters)) in
         record {
           passed = subst (λ (x : Word). Passed g (ws ++ (x ∷ [])) w) e (h text ws (k .passed));
           letters = found .letters (place-within U ws k f) U (k .letters);
@@ -126,7 +126,7 @@ module _ (text : List ℕ) (s : Signature) where
     pub ready-symbol : (m : ℕ) (f : Bool) (a : ℕ) → Ready text s c m (its f a) → i < s .count
     ready-symbol m f a z = named-within (and-left (isNamed (n .bytes) g) true (z .fit)) .0
 
-    pub symbol-coded : s .count ≤ 24 → (w : Words) → Continues s (c .words) (codeWord i ∷ []) w → (f : Bool) (a : ℕ) → Coded text s c (its f a) (record { words = w; letters = c .letters })
+    pub symbol-coded : s .count ≤ maxInAll → (w : Words) → Continues s (c .words) (codeWord i ∷ []) w → (f : Bool) (a : ℕ) → Coded text s c (its f a) (record { words = w; letters = c .letters })
     symbol-coded few w h f a U ws k fit =
         let q = named-within (and-left (isNamed (n .bytes) g) true fit) in
         let e : codeWord i ≡ symbol (symbolOfName g (n .bytes)) = wordOf-symbol i (omega (arith, q .0)) ∙ ap symbol (sym (q .1)) in

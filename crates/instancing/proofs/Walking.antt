@@ -4,8 +4,7 @@ use mathlib.Core.Path.{_≡_, refl, sym, ap, _∙_}
 use mathlib.Core.Bool.{Bool, true, false, cond, not}
 use mathlib.Core.List.{List, [], _∷_}
 use native.Mathlib.Omega.{arith}
-use lib.ListN.{length, getD, take, length-map}
-use lib.Seq.{length-take-le}
+use lib.ListN.{getD, take}
 use Rattle.theory.specs.Lists.{concatMap, upTo}
 use Rattle.theory.specs.Vectors.{vectors}
 use Rattle.theory.specs.Flattening.{flatten}
@@ -13,13 +12,13 @@ use Rattle.theory.specs.Propositional.{PropClause}
 use Rattle.theory.specs.Instances.{instances, kept}
 use Rattle.theory.proofs.Vectors.{length-vectors}
 use Rattle.syntax.specs.declared.limits.Problem.{Problem}
-use Rattle.syntax.specs.Signatures.{signatureIn}
 use Rattle.interpretation.specs.declared.vector.ArgumentVector.{ArgumentVector}
-use Rattle.problem.specs.Problems.{clauseAt, problemIn, Accepted}
+use Rattle.problem.specs.Problems.{problemIn, Accepted}
 use Rattle.stream.specs.declared.consumer.Mode.{Mode}
 use Rattle.stream.specs.Consuming.{State, Consumes, Consumed}
 use Rattle.stream.proofs.Streams.{none-consumed, consumes-same, consumed-same, begun-consumed, next-consumes, more-consumed, all-consumed}
 use Rattle.forms.specs.LinearForms.{formInstance}
+use Rattle.problem.proofs.Counted.{clause-count}
 use Rattle.instancing.specs.Choices.{ChoiceAt}
 use Rattle.instancing.specs.ClauseForms.{FormsOf, instanceUnder, allInstances}
 use Rattle.instancing.specs.InstancePart.{instancesOf, instancePart}
@@ -86,17 +85,11 @@ module _ (mode : Mode) (v : ℕ) (x : State) where
     clause-consumed k y z q r = more-consumed mode v (instancesOf size (problemIn sheet p)) 0 (p .count) x k (k + 1) k y z (omega arith) (omega arith) q r
 
     module _ (h : Accepted sheet p) where
-      clause-count : length (problemIn sheet p .clauses) ≡ p .count
-      unfolding problemIn
-      clause-count =
-          length-map (take (p .count) (p .clauses)) (clauseAt sheet (signatureIn sheet (p .signature)))
-          ∙ length-take-le (p .count) (p .clauses) (h .held)
-
       every-clause : instancePart size (problemIn sheet p) ≡ concatMap (instancesOf size (problemIn sheet p)) (upTo (p .count))
       unfolding instancePart instancesOf
       every-clause =
           by-places (λ c. instances size (problemIn sheet p .symbols) (flatten c)) [] (problemIn sheet p .clauses)
-          ∙ ap (λ (m : ℕ). concatMap (instancesOf size (problemIn sheet p)) (upTo m)) clause-count
+          ∙ ap (λ (m : ℕ). concatMap (instancesOf size (problemIn sheet p)) (upTo m)) (clause-count sheet p h)
 
       pub clause-consumes : (k : ℕ) (y : State) → k < p .count → Consumes mode v (instancePart size (problemIn sheet p)) x → ClausesTaken k y → Consumes mode v (instancesOf size (problemIn sheet p) k) y
       clause-consumes k y l q r =

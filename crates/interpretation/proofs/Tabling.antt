@@ -1,37 +1,40 @@
 -- The tables of the first symbols, one symbol more at a time.
-use Prim.Native.Nat.{ℕ, zero, suc, _+_, _*_, _^_, _≤_, _<_}
+use Prim.Native.Nat.{ℕ, zero, suc, _+_, _*_, _-_, _^_, _≤_, _<_}
 use mathlib.Core.Path.{_≡_, refl, sym, ap, _∙_, subst}
-use mathlib.Core.Bool.{false}
+use mathlib.Core.Bool.{Bool, true, false}
 use mathlib.Core.List.{List}
 use native.Mathlib.Decide.{ℕ-discrete}
+use native.Mathlib.Nat.{pow-zero}
 use native.Mathlib.Omega.{arith}
+use lib.Dec.{ltb}
 use lib.ListN.{length, getD, set, replicate, length-set}
 use lib.Seq.{getD-set-same, getD-set-other}
 use Rattle.theory.specs.Syntax.{symbolAt}
 use Rattle.theory.specs.Syntax as theory
 use Rattle.theory.specs.Cells.{tableSize, cellBase, cellCount}
+use Rattle.theory.proofs.Tests.{ltb-true, ltb-false}
 use Rattle.theory.proofs.Numbering.{cellBase-suc, cellBase-length}
 use Rattle.syntax.specs.declared.signature.Symbol.{Symbol}
 use Rattle.syntax.specs.declared.signature.Signature.{Signature}
-use Rattle.syntax.specs.Signatures.{kindOf, symbolIn, signatureIn, Small}
+use Rattle.syntax.specs.Signatures.{maxDeclared, maxCells, kindOf, symbolIn, signatureIn, Small}
 use Rattle.clauses.specs.Names.{Limited}
-use Rattle.clauses.proofs.Held.{arity-at, count-signatureIn, symbolAt-signatureIn}
+use Rattle.clauses.proofs.Held.{blank, arity-at, constant-at, count-signatureIn, symbolAt-signatureIn}
 use Rattle.interpretation.specs.declared.tables.Tables.{Tables}
 use Rattle.interpretation.specs.Tables.{TablesOf}
 use Rattle.interpretation.proofs.Ranks.{table-within}
 
 -- the tables of the first i symbols
 pub record Tabled (g : theory.Signature) (s : ℕ) (t : Tables) (i : ℕ) : Type 0 where
-  pub arities-held : length (t .arities) ≡ 24
-  pub kinds-held : length (t .functions) ≡ 24
-  pub bases-held : length (t .bases) ≡ 24
+  pub arities-held : length (t .arities) ≡ 56
+  pub kinds-held : length (t .functions) ≡ 56
+  pub bases-held : length (t .bases) ≡ 56
   pub arity : (j : ℕ) → j < i → getD (t .arities) j 0 ≡ symbolAt g j .arity
   pub kind : (j : ℕ) → j < i → kindOf (getD (t .functions) j false) ≡ symbolAt g j .kind
   pub base : (j : ℕ) → j < i → getD (t .bases) j 0 ≡ cellBase s g j
   pub cells : t .cells ≡ cellBase s g i
   pub within : t .cells ≤ 512 * i
 
-pub none-tabled : (g : theory.Signature) (s : ℕ) → Tabled g s (record { arities = replicate 24 0; functions = replicate 24 false; bases = replicate 24 0; cells = 0 }) 0
+pub none-tabled : (g : theory.Signature) (s : ℕ) → Tabled g s (record { arities = replicate 56 0; functions = replicate 56 false; bases = replicate 56 0; cells = 0 }) 0
 none-tabled g s =
     record {
       arities-held = refl;
@@ -56,7 +59,7 @@ set-suc d x l i P h p q j k = elim (ℕ-discrete j i) [
 ]
 
 module _ (g : theory.Signature) (s : ℕ) (t : Tables) (i : ℕ) (y : Symbol) (sheet : List ℕ) (p : Tabled g s t i) (e : symbolAt g i ≡ symbolIn sheet y) where
-  pub one-tabled : i < length g → i < 24 → s ≤ 8 → y .arity ≤ 3 → Tabled g s (with t i y (s ^ y .arity)) (suc i)
+  pub one-tabled : i < length g → i < 56 → s ≤ 8 → y .arity ≤ 3 → Tabled g s (with t i y (s ^ y .arity)) (suc i)
   one-tabled l few small le =
       record {
         arities-held = length-set (t .arities) i (y .arity) ∙ p .arities-held;
@@ -71,7 +74,7 @@ module _ (g : theory.Signature) (s : ℕ) (t : Tables) (i : ℕ) (y : Symbol) (s
       }
 
 -- all of them
-pub all-tabled : (g : theory.Signature) (s : ℕ) (t : Tables) → length g ≤ 24 → Tabled g s t (length g) → TablesOf g s t
+pub all-tabled : (g : theory.Signature) (s : ℕ) (t : Tables) → length g ≤ 56 → Tabled g s t (length g) → TablesOf g s t
 all-tabled g s t few p =
     record {
       arities = record { within = omega (arith, p .arities-held); arity = p .arity };
@@ -88,9 +91,6 @@ base-within g s zero h small l = omega arith
 base-within g s (suc i) h small l =
     omega (arith, base-within g s i h small (omega arith), cellBase-suc s g i (omega arith), table-within s (symbolAt g i .arity) h (small .arities i (omega arith)))
 
-pub cellCount-small : (g : theory.Signature) (s : ℕ) → s ≤ 8 → Small g → cellCount s g ≤ 12288
-cellCount-small g s h small = omega (arith, base-within g s (length g) h small (omega arith), cellBase-length s g, small .symbols)
-
 -- the signature of limited symbols is small
 pub limited-small : (sheet : List ℕ) (y : Signature) → Limited y → Small (signatureIn sheet y)
 limited-small sheet y h =
@@ -98,3 +98,32 @@ limited-small sheet y h =
       symbols = omega (arith, count-signatureIn y h sheet, h .count);
       arities = λ i l. rw (symbolAt-signatureIn y h sheet i (omega (arith, count-signatureIn y h sheet))) (arity-at y h i (omega (arith, count-signatureIn y h sheet)));
     }
+
+-- limited symbols have no more cells than a problem may have: those that are more than a sheet may have are constants
+module _ (sheet : List ℕ) (y : Signature) (h : Limited y) (s : ℕ) (small : s ≤ 8) where
+  abbrev g : theory.Signature
+  g = signatureIn sheet y
+
+  next-base : (i : ℕ) → i < y .count → cellBase s g (suc i) ≡ cellBase s g i + s ^ getD (y .symbols) i blank .arity
+  next-base i l = cellBase-suc s g i (omega (arith, count-signatureIn y h sheet)) ∙ ap (λ (f : theory.Symbol). cellBase s g i + tableSize s f) (symbolAt-signatureIn y h sheet i l)
+
+  -- what the first i symbols may have
+  abbrev most : ℕ → ℕ
+  most i = 512 * (i - (i - maxDeclared)) + (i - maxDeclared)
+
+  base-limited : (i : ℕ) → i ≤ y .count → cellBase s g i ≤ most i
+  base-limited zero l = omega arith
+  base-limited (suc i) l = go (ltb i maxDeclared) refl (base-limited i (omega arith))
+    where
+      go : (b : Bool) → ltb i maxDeclared ≡ b → cellBase s g i ≤ most i → cellBase s g (suc i) ≤ most (suc i)
+      go true few h′ = omega (arith, next-base i l, table-within s (getD (y .symbols) i blank .arity) small (arity-at y h i l), ltb-true i maxDeclared few)
+      go false past h′ =
+          let one : s ^ getD (y .symbols) i blank .arity ≡ 1 = ap (λ (n : ℕ). s ^ n) (constant-at y h i (ltb-false i maxDeclared past) l) ∙ pow-zero s in
+          omega (arith, next-base i l, one, ltb-false i maxDeclared past)
+
+  -- each symbol's table ends among them
+  pub table-limited : (i : ℕ) → i < y .count → cellBase s g i + s ^ getD (y .symbols) i blank .arity ≤ maxCells
+  table-limited i l = omega (arith, base-limited (suc i) l, next-base i l, h .count)
+
+  pub cells-limited : cellCount s g ≤ maxCells
+  cells-limited = omega (arith, base-limited (y .count) (omega arith), ap (cellBase s g) (count-signatureIn y h sheet), cellBase-length s g, h .count)

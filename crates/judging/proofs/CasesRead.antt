@@ -14,9 +14,8 @@ use Rattle.theory.proofs.Answers.{bind-step, bind-refused}
 use Rattle.theory.proofs.CaseText.{OnlyText, read-exactly}
 use Rattle.theory.proofs.PlacedReading.{placed-problem, placed-case}
 use Rattle.syntax.specs.declared.size.DomainSize.{DomainSize}
-use Rattle.syntax.specs.Signatures.{signatureIn}
-use Rattle.clauses.proofs.Held.{small-signatureIn}
-use Rattle.interpretation.proofs.Tabling.{cellCount-small}
+use Rattle.syntax.specs.Signatures.{maxCells, signatureIn}
+use Rattle.interpretation.proofs.Tabling.{cells-limited}
 use Rattle.problem.specs.declared.sheet.Reading.{Reading}
 use Rattle.problem.specs.Problems.{problemIn, readingOf, Accepted}
 use Rattle.problem.proofs.SheetRead.{sheet-accepted}
@@ -75,12 +74,12 @@ module _ (sheet case : List ℕ) (r : Reading) (read : readingOf sheet r ≡ rea
       exact : OnlyText g case caseRead
       exact = read-exactly g case caseRead (told (Read d) q)
 
-      pub cells-lent : Accepted sheet (r .problem) → length cells ≡ 12288 → CellsLent sheet (r .problem) cells (d .0)
+      pub cells-lent : Accepted sheet (r .problem) → length cells ≡ maxCells → CellsLent sheet (r .problem) cells (d .0)
       cells-lent h n =
           record {
             positive = exact .positive;
             size = exact .within;
             accepted = h;
-            held = omega (arith, n, cellCount-small g (d .0) (exact .within) (small-signatureIn (r .problem .signature) (h .readable .limited) sheet));
+            held = omega (arith, n, cells-limited sheet (r .problem .signature) (h .readable .limited) (d .0) (exact .within));
             values = exact .interpretation;
           }

@@ -5,7 +5,7 @@ use mathlib.Core.Bool.{Bool, true}
 use mathlib.Core.List.{List, [], map}
 use native.Mathlib.Nat.{sub-zero}
 use native.Mathlib.Omega.{arith}
-use lib.ListN.{length, getD, take, length-map}
+use lib.ListN.{length, getD, take}
 use lib.Seq.{length-take-le}
 use Rattle.theory.specs.Lists.{elem}
 use Rattle.theory.specs.Syntax.{Signature, variables}
@@ -41,10 +41,6 @@ pub record ClauseHeld (sheet : List ℕ) (p : Problem) (arities : List ℕ) (fun
   pub own : count ≡ length (variables (getD (problemIn sheet p .clauses) k []))
   pub value : (b : Bool) (v : List ℕ) → b ≡ clauseTrue (interpretation s (lent .signature) cells) (assign (lent .variables) v) (lentClause lent) → b ≡ trueAt sheet p cells s k v
   pub all : choices ≡ s ^ count
-
-pub clause-count : (sheet : List ℕ) (p : Problem) → Accepted sheet p → length (problemIn sheet p .clauses) ≡ p .count
-unfolding problemIn
-clause-count sheet p h = length-map (take (p .count) (p .clauses)) _ ∙ length-take-le (p .count) (p .clauses) (h .held)
 
 -- clause k of the problem, as its words w
 module _ (sheet : List ℕ) (p : Problem) (accepted : Accepted sheet p) (k : ℕ) (w : ClauseWords) (h : WordsOf sheet p k w) (held : length (w .words) ≡ 64) where

@@ -29,11 +29,12 @@ use Rattle.answers.specs.declared.JudgeAnswer.the-variants.{Yes, No}
 use Rattle.answers.specs.Answers.{eight, reasonBytes, unreasoned}
 use Rattle.answers.specs.Calls.{ReasoningCall}
 use Rattle.answers.proofs.Reasons.{reason-said}
+use Rattle.problem.proofs.Counted.{clause-count}
 use Rattle.judging.specs.declared.failures.Failure.{Failure}
 use Rattle.judging.specs.Failures.{failureIn}
 use Rattle.judging.specs.Cases.{CellsLent, cellsOf, judgedIn}
 use Rattle.judging.specs.Reasons.{reasonAt, FailureHeld, reasonFor}
-use Rattle.judging.proofs.ClausesLent.{clause-count, codes-below, own-variables, own-count, few-own}
+use Rattle.judging.proofs.ClausesLent.{codes-below, own-variables, own-count, few-own}
 
 -- the words of the clause that fails, and its variables
 module _ (sheet : List ℕ) (p : Problem) (f : Failure) (h : FailureHeld sheet p f) (w : ClauseWords) (of : WordsOf sheet p (f .clause) w) (held : length (w .words) ≡ 64) (v : Variables) (placed : Places (variablesIn w) v) where

@@ -19,9 +19,10 @@ use Rattle.interpretation.specs.declared.vector.ArgumentVector.{ArgumentVector}
 use Rattle.interpretation.specs.Vectors.{digitsIn, firstVector, IsNext}
 use Rattle.problem.specs.Problems.{problemIn, Accepted}
 use Rattle.truth.specs.Values.{Chosen, IsClauseValue}
+use Rattle.problem.proofs.Counted.{clause-count}
 use Rattle.judging.specs.declared.failures.Failure.{Failure}
 use Rattle.judging.specs.Failures.{failureIn}
-use Rattle.judging.proofs.ClausesLent.{trueAt, ClauseHeld, clause-count}
+use Rattle.judging.proofs.ClausesLent.{trueAt, ClauseHeld}
 use Rattle.judging.proofs.Passing.{Reached, first-reached, next-reached, reached-length, reached-below, found-here, found-later, found-none}
 
 -- clause k with its first failing choice, or the first failure behind it

@@ -6,7 +6,6 @@ use problem::clause_lines::clause_words;
 use syntax::limits::Problem;
 use syntax::variables::Variables;
 use syntax::variables::variables_of;
-use syntax::words::ClauseWords;
 ghost use mathlib.Core.Path.{_≡_};
 ghost use mathlib.Core.Bool.{true};
 ghost use mathlib.Core.List.{List, map};
@@ -44,7 +43,7 @@ fn letters_of(variables: Variables) -> [u8; Problem::MAX_LETTERS]
     while x < Problem::MAX_LETTERS {
         let i = variables.place[x] as usize;
         if i < Problem::MAX_LETTERS {
-            letters[i] = ClauseWords::LETTER + x as u8;
+            letters[i] = b'A' + x as u8;
         }
         x += 1;
     }

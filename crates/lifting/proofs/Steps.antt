@@ -18,7 +18,7 @@ use Rattle.theory.proofs.Lists.{all-elem}
 use Rattle.theory.proofs.Declared.{functionOf→}
 use Rattle.theory.proofs.LiftedTerms.{addTerms-adds}
 use Rattle.theory.proofs.Growing.{addTerms-append, addTerms-length, functionTerms-words, allFunctionTerms-words, variableFor-grown}
-use Rattle.syntax.specs.Codes.{codeOf}
+use Rattle.syntax.specs.Codes.{letterCode, codeOf}
 use Rattle.syntax.specs.Variables.{isLetter, placeOr8}
 use Rattle.syntax.proofs.Codes.{codeOf-wordOf}
 use Rattle.lifting.specs.declared.table.Table.{Table}
@@ -61,7 +61,7 @@ module _ {codes place arities : List ℕ} {owns at : ℕ} {t : Table} (s : TermT
   pub record VariableTerm : Type 0 where
     pub x : ℕ
     pub is : s .term ≡ variable x
-    pub coded : getD codes at 0 ≡ 65 + x
+    pub coded : getD codes at 0 ≡ letterCode + x
     pub own : elem x (s .source .variables) ≡ true
 
   pub record FunctionTerm : Type 0 where
@@ -93,25 +93,25 @@ module _ {codes place arities : List ℕ} {owns at : ℕ} {t : Table} (s : TermT
             arity = d .arity ∙ ap (λ (f : ℕ). symbolAt g f .arity) c;
           })
 
-  pub variable-term : 65 ≤ getD codes at 0 → VariableTerm
+  pub variable-term : letterCode ≤ getD codes at 0 → VariableTerm
   variable-term h = ⊎-elim (λ v. v) (λ p. absurd (omega (arith, p .below, s .source .small .symbols))) split
 
-  pub function-term : getD codes at 0 < 65 → FunctionTerm
+  pub function-term : getD codes at 0 < letterCode → FunctionTerm
   function-term h = ⊎-elim (λ v. absurd (omega (arith, v .coded))) (λ p. p) split
 
   -- a variable is read to its place
-  pub letter-inside : 65 ≤ getD codes at 0 → getD codes at 0 - 65 < length place
+  pub letter-inside : letterCode ≤ getD codes at 0 → getD codes at 0 - letterCode < length place
   letter-inside h =
       let v = variable-term h in
       omega (arith, v .coded, s .source .eight, ltb-true (v .x) 8 (all-elem isLetter xs (v .x) (s .source .letters) (v .own)))
 
-  pub letter-lifted : 65 ≤ getD codes at 0 → TermLifted s (record { variable = getD place (getD codes at 0 - 65) 0; next = at + 1; table = t })
+  pub letter-lifted : letterCode ≤ getD codes at 0 → TermLifted s (record { variable = getD place (getD codes at 0 - letterCode) 0; next = at + 1; table = t })
   letter-lifted h = go (variable-term h)
     where
-      go : VariableTerm → TermLifted s (record { variable = getD place (getD codes at 0 - 65) 0; next = at + 1; table = t })
+      go : VariableTerm → TermLifted s (record { variable = getD place (getD codes at 0 - letterCode) 0; next = at + 1; table = t })
       go v =
           let x : ℕ = v .x in
-          let e : code - 65 ≡ x = omega (arith, v .coded) in
+          let e : code - letterCode ≡ x = omega (arith, v .coded) in
           let p = own-place xs x (v .own) in
           record {
             next = ap (λ (u : Term). at + length (termWords u)) (sym (v .is));
@@ -125,7 +125,7 @@ module _ {codes place arities : List ℕ} {owns at : ℕ} {t : Table} (s : TermT
           }
 
   -- a function's terms stand behind it
-  pub function-inside : getD codes at 0 < 65 → getD codes at 0 < length arities
+  pub function-inside : getD codes at 0 < letterCode → getD codes at 0 < length arities
   function-inside h = omega (arith, function-term h .below, s .source .table .within)
 
   pub words-behind : (p : FunctionTerm) → wordsFrom codes (s .source .count) at ≡ symbol code ∷ (termsWords (p .arguments) ++ s .rest)

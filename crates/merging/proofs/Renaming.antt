@@ -10,7 +10,7 @@ use Rattle.theory.specs.Syntax.{Signature, Term, variable, apply, Terms, empty,
 use Rattle.theory.specs.Grammar.{Word, sign, equals, symbol, letter, termWords, termsWords, atomWords, clauseWords}
 use Rattle.theory.specs.Flattening.{rename, renameTerm, renameTerms, renameAtom, renameLiteral}
 use Rattle.theory.proofs.Tests.{eqb-true, eqb-same, eqb-ne, eqb-false, and-left, and-right, and-join}
-use Rattle.syntax.specs.Codes.{codeOf, codeWord, isKnown}
+use Rattle.syntax.specs.Codes.{letterCode, codeOf, codeWord, isKnown}
 use Rattle.syntax.proofs.Codes.{codeOf-wordOf}
 use Rattle.merging.specs.Merged.{renamedCode}
 
@@ -81,8 +81,8 @@ module _ (a b x y : ℕ) (ea : codeWord a ≡ letter x) (eb : codeWord b ≡ let
       other d equals e = refl
       other d (symbol i) e = refl
       other d (letter z) e =
-          let k : 65 + y ≡ b = ap codeOf (sym eb) ∙ codeOf-wordOf b in
-          ap (λ (t : Bool). letter (cond t x z)) (sym (eqb-false z y (λ q. d (sym e ∙ ap (λ (m : ℕ). 65 + m) q ∙ k))))
+          let k : letterCode + y ≡ b = ap codeOf (sym eb) ∙ codeOf-wordOf b in
+          ap (λ (t : Bool). letter (cond t x z)) (sym (eqb-false z y (λ q. d (sym e ∙ ap (λ (m : ℕ). letterCode + m) q ∙ k))))
 
       go : (t : Bool) → eqb n b ≡ t → codeWord (cond t a n) ≡ renameWord x y (codeWord n)
       go true e = ea ∙ sym (ap (λ (m : ℕ). renameWord x y (codeWord m)) (eqb-true n b e) ∙ ap (renameWord x y) eb ∙ ap (λ (t : Bool). letter (cond t x y)) (eqb-same y))

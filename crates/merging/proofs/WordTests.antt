@@ -7,11 +7,11 @@ use native.Mathlib.Omega.{arith}
 use lib.Dec.{leb}
 use borrow.Author.Tests.{leb-true, leb-false, le-leb, lt-leb}
 use Rattle.theory.specs.Grammar.{Word, sign, equals, symbol, letter}
-use Rattle.syntax.specs.Codes.{codeOf, codeWord}
+use Rattle.syntax.specs.Codes.{minusCode, equalsCode, letterCode, codeOf, codeWord}
 use Rattle.syntax.proofs.Codes.{codeOf-wordOf, wordOf-letter}
 use Rattle.merging.specs.Unequal.{isMinus, isEquals, isVariable, isUnequal}
 
-not-minus : (n : ℕ) → n ≢ 45 → isMinus (codeWord n) ≡ false
+not-minus : (n : ℕ) → n ≢ minusCode → isMinus (codeWord n) ≡ false
 not-minus n h = go (codeWord n) (codeOf-wordOf n)
   where
     go : (w : Word) → codeOf w ≡ n → isMinus w ≡ false
@@ -21,7 +21,7 @@ not-minus n h = go (codeWord n) (codeOf-wordOf n)
     go (symbol i) e = refl
     go (letter x) e = refl
 
-not-equals : (n : ℕ) → n ≢ 61 → isEquals (codeWord n) ≡ false
+not-equals : (n : ℕ) → n ≢ equalsCode → isEquals (codeWord n) ≡ false
 not-equals n h = go (codeWord n) (codeOf-wordOf n)
   where
     go : (w : Word) → codeOf w ≡ n → isEquals w ≡ false
@@ -30,38 +30,38 @@ not-equals n h = go (codeWord n) (codeOf-wordOf n)
     go (symbol i) e = refl
     go (letter x) e = refl
 
-isVariable-code : (n : ℕ) → isVariable (codeWord n) ≡ leb 65 n
-isVariable-code n = go (leb 65 n) refl
+isVariable-code : (n : ℕ) → isVariable (codeWord n) ≡ leb letterCode n
+isVariable-code n = go (leb letterCode n) refl
   where
-    other : n < 65 → (w : Word) → codeOf w ≡ n → isVariable w ≡ false
+    other : n < letterCode → (w : Word) → codeOf w ≡ n → isVariable w ≡ false
     other l (sign b) e = refl
     other l equals e = refl
     other l (symbol i) e = refl
     other l (letter x) e = absurd (omega arith)
 
-    go : (b : Bool) → leb 65 n ≡ b → isVariable (codeWord n) ≡ b
-    go true e = ap isVariable (wordOf-letter n (leb-true 65 n e))
-    go false e = other (leb-false 65 n e) (codeWord n) (codeOf-wordOf n)
+    go : (b : Bool) → leb letterCode n ≡ b → isVariable (codeWord n) ≡ b
+    go true e = ap isVariable (wordOf-letter n (leb-true letterCode n e))
+    go false e = other (leb-false letterCode n e) (codeWord n) (codeOf-wordOf n)
 
 -- the four codes stand for - = and two letters, test by test
 module _ (s e x y : ℕ) where
-  pub first-fails : s ≢ 45 → false ≡ isUnequal (codeWord s) (codeWord e) (codeWord x) (codeWord y)
+  pub first-fails : s ≢ minusCode → false ≡ isUnequal (codeWord s) (codeWord e) (codeWord x) (codeWord y)
   first-fails h = ap (λ (b : Bool). b && (isEquals (codeWord e) && (isVariable (codeWord x) && isVariable (codeWord y)))) (sym (not-minus s h))
 
-  pub second-fails : s ≡ 45 → e ≢ 61 → false ≡ isUnequal (codeWord s) (codeWord e) (codeWord x) (codeWord y)
+  pub second-fails : s ≡ minusCode → e ≢ equalsCode → false ≡ isUnequal (codeWord s) (codeWord e) (codeWord x) (codeWord y)
   second-fails p h =
       ap (λ (b : Bool). b && (isVariable (codeWord x) && isVariable (codeWord y))) (sym (not-equals e h))
       ∙ ap (λ (n : ℕ). isUnequal (codeWord n) (codeWord e) (codeWord x) (codeWord y)) (sym p)
 
-  pub two-hold : s ≡ 45 → e ≡ 61 → (leb 65 x && leb 65 y) ≡ isUnequal (codeWord s) (codeWord e) (codeWord x) (codeWord y)
+  pub two-hold : s ≡ minusCode → e ≡ equalsCode → (leb letterCode x && leb letterCode y) ≡ isUnequal (codeWord s) (codeWord e) (codeWord x) (codeWord y)
   two-hold p q =
-      ap (λ (b : Bool). b && leb 65 y) (sym (isVariable-code x))
+      ap (λ (b : Bool). b && leb letterCode y) (sym (isVariable-code x))
       ∙ ap (λ (b : Bool). isVariable (codeWord x) && b) (sym (isVariable-code y))
       ∙ ap (λ (n : ℕ). isUnequal (codeWord n) equals (codeWord x) (codeWord y)) (sym p)
       ∙ ap (λ (n : ℕ). isUnequal (codeWord s) (codeWord n) (codeWord x) (codeWord y)) (sym q)
 
-  pub third-fails : s ≡ 45 → e ≡ 61 → x < 65 → false ≡ isUnequal (codeWord s) (codeWord e) (codeWord x) (codeWord y)
-  third-fails p q h = ap (λ (b : Bool). b && leb 65 y) (sym (lt-leb 65 x h)) ∙ two-hold p q
+  pub third-fails : s ≡ minusCode → e ≡ equalsCode → x < letterCode → false ≡ isUnequal (codeWord s) (codeWord e) (codeWord x) (codeWord y)
+  third-fails p q h = ap (λ (b : Bool). b && leb letterCode y) (sym (lt-leb letterCode x h)) ∙ two-hold p q
 
-  pub fourth-decides : s ≡ 45 → e ≡ 61 → 65 ≤ x → leb 65 y ≡ isUnequal (codeWord s) (codeWord e) (codeWord x) (codeWord y)
-  fourth-decides p q h = ap (λ (b : Bool). b && leb 65 y) (sym (le-leb 65 x h)) ∙ two-hold p q
+  pub fourth-decides : s ≡ minusCode → e ≡ equalsCode → letterCode ≤ x → leb letterCode y ≡ isUnequal (codeWord s) (codeWord e) (codeWord x) (codeWord y)
+  fourth-decides p q h = ap (λ (b : Bool). b && leb letterCode y) (sym (le-leb letterCode x h)) ∙ two-hold p q

@@ -1,12 +1,12 @@
 -- Columns, of the calls: each refusal is the sheet's, the case's, or one without a place.
-use Prim.Native.Nat.{ℕ, suc}
+use Prim.Native.Nat.{ℕ, suc, _≤_}
 use mathlib.Core.Path.{_≡_, refl, sym, ap, _∙_, subst}
 use mathlib.Core.Logic.{_⊎_, inl, inr}
-use mathlib.Core.Bool.{Bool, true, false, _&&_}
+use mathlib.Core.Bool.{Bool, true, false, cond, _&&_}
 use mathlib.Core.Option.{Option, none, some}
 use mathlib.Core.List.{List}
 use native.Mathlib.Omega.{arith}
-use lib.Dec.{leb}
+use lib.Dec.{eqb, leb}
 use lib.ListN.{length}
 use Rattle.theory.specs.Propositional.{propCount}
 use Rattle.theory.specs.PropClauses.{instanceCount, workNeeded}
@@ -26,9 +26,15 @@ use Rattle.theory.proofs.Answers.{answer≢refused, refused-inj, unrefused}
 use Rattle.theory.proofs.PlacedReading.{problem-read, plain-case}
 use Rattle.theory.proofs.PlacedRefusals.{refusal-told}
 use Rattle.theory.proofs.CaseRefusals.{case-refusal}
-use Rattle.theory.proofs.Columns.{columns}
-use Rattle.theory.proofs.ColumnsWithin.{within}
+use Rattle.theory.proofs.Tests.{true-or-false, eqb-true, eqb-false, eqb-ne}
+use Rattle.theory.proofs.SheetFaults.{LineFault}
+use Rattle.theory.proofs.Columns.{two-at, three-at, four-at, five-at, six-at, columns}
+use Rattle.theory.proofs.ColumnsWithin.{fault-within, within}
 use Rattle.theory.proofs.Explaining.{explaining}
+use Rattle.naming.specs.NamedProblem.{inMode, shownSymbols}
+use Rattle.naming.specs.NamedReading.{namedColumn, placedNamed}
+use Rattle.naming.specs.NamedOperations.{namedContentOf, namedWrittenText, namedReadBackText, namedFindResult, writtenTextIn, readBackTextIn, findResultIn}
+use Rattle.naming.proofs.NamedFaults.{named-fault, named-told}
 use Rattle.solver.specs.Replies.{Reply, claimsNone, states, readReply}
 use Rattle.solver.specs.SolverText.{Outcome, modelCase, claimedNone, statedCase, outcomeOf, solverText, solverAnswer}
 use Rattle.writing.specs.Texts.{clausesText}
@@ -44,7 +50,7 @@ module _ (sheet : List ℕ) (q : Refusal) (e : placedProblem sheet ≡ refused q
         ap (λ (l : ℕ). sheetColumn sheet n l) (sym line) ∙ ap (λ (n : ℕ). sheetColumn sheet n (q .place .line)) (sym number) ∙ t .1,
       )
 
-  in-sheet : (l : ℕ) → q .place .line ≡ suc l → InSheet sheet l (q .number) (q .place .column)
+  in-sheet : (l : ℕ) → q .place .line ≡ suc l → InSheet false sheet l (q .number) (q .place .column)
   in-sheet l h =
       let g : Signature = sheetSymbols sheet in
       let d : LineForm = dueInSheet sheet l in
@@ -59,8 +65,55 @@ module _ (sheet : List ℕ) (q : Refusal) (e : placedProblem sheet ≡ refused q
         within = let e = told (q .number) (suc l) refl h in let w = within sheet (q .number) l (e .0) in (omega (arith, e .1, w .0), omega (arith, e .1, w .1));
       }
 
-  of-the-sheet : OfTheSheet sheet q
+  of-the-sheet : OfTheSheet false sheet q
   of-the-sheet = record { lined = in-sheet; unlined = λ h. sym (told (q .number) 0 refl h .1) ∙ columns .unplaced sheet (q .number) }
+
+-- the sheet's refusal in the mode
+module _ (sheet : List ℕ) (q : Refusal) (e : placedNamed sheet ≡ refused q) where
+  named-fault-at : (n l : ℕ) → q .number ≡ n → (n ≡ 7 → ⊥) → q .place .line ≡ suc l → LineFault sheet l n
+  named-fault-at n l number other line =
+      named-fault sheet n l other (named-told sheet q e .0 ∙ ap (λ (n : ℕ). refused (atLine n (q .place .line))) number ∙ ap (λ (l : ℕ). refused (atLine n l)) line)
+
+  -- the column on a line is the plain one, but for 7
+  plain-column : (n l : ℕ) → q .number ≡ n → (n ≡ 7 → ⊥) → q .place .line ≡ suc l → sheetColumn sheet n (suc l) ≡ q .place .column
+  unfolding namedColumn
+  plain-column n l number other line =
+      ap (λ (b : Bool). cond b 1 (sheetColumn sheet n (suc l))) (sym (eqb-false n 7 other))
+      ∙ ap (λ (l : ℕ). namedColumn sheet n l) (sym line) ∙ ap (λ (n : ℕ). namedColumn sheet n (q .place .line)) (sym number) ∙ named-told sheet q e .1
+
+  seven-column : (l : ℕ) → q .number ≡ 7 → q .place .line ≡ suc l → q .place .column ≡ 1
+  unfolding namedColumn
+  seven-column l number line = sym (named-told sheet q e .1) ∙ ap (λ (n : ℕ). namedColumn sheet n (q .place .line)) number ∙ ap (λ (l : ℕ). namedColumn sheet 7 l) line
+
+  no-column : q .place .line ≡ 0 → q .place .column ≡ 0
+  unfolding namedColumn
+  no-column line = sym (named-told sheet q e .1) ∙ ap (λ (l : ℕ). namedColumn sheet (q .number) l) line
+
+  named-in-sheet : (l : ℕ) → q .place .line ≡ suc l → InSheet true sheet l (q .number) (q .place .column)
+  named-in-sheet l h =
+      let g : Signature = sheetSymbols sheet in
+      let d : LineForm = dueInSheet sheet l in
+      let t : List ℕ = firstLine (fromLine l sheet) in
+      record {
+        two = λ n. subst (ByteBeyondHelp twoOn sheet l) (plain-column 2 l n (λ z. omega (arith, z)) h) (two-at sheet l (named-fault-at 2 l n (λ z. omega (arith, z)) h));
+        three = λ n. subst (OverNumber d t) (plain-column 3 l n (λ z. omega (arith, z)) h) (three-at sheet l (named-fault-at 3 l n (λ z. omega (arith, z)) h));
+        four = λ n. subst (BadName sheet l) (plain-column 4 l n (λ z. omega (arith, z)) h) (four-at sheet l (named-fault-at 4 l n (λ z. omega (arith, z)) h));
+        five = λ n. subst (FirstUnknown g d t) (plain-column 5 l n (λ z. omega (arith, z)) h) (five-at sheet l (named-fault-at 5 l n (λ z. omega (arith, z)) h));
+        six = λ n. subst (WordBeyondHelp g d t) (plain-column 6 l n (λ z. omega (arith, z)) h) (six-at sheet l (named-fault-at 6 l n (λ z. omega (arith, z)) h));
+        seven = λ n. seven-column l n h;
+        within = go (true-or-false (eqb (q .number) 7));
+      }
+    where
+      go : (eqb (q .number) 7 ≡ true) ⊎ (eqb (q .number) 7 ≡ false) → (1 ≤ q .place .column) × (q .place .column ≤ suc (length (firstLine (fromLine l sheet))))
+      go (inl k) = let c : q .place .column ≡ 1 = seven-column l (eqb-true (q .number) 7 k) h in (omega (arith, c), omega (arith, c))
+      go (inr k) =
+          let other : q .number ≡ 7 → ⊥ = eqb-ne (q .number) 7 k in
+          let w = fault-within sheet l (q .number) (named-fault-at (q .number) l refl other h) in
+          let c : sheetColumn sheet (q .number) (suc l) ≡ q .place .column = plain-column (q .number) l refl other h in
+          (omega (arith, c, w .0), omega (arith, c, w .1))
+
+  of-the-named-sheet : OfTheSheet true sheet q
+  of-the-named-sheet = record { lined = named-in-sheet; unlined = no-column }
 
 -- the case's refusal
 of-the-case : (sheet case : List ℕ) (p : Problem) (q : Refusal) → readProblem sheet ≡ answer p → placedCase (p .symbols) case ≡ refused q → OfTheCase sheet case q
@@ -85,63 +138,111 @@ no-place true p q n e = absurd (answer≢refused tt q e)
 no-place false p q n e = subst NoPlace (refused-inj {A = Unit {0}} p q e) n
 
 -- what refuses is the sheet, or such a check
-abbrev Placed : List ℕ → Refusal → Type 0
-Placed sheet q = OfTheSheet sheet q ⊎ NoPlace q
+abbrev Placed : Bool → List ℕ → Refusal → Type 0
+Placed named sheet q = OfTheSheet named sheet q ⊎ NoPlace q
 
 -- a check without a place, and what follows it
-checked : {B : Type 0} (sheet : List ℕ) (b : Bool) (p : Refusal) (k : Unit {0} → Answer B) (q : Refusal) → NoPlace p → (check b p >>= k) ≡ refused q → (k tt ≡ refused q → Placed sheet q) → Placed sheet q
-checked sheet b p k q n e f = unrefused (check b p) k q e (λ h. inr (no-place b p q n h)) λ u _ e₁. f e₁
+checked : {B : Type 0} (named : Bool) (sheet : List ℕ) (b : Bool) (p : Refusal) (k : Unit {0} → Answer B) (q : Refusal) → NoPlace p → (check b p >>= k) ≡ refused q → (k tt ≡ refused q → Placed named sheet q) → Placed named sheet q
+checked named sheet b p k q n e f = unrefused (check b p) k q e (λ h. inr (no-place b p q n h)) λ u _ e₁. f e₁
 
-content-placed : (sheet : List ℕ) (size : ℕ) (q : Refusal) → contentOf sheet size ≡ refused q → Placed sheet q
+content-placed : (sheet : List ℕ) (size : ℕ) (q : Refusal) → contentOf sheet size ≡ refused q → Placed false sheet q
 unfolding contentOf
 content-placed sheet size q e =
     unrefused (placedProblem sheet) _ q e (λ h. inl (of-the-sheet sheet q h)) λ (p : Problem) _ e₁.
-    checked sheet (isSize size) (unplaced 8) _ q (refl, refl) e₁ λ e₂.
-    checked sheet (leb (instanceCount size (p .symbols) (p .clauses)) maxInstances) (unplaced 9) _ q (refl, refl) e₂ λ e₃. absurd (answer≢refused p q e₃)
+    checked false sheet (isSize size) (unplaced 8) _ q (refl, refl) e₁ λ e₂.
+    checked false sheet (leb (instanceCount size (p .symbols) (p .clauses)) maxInstances) (unplaced 9) _ q (refl, refl) e₂ λ e₃. absurd (answer≢refused p q e₃)
 
-write-placed : (sheet : List ℕ) (size room : ℕ) (q : Refusal) → writtenText sheet size room ≡ refused q → Placed sheet q
+write-placed : (sheet : List ℕ) (size room : ℕ) (q : Refusal) → writtenText sheet size room ≡ refused q → Placed false sheet q
 unfolding writtenText
 write-placed sheet size room q e =
     unrefused (contentOf sheet size) _ q e (content-placed sheet size q) λ (p : Problem) _ e₁.
-    checked sheet (leb (length (clausesText p size)) room) (needing 11 (length (clausesText p size))) _ q (refl, refl) e₁ λ e₂. absurd (answer≢refused (clausesText p size) q e₂)
+    checked false sheet (leb (length (clausesText p size)) room) (needing 11 (length (clausesText p size))) _ q (refl, refl) e₁ λ e₂. absurd (answer≢refused (clausesText p size) q e₂)
 
-read-back-placed : (sheet : List ℕ) (size : ℕ) (setting : List ℕ) (room : ℕ) (q : Refusal) → readBackText sheet size setting room ≡ refused q → Placed sheet q
+read-back-placed : (sheet : List ℕ) (size : ℕ) (setting : List ℕ) (room : ℕ) (q : Refusal) → readBackText sheet size setting room ≡ refused q → Placed false sheet q
 unfolding readBackText
 read-back-placed sheet size setting room q e =
     unrefused (placedProblem sheet) _ q e (λ h. inl (of-the-sheet sheet q h)) λ (p : Problem) _ e₁.
-    checked sheet (isSize size) (unplaced 8) _ q (refl, refl) e₁ λ e₂.
-    checked sheet (isValuation size (p .symbols) setting) (unplaced 13) _ q (refl, refl) e₂ λ e₃.
-    checked sheet (isFunctional size (p .symbols) setting) (unplaced 14) _ q (refl, refl) e₃ λ e₄.
-    checked sheet (leb (caseLength size (p .symbols)) room) (needing 11 (caseLength size (p .symbols))) _ q (refl, refl) e₄ λ e₅. absurd (answer≢refused _ q e₅)
+    checked false sheet (isSize size) (unplaced 8) _ q (refl, refl) e₁ λ e₂.
+    checked false sheet (isValuation size (p .symbols) setting) (unplaced 13) _ q (refl, refl) e₂ λ e₃.
+    checked false sheet (isFunctional size (p .symbols) setting) (unplaced 14) _ q (refl, refl) e₃ λ e₄.
+    checked false sheet (leb (caseLength size (p .symbols)) room) (needing 11 (caseLength size (p .symbols))) _ q (refl, refl) e₄ λ e₅. absurd (answer≢refused _ q e₅)
 
-find-placed : (sheet : List ℕ) (low high work room : ℕ) (q : Refusal) → findResult sheet low high work room ≡ refused q → Placed sheet q
+find-placed : (sheet : List ℕ) (low high work room : ℕ) (q : Refusal) → findResult sheet low high work room ≡ refused q → Placed false sheet q
 unfolding findResult
 find-placed sheet low high work room q e =
     unrefused (placedProblem sheet) _ q e (λ h. inl (of-the-sheet sheet q h)) λ (p : Problem) _ e₁.
-    checked sheet (leb 1 low && leb high maxSize && leb low high) (unplaced 8) _ q (refl, refl) e₁ λ e₂.
-    checked sheet (leb (instanceCount high (p .symbols) (p .clauses)) maxInstances) (unplaced 9) _ q (refl, refl) e₂ λ e₃.
-    checked sheet (leb (workNeeded high (p .symbols) (p .clauses)) work) (needing 10 (workNeeded high (p .symbols) (p .clauses))) _ q (refl, refl) e₃ λ e₄.
-    checked sheet (leb (caseLength high (p .symbols)) room) (needing 11 (caseLength high (p .symbols))) _ q (refl, refl) e₄ λ e₅. absurd (answer≢refused _ q e₅)
+    checked false sheet (leb 1 low && leb high maxSize && leb low high) (unplaced 8) _ q (refl, refl) e₁ λ e₂.
+    checked false sheet (leb (instanceCount high (p .symbols) (p .clauses)) maxInstances) (unplaced 9) _ q (refl, refl) e₂ λ e₃.
+    checked false sheet (leb (workNeeded high (p .symbols) (p .clauses)) work) (needing 10 (workNeeded high (p .symbols) (p .clauses))) _ q (refl, refl) e₃ λ e₄.
+    checked false sheet (leb (caseLength high (p .symbols)) room) (needing 11 (caseLength high (p .symbols))) _ q (refl, refl) e₄ λ e₅. absurd (answer≢refused _ q e₅)
 
-plain-placed : (sheet : List ℕ) (low high room : ℕ) (q : Refusal) → plainResult sheet low high room ≡ refused q → Placed sheet q
+named-content-placed : (sheet : List ℕ) (size : ℕ) (q : Refusal) → namedContentOf sheet size ≡ refused q → Placed true sheet q
+unfolding namedContentOf
+named-content-placed sheet size q e =
+    unrefused (placedNamed sheet) _ q e (λ h. inl (of-the-named-sheet sheet q h)) λ (p : Problem) _ e₁.
+    checked true sheet (isSize size) (unplaced 8) _ q (refl, refl) e₁ λ e₂.
+    checked true sheet (leb (instanceCount size (inMode p .symbols) (inMode p .clauses)) maxInstances) (unplaced 9) _ q (refl, refl) e₂ λ e₃. absurd (answer≢refused p q e₃)
+
+named-write-placed : (sheet : List ℕ) (size room : ℕ) (q : Refusal) → namedWrittenText sheet size room ≡ refused q → Placed true sheet q
+unfolding namedWrittenText
+named-write-placed sheet size room q e =
+    unrefused (namedContentOf sheet size) _ q e (named-content-placed sheet size q) λ (p : Problem) _ e₁.
+    let n : ℕ = length (clausesText (inMode p) size) in
+    checked true sheet (leb n room) (needing 11 n) _ q (refl, refl) e₁ λ e₂. absurd (answer≢refused (clausesText (inMode p) size) q e₂)
+
+named-read-back-placed : (sheet : List ℕ) (size : ℕ) (setting : List ℕ) (room : ℕ) (q : Refusal) → namedReadBackText sheet size setting room ≡ refused q → Placed true sheet q
+unfolding namedReadBackText
+named-read-back-placed sheet size setting room q e =
+    unrefused (placedNamed sheet) _ q e (λ h. inl (of-the-named-sheet sheet q h)) λ (p : Problem) _ e₁.
+    let n : ℕ = caseLength size (shownSymbols (inMode p .symbols)) in
+    checked true sheet (isSize size) (unplaced 8) _ q (refl, refl) e₁ λ e₂.
+    checked true sheet (isValuation size (inMode p .symbols) setting) (unplaced 13) _ q (refl, refl) e₂ λ e₃.
+    checked true sheet (isFunctional size (inMode p .symbols) setting) (unplaced 14) _ q (refl, refl) e₃ λ e₄.
+    checked true sheet (leb n room) (needing 11 n) _ q (refl, refl) e₄ λ e₅. absurd (answer≢refused _ q e₅)
+
+named-find-placed : (sheet : List ℕ) (low high work room : ℕ) (q : Refusal) → namedFindResult sheet low high work room ≡ refused q → Placed true sheet q
+unfolding namedFindResult
+named-find-placed sheet low high work room q e =
+    unrefused (placedNamed sheet) _ q e (λ h. inl (of-the-named-sheet sheet q h)) λ (p : Problem) _ e₁.
+    let w : ℕ = workNeeded high (inMode p .symbols) (inMode p .clauses) in
+    let n : ℕ = caseLength high (shownSymbols (inMode p .symbols)) in
+    checked true sheet (leb 1 low && leb high maxSize && leb low high) (unplaced 8) _ q (refl, refl) e₁ λ e₂.
+    checked true sheet (leb (instanceCount high (inMode p .symbols) (inMode p .clauses)) maxInstances) (unplaced 9) _ q (refl, refl) e₂ λ e₃.
+    checked true sheet (leb w work) (needing 10 w) _ q (refl, refl) e₃ λ e₄.
+    checked true sheet (leb n room) (needing 11 n) _ q (refl, refl) e₄ λ e₅. absurd (answer≢refused _ q e₅)
+
+-- in either mode
+write-placed-in : (named : Bool) (sheet : List ℕ) (size room : ℕ) (q : Refusal) → writtenTextIn named sheet size room ≡ refused q → Placed named sheet q
+write-placed-in false sheet size room q e = write-placed sheet size room q e
+write-placed-in true sheet size room q e = named-write-placed sheet size room q e
+
+read-back-placed-in : (named : Bool) (sheet : List ℕ) (size : ℕ) (setting : List ℕ) (room : ℕ) (q : Refusal) → readBackTextIn named sheet size setting room ≡ refused q → Placed named sheet q
+read-back-placed-in false sheet size setting room q e = read-back-placed sheet size setting room q e
+read-back-placed-in true sheet size setting room q e = named-read-back-placed sheet size setting room q e
+
+find-placed-in : (named : Bool) (sheet : List ℕ) (low high work room : ℕ) (q : Refusal) → findResultIn named sheet low high work room ≡ refused q → Placed named sheet q
+find-placed-in false sheet low high work room q e = find-placed sheet low high work room q e
+find-placed-in true sheet low high work room q e = named-find-placed sheet low high work room q e
+
+plain-placed : (sheet : List ℕ) (low high room : ℕ) (q : Refusal) → plainResult sheet low high room ≡ refused q → Placed false sheet q
 unfolding plainResult
 plain-placed sheet low high room q e =
     unrefused (placedProblem sheet) _ q e (λ h. inl (of-the-sheet sheet q h)) λ (p : Problem) _ e₁.
-    checked sheet (leb 1 low && leb high maxSize && leb low high) (unplaced 8) _ q (refl, refl) e₁ λ e₂.
-    checked sheet (leb (cellCount high (p .symbols)) maxPlainCells) (unplaced 20) _ q (refl, refl) e₂ λ e₃.
-    checked sheet (leb (caseLength high (p .symbols)) room) (needing 11 (caseLength high (p .symbols))) _ q (refl, refl) e₃ λ e₄. absurd (answer≢refused _ q e₄)
+    checked false sheet (leb 1 low && leb high maxSize && leb low high) (unplaced 8) _ q (refl, refl) e₁ λ e₂.
+    checked false sheet (leb (cellCount high (p .symbols)) maxPlainCells) (unplaced 20) _ q (refl, refl) e₂ λ e₃.
+    checked false sheet (leb (caseLength high (p .symbols)) room) (needing 11 (caseLength high (p .symbols))) _ q (refl, refl) e₃ λ e₄. absurd (answer≢refused _ q e₄)
 
-read-placed : (sheet : List ℕ) (q : Refusal) → readAnswer sheet ≡ refused q → OfTheSheet sheet q
+read-placed : (sheet : List ℕ) (q : Refusal) → readAnswer sheet ≡ refused q → OfTheSheet false sheet q
 unfolding readAnswer
 read-placed sheet q e = unrefused (placedProblem sheet) _ q e (of-the-sheet sheet q) λ (p : Problem) _ e₁. absurd (answer≢refused _ q e₁)
 
-judge-placed : (sheet case : List ℕ) (q : Refusal) → judgeAnswer sheet case ≡ refused q → OfTheSheet sheet q ⊎ OfTheCase sheet case q
+judge-placed : (sheet case : List ℕ) (q : Refusal) → judgeAnswer sheet case ≡ refused q → OfTheSheet false sheet q ⊎ OfTheCase sheet case q
 unfolding judgeAnswer
 judge-placed sheet case q e =
     unrefused (placedProblem sheet) _ q e (λ h. inl (of-the-sheet sheet q h)) λ (p : Problem) h₁ e₁.
     unrefused (placedCase (p .symbols) case) _ q e₁ (λ h. inr (of-the-case sheet case p q (problem-read sheet p h₁) h)) λ k _ e₂. absurd (answer≢refused _ q e₂)
 
-setting-placed : (sheet case : List ℕ) (room : ℕ) (q : Refusal) → settingText sheet case room ≡ refused q → OfTheSheet sheet q ⊎ (OfTheCase sheet case q ⊎ NoPlace q)
+setting-placed : (sheet case : List ℕ) (room : ℕ) (q : Refusal) → settingText sheet case room ≡ refused q → OfTheSheet false sheet q ⊎ (OfTheCase sheet case q ⊎ NoPlace q)
 unfolding settingText
 setting-placed sheet case room q e =
     unrefused (placedProblem sheet) _ q e (λ h. inl (of-the-sheet sheet q h)) λ (p : Problem) h₁ e₁.
@@ -154,19 +255,19 @@ unread : (o : Option Reply) (q : Refusal) → orRefuse o (unplaced 18) ≡ refus
 unread none q e = subst NoPlace (refused-inj {A = Reply} (unplaced 18) q e) (refl, refl)
 unread (some r) q e = absurd (answer≢refused r q e)
 
-outcome-placed : (sheet : List ℕ) (p : Problem) (size room : ℕ) (r : Reply) (q : Refusal) → outcomeOf p size room r ≡ refused q → Placed sheet q
+outcome-placed : (sheet : List ℕ) (p : Problem) (size room : ℕ) (r : Reply) (q : Refusal) → outcomeOf p size room r ≡ refused q → Placed false sheet q
 unfolding statedCase
 outcome-placed sheet p size room claimsNone q e = absurd (answer≢refused _ q e)
 outcome-placed sheet p size room (states σ) q e =
-    checked sheet (isFunctional size (p .symbols) σ) (unplaced 14) _ q (refl, refl) e λ e₁.
-    checked sheet (isModel size (p .symbols) (p .clauses) (readBack size (p .symbols) σ)) (unplaced 19) _ q (refl, refl) e₁ λ e₂.
-    checked sheet (leb (caseLength size (p .symbols)) room) (needing 11 (caseLength size (p .symbols))) _ q (refl, refl) e₂ λ e₃. absurd (answer≢refused _ q e₃)
+    checked false sheet (isFunctional size (p .symbols) σ) (unplaced 14) _ q (refl, refl) e λ e₁.
+    checked false sheet (isModel size (p .symbols) (p .clauses) (readBack size (p .symbols) σ)) (unplaced 19) _ q (refl, refl) e₁ λ e₂.
+    checked false sheet (leb (caseLength size (p .symbols)) room) (needing 11 (caseLength size (p .symbols))) _ q (refl, refl) e₂ λ e₃. absurd (answer≢refused _ q e₃)
 
-solver-placed : (sheet : List ℕ) (size : ℕ) (text : List ℕ) (room : ℕ) (q : Refusal) → solverText sheet size text room ≡ refused q → Placed sheet q
+solver-placed : (sheet : List ℕ) (size : ℕ) (text : List ℕ) (room : ℕ) (q : Refusal) → solverText sheet size text room ≡ refused q → Placed false sheet q
 unfolding solverText
 solver-placed sheet size text room q e =
     unrefused (placedProblem sheet) _ q e (λ h. inl (of-the-sheet sheet q h)) λ (p : Problem) _ e₁.
-    checked sheet (isSize size) (unplaced 8) _ q (refl, refl) e₁ λ e₂.
+    checked false sheet (isSize size) (unplaced 8) _ q (refl, refl) e₁ λ e₂.
     unrefused (orRefuse (readReply (propCount size (p .symbols)) text) (unplaced 18)) _ q e₂ (λ h. inr (unread (readReply (propCount size (p .symbols)) text) q h)) λ (r : Reply) _ e₃.
     outcome-placed sheet p size room r q e₃
 
@@ -188,10 +289,10 @@ columns-of-calls =
       read = λ sheet r c q e. read-placed sheet q (sym (c .answer) ∙ e);
       judge = λ sheet case r c q e. judge-placed sheet case q (sym (c .answer) ∙ e);
       explain = λ sheet case r c q e. judge-placed sheet case q (explaining sheet case .refuses q .0 (sym (c .answer) ∙ e));
-      write = λ sheet size r output output′ c q e. write-placed sheet size (length output) q (refused-text _ q (sym (c .answer) ∙ e));
-      readBack = λ sheet size setting r output output′ c q e. read-back-placed sheet size setting (length output) q (refused-text _ q (sym (c .answer) ∙ e));
+      write = λ sheet size named r output output′ c q e. write-placed-in named sheet size (length output) q (refused-text _ q (sym (c .answer) ∙ e));
+      readBack = λ sheet size named setting r output output′ c q e. read-back-placed-in named sheet size setting (length output) q (refused-text _ q (sym (c .answer) ∙ e));
       setting = λ sheet case r output output′ c q e. setting-placed sheet case (length output) q (refused-text _ q (sym (c .answer) ∙ e));
-      find = λ sheet low high r work work′ output output′ c q e. find-placed sheet low high (length work) (length output) q (search-refused _ q (sym (c .answer) ∙ e));
+      find = λ sheet low high named r work work′ output output′ c q e. find-placed-in named sheet low high (length work) (length output) q (search-refused _ q (sym (c .answer) ∙ e));
       findPlain = λ sheet low high r output output′ c q e. plain-placed sheet low high (length output) q (search-refused _ q (sym (c .answer) ∙ e));
       fromSolver = λ sheet size text r output output′ c q e. solver-placed sheet size text (length output) q (outcome-refused _ q (sym (c .answer) ∙ e));
     }

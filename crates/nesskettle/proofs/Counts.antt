@@ -4,14 +4,14 @@ use mathlib.Core.Path.{_≡_, refl, sym, ap, _∙_}
 use mathlib.Core.List.{List, [], _∷_}
 use native.Mathlib.Omega.{arith}
 use native.Mathlib.Nat.{add-suc, suc-add}
-use lib.ListN.{length, take, length-map}
-use lib.Seq.{length-take-le}
+use lib.ListN.{length}
 use Rattle.theory.specs.Syntax.{Kind, function, predicate, Signature, functions, predicates}
 use Rattle.theory.specs.Operations.{counts}
 use Rattle.syntax.specs.declared.limits.Problem.{Problem}
 use Rattle.syntax.specs.Signatures.{signatureIn}
 use Rattle.clauses.proofs.Held.{count-signatureIn}
 use Rattle.problem.specs.Problems.{problemIn, Accepted}
+use Rattle.problem.proofs.Counted.{clause-count}
 
 -- every symbol is a function or a predicate
 kinds-parted : (g : Signature) → length (functions g) + length (predicates g) ≡ length g
@@ -37,7 +37,7 @@ module _ (sheet : List ℕ) (p : Problem) (h : Accepted sheet p) where
   unfolding problemIn
   counted =
       let ps : p .signature .count - p .functions ≡ length (predicates g) = omega (arith, parted, h .functions) in
-      let cs : p .count ≡ length (problemIn sheet p .clauses) = sym (length-map (take (p .count) (p .clauses)) _ ∙ length-take-le (p .count) (p .clauses) (h .held)) in
+      let cs : p .count ≡ length (problemIn sheet p .clauses) = sym (clause-count sheet p h) in
       ap (λ (n : ℕ). record { functions = n; predicates = p .signature .count - p .functions; clauses = p .count }) (h .functions)
       ∙ ap (λ (n : ℕ). record { functions = length (functions g); predicates = n; clauses = p .count }) ps
       ∙ ap (λ (n : ℕ). record { functions = length (functions g); predicates = length (predicates g); clauses = n }) cs

@@ -1,6 +1,7 @@
 -- Demand 1 of the calls: the numbers of each operation's refusals, check by check, and what a refused call leaves.
 use Prim.Native.Nat.{ℕ, _+_, _≤_}
 use mathlib.Core.Path.{_≡_, refl, sym, ap, subst, _∙_}
+use mathlib.Core.Logic.{_⊎_, inl, inr}
 use mathlib.Core.Bool.{Bool, true, false, cond, _&&_}
 use mathlib.Core.Option.{Option, none, some}
 use mathlib.Core.List.{List, [], _∷_, _++_}
@@ -13,19 +14,23 @@ use Rattle.theory.specs.Cells.{cellCount, isModel}
 use Rattle.theory.specs.Propositional.{propCount}
 use Rattle.theory.specs.PropClauses.{instanceCount, workNeeded}
 use Rattle.theory.specs.Valuation.{isValuation, isFunctional, readBack}
-use Rattle.theory.specs.Refusals.{Refusal, Answer, answer, refused, atPlace, unplaced, needing, _>>=_, check, orRefuse}
+use Rattle.theory.specs.Refusals.{Refusal, Answer, answer, refused, atPlace, atLine, unplaced, needing, _>>=_, check, orRefuse}
 use Rattle.theory.specs.Problem.{Problem}
 use Rattle.theory.specs.Columns.{placedProblem, placedCase}
 use Rattle.theory.specs.SheetText.{sheetText}
 use Rattle.theory.specs.CaseText.{caseLength}
 use Rattle.theory.specs.Operations.{maxSize, maxInstances, isSize, readAnswer, judgeAnswer, explainAnswer, lengthAnswer, outputAfter, contentOf, writtenText, readBackText, settingText, Search, found, nothing, findResult, findAnswer, findWork, findOutput}
 use Rattle.theory.specs.PlainSearch.{maxPlainCells, plainResult}
-use Rattle.theory.proofs.Tests.{leb-true, and-left, and-right, or-left, or-right}
+use Rattle.theory.proofs.Tests.{leb-true, eqb-true, and-left, and-right, or-cases, or-left, or-right}
 use Rattle.theory.proofs.Lists.{elem-append, upFrom-elem}
 use Rattle.theory.proofs.Answers.{answer≢refused, refused-inj, unrefused}
 use Rattle.theory.proofs.PlacedReading.{plain-problem, plain-case}
 use Rattle.theory.proofs.SheetRefusals.{sheet-refusal}
 use Rattle.theory.proofs.CaseRefusals.{case-refusal}
+use Rattle.naming.specs.NamedProblem.{inMode, shownSymbols}
+use Rattle.naming.specs.NamedReading.{placedNamed}
+use Rattle.naming.specs.NamedOperations.{namedContentOf, namedWrittenText, namedReadBackText, namedFindResult, writtenTextIn, readBackTextIn, findResultIn}
+use Rattle.naming.proofs.NamedFaults.{named-refusal, named-told}
 use Rattle.tptp.specs.Symbols.{problemOf}
 use Rattle.tptp.specs.Places.{placeOf}
 use Rattle.tptp.specs.Tptp.{readFile, clausesOfFile, Fault, faults, sheetIn, tptpText}
@@ -38,7 +43,7 @@ use Rattle.answers.specs.declared.FindAnswer.{FindAnswer}
 use Rattle.answers.specs.Answers.{lengthIn, findIn}
 use Rattle.answers.specs.Calls.{WritingCall, SearchingCall, PlainSearchingCall}
 use Rattle.writing.specs.Texts.{clausesText}
-use Rattle.nesskettle.specs.Demand1.{readNumbers, judgeNumbers, writeNumbers, readBackNumbers, settingNumbers, findNumbers, plainNumbers, tptpNumbers, solverNumbers, NumberOf, ResultOr, Demand1}
+use Rattle.nesskettle.specs.Demand1.{readNumbers, judgeNumbers, writeNumbers, readBackNumbers, settingNumbers, findNumbers, plainNumbers, tptpNumbers, solverNumbers, numbersIn, NumberOf, ResultOr, Demand1}
 use Rattle.nesskettle.proofs.TptpNumbers.{isTptpNumber, text-numbers}
 
 -- the number of every refusal of the answer is one of these
@@ -74,6 +79,19 @@ sheet-within own sheet q e =
     let low : 1 ≤ q .number = leb-true 1 (q .number) (and-left (leb 1 (q .number)) (leb (q .number) 7) h) in
     let high : q .number ≤ 7 = leb-true (q .number) 7 (and-right (leb 1 (q .number)) (leb (q .number) 7) h) in
     elem-append (q .number) (upFrom 1 7) own ∙ or-left (elem (q .number) (upFrom 1 7)) (elem (q .number) own) (upFrom-elem (q .number) 1 7 low (omega arith))
+
+-- in the mode with 21
+named-within : (own : List ℕ) → elem 21 own ≡ true → (sheet : List ℕ) → Within (upFrom 1 7 ++ own) (placedNamed sheet)
+named-within own h sheet q e = go (or-cases (leb 1 (q .number) && leb (q .number) 7) (eqb (q .number) 21) (named-refusal sheet (atLine (q .number) (q .place .line)) (named-told sheet q e .0) .number))
+  where
+    go : ((leb 1 (q .number) && leb (q .number) 7) ≡ true) ⊎ (eqb (q .number) 21 ≡ true) → NumberOf (upFrom 1 7 ++ own) q
+    go (inl k) =
+        let low : 1 ≤ q .number = leb-true 1 (q .number) (and-left (leb 1 (q .number)) (leb (q .number) 7) k) in
+        let high : q .number ≤ 7 = leb-true (q .number) 7 (and-right (leb 1 (q .number)) (leb (q .number) 7) k) in
+        elem-append (q .number) (upFrom 1 7) own ∙ or-left (elem (q .number) (upFrom 1 7)) (elem (q .number) own) (upFrom-elem (q .number) 1 7 low (omega arith))
+    go (inr k) =
+        elem-append (q .number) (upFrom 1 7) own
+        ∙ or-right (elem (q .number) (upFrom 1 7)) (elem (q .number) own) (ap (λ (n : ℕ). elem n own) (eqb-true (q .number) 21 k) ∙ h)
 
 -- Read
 read-within : (sheet : List ℕ) → Within readNumbers (readAnswer sheet)
@@ -126,6 +144,30 @@ read-back-within sheet size setting room =
     (checks readBackNumbers (isFunctional size (p .symbols) setting) (unplaced 14) _ refl
     (checks readBackNumbers (leb (caseLength size (p .symbols)) room) (needing 11 (caseLength size (p .symbols))) _ refl (ends readBackNumbers _))))
 
+-- Write and Read back in the mode
+named-content-within : (sheet : List ℕ) (size : ℕ) → Within (numbersIn true writeNumbers) (namedContentOf sheet size)
+unfolding namedContentOf
+named-content-within sheet size =
+    then (numbersIn true writeNumbers) _ _ (named-within (8 ∷ 9 ∷ 11 ∷ 21 ∷ []) refl sheet) λ p.
+    checks (numbersIn true writeNumbers) (isSize size) (unplaced 8) _ refl
+    (checks (numbersIn true writeNumbers) (leb (instanceCount size (inMode p .symbols) (inMode p .clauses)) maxInstances) (unplaced 9) _ refl (ends (numbersIn true writeNumbers) _))
+
+named-write-within : (sheet : List ℕ) (size room : ℕ) → Within (numbersIn true writeNumbers) (namedWrittenText sheet size room)
+unfolding namedWrittenText
+named-write-within sheet size room =
+    then (numbersIn true writeNumbers) _ _ (named-content-within sheet size) λ p.
+    checks (numbersIn true writeNumbers) (leb (length (clausesText (inMode p) size)) room) (needing 11 (length (clausesText (inMode p) size))) _ refl (ends (numbersIn true writeNumbers) _)
+
+named-read-back-within : (sheet : List ℕ) (size : ℕ) (setting : List ℕ) (room : ℕ) → Within (numbersIn true readBackNumbers) (namedReadBackText sheet size setting room)
+unfolding namedReadBackText
+named-read-back-within sheet size setting room =
+    then (numbersIn true readBackNumbers) _ _ (named-within (8 ∷ 11 ∷ 13 ∷ 14 ∷ 21 ∷ []) refl sheet) λ p.
+    checks (numbersIn true readBackNumbers) (isSize size) (unplaced 8) _ refl
+    (checks (numbersIn true readBackNumbers) (isValuation size (inMode p .symbols) setting) (unplaced 13) _ refl
+    (checks (numbersIn true readBackNumbers) (isFunctional size (inMode p .symbols) setting) (unplaced 14) _ refl
+    (checks (numbersIn true readBackNumbers) (leb (caseLength size (shownSymbols (inMode p .symbols))) room) (needing 11 (caseLength size (shownSymbols (inMode p .symbols)))) _ refl
+    (ends (numbersIn true readBackNumbers) _))))
+
 -- Setting
 setting-within : (sheet case : List ℕ) (room : ℕ) → Within settingNumbers (settingText sheet case room)
 unfolding settingText
@@ -143,6 +185,30 @@ find-within sheet low high work room =
     (checks findNumbers (leb (instanceCount high (p .symbols) (p .clauses)) maxInstances) (unplaced 9) _ refl
     (checks findNumbers (leb (workNeeded high (p .symbols) (p .clauses)) work) (needing 10 (workNeeded high (p .symbols) (p .clauses))) _ refl
     (checks findNumbers (leb (caseLength high (p .symbols)) room) (needing 11 (caseLength high (p .symbols))) _ refl (ends findNumbers _))))
+
+-- Find in the mode
+named-find-within : (sheet : List ℕ) (low high work room : ℕ) → Within (numbersIn true findNumbers) (namedFindResult sheet low high work room)
+unfolding namedFindResult
+named-find-within sheet low high work room =
+    then (numbersIn true findNumbers) _ _ (named-within (8 ∷ 9 ∷ 10 ∷ 11 ∷ 21 ∷ []) refl sheet) λ p.
+    checks (numbersIn true findNumbers) (leb 1 low && leb high maxSize && leb low high) (unplaced 8) _ refl
+    (checks (numbersIn true findNumbers) (leb (instanceCount high (inMode p .symbols) (inMode p .clauses)) maxInstances) (unplaced 9) _ refl
+    (checks (numbersIn true findNumbers) (leb (workNeeded high (inMode p .symbols) (inMode p .clauses)) work) (needing 10 (workNeeded high (inMode p .symbols) (inMode p .clauses))) _ refl
+    (checks (numbersIn true findNumbers) (leb (caseLength high (shownSymbols (inMode p .symbols))) room) (needing 11 (caseLength high (shownSymbols (inMode p .symbols)))) _ refl
+    (ends (numbersIn true findNumbers) _))))
+
+-- in either mode
+write-within-in : (named : Bool) (sheet : List ℕ) (size room : ℕ) → Within (numbersIn named writeNumbers) (writtenTextIn named sheet size room)
+write-within-in false sheet size room = write-within sheet size room
+write-within-in true sheet size room = named-write-within sheet size room
+
+read-back-within-in : (named : Bool) (sheet : List ℕ) (size : ℕ) (setting : List ℕ) (room : ℕ) → Within (numbersIn named readBackNumbers) (readBackTextIn named sheet size setting room)
+read-back-within-in false sheet size setting room = read-back-within sheet size setting room
+read-back-within-in true sheet size setting room = named-read-back-within sheet size setting room
+
+find-within-in : (named : Bool) (sheet : List ℕ) (low high work room : ℕ) → Within (numbersIn named findNumbers) (findResultIn named sheet low high work room)
+find-within-in false sheet low high work room = find-within sheet low high work room
+find-within-in true sheet low high work room = named-find-within sheet low high work room
 
 -- Find plain
 plain-within : (sheet : List ℕ) (low high room : ℕ) → Within plainNumbers (plainResult sheet low high room)
@@ -242,13 +308,15 @@ demand1-of-calls =
       read = λ sheet r c. subst (ResultOr (NumberOf readNumbers)) (sym (c .answer)) (within-result-or readNumbers (readAnswer sheet) (read-within sheet));
       judge = λ sheet case r c. subst (ResultOr (NumberOf judgeNumbers)) (sym (c .answer)) (within-result-or judgeNumbers (judgeAnswer sheet case) (judge-within sheet case));
       explain = λ sheet case r c. subst (ResultOr (NumberOf judgeNumbers)) (sym (c .answer)) (within-result-or judgeNumbers (explainAnswer sheet case) (explain-within sheet case));
-      write = λ sheet size r output output′ c. writing-kept writeNumbers (writtenText sheet size (length output)) r output output′ c (write-within sheet size (length output));
-      readBack = λ sheet size setting r output output′ c.
-          writing-kept readBackNumbers (readBackText sheet size setting (length output)) r output output′ c (read-back-within sheet size setting (length output));
+      write = λ sheet size named r output output′ c.
+          writing-kept (numbersIn named writeNumbers) (writtenTextIn named sheet size (length output)) r output output′ c (write-within-in named sheet size (length output));
+      readBack = λ sheet size named setting r output output′ c.
+          writing-kept (numbersIn named readBackNumbers) (readBackTextIn named sheet size setting (length output)) r output output′ c (read-back-within-in named sheet size setting (length output));
       setting = λ sheet case r output output′ c.
           writing-kept settingNumbers (settingText sheet case (length output)) r output output′ c (setting-within sheet case (length output));
-      find = λ sheet low high r work work′ output output′ c.
-          searching-kept findNumbers (findResult sheet low high (length work) (length output)) r work work′ output output′ c (find-within sheet low high (length work) (length output));
+      find = λ sheet low high named r work work′ output output′ c.
+          searching-kept (numbersIn named findNumbers) (findResultIn named sheet low high (length work) (length output)) r work work′ output output′ c
+          (find-within-in named sheet low high (length work) (length output));
       findPlain = λ sheet low high r output output′ c. plain-kept plainNumbers (plainResult sheet low high (length output)) r output output′ c (plain-within sheet low high (length output));
       fromTptp = λ text r output output′ c. writing-kept tptpNumbers (tptpText text (length output)) r output output′ c (tptp-within text (length output));
       fromSolver = λ sheet size text r output output′ c. outcome-kept solverNumbers (solverText sheet size text (length output)) r output output′ c (solver-within sheet size text (length output));

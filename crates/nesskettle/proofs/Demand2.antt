@@ -15,6 +15,11 @@ use Rattle.theory.specs.Claims.FindsLeast as theory
 use Rattle.theory.proofs.Answers.{unbind, bind-step, answer-inj, answer≢refused}
 use Rattle.theory.proofs.PlacedReading.{placed-problem, problem-read, placed-case, case-read}
 use Rattle.theory.proofs.FindsLeast.{finds-least}
+use Rattle.naming.specs.NamedProblem.{inMode}
+use Rattle.naming.specs.NamedReading.{readNamed}
+use Rattle.naming.specs.NamedOperations.{namedWrittenText, namedFindResult, readProblemIn, writtenTextIn, findResultIn}
+use Rattle.naming.specs.Claims.FindsLeast.{NamedLeast}
+use Rattle.naming.proofs.FindsLeast.{named-finds-least}
 use Rattle.answers.specs.declared.Refusal as answers
 use Rattle.answers.specs.declared.JudgeAnswer.{JudgeAnswer}
 use Rattle.answers.specs.declared.JudgeAnswer.the-variants as judge
@@ -22,13 +27,13 @@ use Rattle.answers.specs.declared.WriteAnswer.{WriteAnswer}
 use Rattle.answers.specs.declared.FindAnswer.{FindAnswer}
 use Rattle.answers.specs.declared.FindAnswer.the-variants.{Found, Nothing, Refused}
 use Rattle.answers.specs.Answers.{refusalIn, judgeIn, findIn}
-use Rattle.answers.specs.Calls.{JudgeCall, WriteCall, FindCall}
+use Rattle.answers.specs.Calls.{JudgeCall, WriteCall, SearchingCall, FindCall}
 use Rattle.writing.specs.Texts.{clausesText}
 use Rattle.nesskettle.specs.Leaving.{Leaves}
 use Rattle.nesskettle.specs.Models.{IsTrue}
 use Rattle.nesskettle.specs.Demand2.{CaseOf, Judges, Writes, NoModel, LeastModel, Finds, Demand2}
 use Rattle.nesskettle.proofs.Leaving.{left-text}
-use Rattle.nesskettle.proofs.Models.{true-if-model, model-if-true, judged-is-model, model-is-judged}
+use Rattle.nesskettle.proofs.Models.{true-if-model, model-if-true, judged-is-model, model-is-judged, sheet-model-is, is-sheet-model}
 
 -- Judge's answers
 pub said-yes : (r : JudgeAnswer) → judgeIn r ≡ answer true → r ≡ judge.Yes
@@ -79,12 +84,26 @@ module _ (sheet text : List ℕ) where
       untrue c h false e = e
 
 -- Write's text
-writes : (sheet : List ℕ) (size : ℕ) (r : WriteAnswer) (output output′ : List ℕ) → WriteCall sheet size r output output′ → (text : List ℕ) → Leaves r output′ text → Writes sheet size text
+written-plain : (sheet : List ℕ) (size room : ℕ) (text : List ℕ) → writtenText sheet size room ≡ answer text → Writes sheet size false text
 unfolding writtenText
-writes sheet size r output output′ w text l =
-    unbind _ _ text (left-text (writtenText sheet size (length output)) r output output′ w text l) λ (p : Problem) h e₁.
+written-plain sheet size room text e =
+    unbind _ _ text e λ (p : Problem) h e₁.
     unbind _ _ text e₁ λ (u : Unit {0}) _ e₂.
     record { problem = p; content = h; clauses = sym (answer-inj (clausesText p size) text e₂) }
+
+written-named : (sheet : List ℕ) (size room : ℕ) (text : List ℕ) → namedWrittenText sheet size room ≡ answer text → Writes sheet size true text
+unfolding namedWrittenText
+written-named sheet size room text e =
+    unbind _ _ text e λ (p : Problem) h e₁.
+    unbind _ _ text e₁ λ (u : Unit {0}) _ e₂.
+    record { problem = p; content = h; clauses = sym (answer-inj (clausesText (inMode p) size) text e₂) }
+
+written-as : (named : Bool) (sheet : List ℕ) (size room : ℕ) (text : List ℕ) → writtenTextIn named sheet size room ≡ answer text → Writes sheet size named text
+written-as false sheet size room text e = written-plain sheet size room text e
+written-as true sheet size room text e = written-named sheet size room text e
+
+writes : (sheet : List ℕ) (size : ℕ) (named : Bool) (r : WriteAnswer) (output output′ : List ℕ) → WriteCall sheet size named r output output′ → (text : List ℕ) → Leaves r output′ text → Writes sheet size named text
+writes sheet size named r output output′ w text l = written-as named sheet size (length output) text (left-text (writtenTextIn named sheet size (length output)) r output output′ w text l)
 
 -- Find's answers
 found-case : (a : Answer Search) (size n : ℕ) → findAnswer a ≡ answer (foundCase size n) → (c : List ℕ) × (a ≡ answer (found size c)) × (length c ≡ n)
@@ -100,13 +119,12 @@ no-case (answer (found s c)) b e = let z : _≡_ {A = ℕ} 0 1 = cc in absurd (o
 no-case (answer (nothing d)) b e = let h : d ≡ b = cc in ap (λ (b : Bool). answer (nothing b)) h
 no-case (refused q) b e = absurd (answer≢refused (noCase b) q (sym e))
 
-module _ (sheet : List ℕ) (p : Problem) (low high : ℕ) (read : readProblem sheet ≡ answer p) (r : FindAnswer) (work work′ output output′ : List ℕ) (f : FindCall sheet low high r work work′ output output′) where
-  abbrev result : Answer Search
-  result = findResult sheet low high (length work) (length output)
+-- what is found, in either mode: the least model, or none where there is none
+record Searched (p : Problem) (low high : ℕ) (result : Answer Search) : Type 0 where
+  least : (size : ℕ) (c : List ℕ) → result ≡ answer (found size c) → LeastModel p low high size c
+  none : (b : Bool) → result ≡ answer (nothing b) → NoModel p low high
 
-  d : theory.FindsLeast sheet p low high result
-  d = finds-least sheet p low high (length work) (length output) read
-
+module _ (sheet : List ℕ) (p : Problem) (low high : ℕ) (read : readProblem sheet ≡ answer p) where
   least-text : (size : ℕ) (c : List ℕ) → theory.LeastText sheet p low high size c → LeastModel p low high size c
   unfolding judged-is-model
   least-text size c h =
@@ -120,21 +138,66 @@ module _ (sheet : List ℕ) (p : Problem) (low high : ℕ) (read : readProblem s
             rw same at (b .after);
       }
 
+  plain-searched : (work room : ℕ) → Searched p low high (findResult sheet low high work room)
+  plain-searched work room =
+      let d = finds-least sheet p low high work room read in
+      record {
+        least = λ size c e. least-text size c (d .finds size c e);
+        none = λ b e t c le₁ le₂ m. d .findsNone b e t c le₁ le₂ (model-is-judged sheet p read t c m);
+      }
+
+module _ (sheet : List ℕ) (p : Problem) (low high : ℕ) (read : readNamed sheet ≡ answer p) where
+  named-text : (size : ℕ) (c : List ℕ) → NamedLeast p low high size c → LeastModel p low high size c
+  unfolding sheet-model-is
+  named-text size c h =
+      record {
+        model = sheet-model-is p size c (h .model);
+        searched = h .searched;
+        least =
+            λ t e le₁ le₂ m.
+            let b = h .least t e le₁ le₂ (is-sheet-model p t e m) in
+            let same : b .case ≡ m .case = answer-inj (b .case) (m .case) (sym (b .read) ∙ m .read) in
+            rw same at (b .after);
+      }
+
+  named-searched : (work room : ℕ) → Searched p low high (namedFindResult sheet low high work room)
+  named-searched work room =
+      let d = named-finds-least sheet p low high work room read in
+      record {
+        least = λ size c e. named-text size c (d .finds size c e);
+        none = λ b e t c le₁ le₂ m. d .findsNone b e t c le₁ le₂ (is-sheet-model p t c m);
+      }
+
+searched-in : (named : Bool) (sheet : List ℕ) (p : Problem) (low high work room : ℕ) → readProblemIn named sheet ≡ answer p → Searched p low high (findResultIn named sheet low high work room)
+searched-in false sheet p low high work room read = plain-searched sheet p low high read work room
+searched-in true sheet p low high work room read = named-searched sheet p low high read work room
+
+-- a call's case stands in its output
+pub case-stands : (result : Answer Search) (r : FindAnswer) (work work′ output output′ : List ℕ) → SearchingCall result r work work′ output output′ → (size n : ℕ) → r ≡ Found size n
+    → (c : List ℕ) × (result ≡ answer (found size c)) × (take n output′ ≡ c)
+case-stands result r work work′ output output′ f size n e =
+    let c = found-case result size n (sym (f .answer) ∙ ap findIn e) in (
+      c .0,
+      c .1,
+      ap (take n) (f .left ∙ ap (λ (a : Answer Search). findOutput a output) (c .1)) ∙ ap (λ (n : ℕ). take n (over (c .0) output)) (sym (c .2)) ∙ take-append-seam (c .0) (drop (length (c .0)) output),
+    )
+
+module _ (sheet : List ℕ) (p : Problem) (low high : ℕ) (named : Bool) (read : readProblemIn named sheet ≡ answer p) (r : FindAnswer) (work work′ output output′ : List ℕ)
+    (f : FindCall sheet low high named r work work′ output output′) where
+  abbrev result : Answer Search
+  result = findResultIn named sheet low high (length work) (length output)
+
+  d : Searched p low high result
+  d = searched-in named sheet p low high (length work) (length output) read
+
   find-found : (size n : ℕ) → r ≡ Found size n → LeastModel p low high size (take n output′)
-  find-found size n e =
-      let c = found-case result size n (sym (f .answer) ∙ ap findIn e) in
-      let stands : take n output′ ≡ c .0 =
-      ap (take n) (f .left ∙ ap (λ (a : Answer Search). findOutput a output) (c .1))
-      ∙ ap (λ (n : ℕ). take n (over (c .0) output)) (sym (c .2))
-      ∙ take-append-seam (c .0) (drop (length (c .0)) output)
-      in
-      rw (sym stands) at (least-text size (c .0) (d .finds size (c .0) (c .1)))
+  find-found size n e = let c = case-stands result r work work′ output output′ f size n e in rw (sym (c .2)) at (d .least size (c .0) (c .1))
 
   finds : Finds p low high r output′
   finds =
       record {
         found = find-found;
-        saysNone = λ b e t c le₁ le₂ m. d .findsNone b (no-case result b (sym (f .answer) ∙ ap findIn e)) t c le₁ le₂ (model-is-judged sheet p read t c m);
+        saysNone = λ b e. d .none b (no-case result b (sym (f .answer) ∙ ap findIn e));
         noneIf = go r refl;
       }
     where

@@ -1,7 +1,7 @@
 -- From solver, of the calls, from what is proved of the texts.
 use Prim.Native.Nat.{ℕ, _≤_}
 use mathlib.Core.Path.{_≡_, refl, sym, ap, _∙_}
-use mathlib.Core.Bool.{true}
+use mathlib.Core.Bool.{true, false}
 use mathlib.Core.List.{List}
 use native.Mathlib.Nat.{le-refl}
 use native.Mathlib.Omega.{arith}
@@ -100,23 +100,23 @@ module _ (sheet : List ℕ) (p : Problem) (size : ℕ) (placed : placedProblem s
   of text = solver-answers sheet p size text placed sized
 
   -- what is read back in some output is read back in every one that is large enough
-  always : (room : ℕ) (σ c : List ℕ) → readBackText sheet size σ room ≡ answer c → AlwaysReadBackAs sheet p size σ c
+  always : (room : ℕ) (σ c : List ℕ) → readBackText sheet size σ room ≡ answer c → AlwaysReadBackAs sheet p size false σ c
   always room σ c e r output output′ b fits =
       leaves (readBackText sheet size σ (length output)) r output output′ b c (read-back-in sheet size room σ c p read e (length output) fits)
 
-  model : (text c : List ℕ) → CaseLeft sheet size text c → Model p size c × ((σ : List ℕ) × States σ text × AlwaysReadBackAs sheet p size σ c)
+  model : (text c : List ℕ) → CaseLeft sheet size text c → Model p size c × ((σ : List ℕ) × States σ text × AlwaysReadBackAs sheet p size false σ c)
   model text c l =
       let room : ℕ = length (l .output) in
       let m = of text .model room c (left-case (solverText sheet size text room) (l .answer) (l .output) (l .output′) (l .call) c (l .leaves)) in
       (judged-is-model sheet p read size c (m .0), (m .1 .0, m .1 .1, always room (m .1 .0) c (m .1 .2)))
 
-  setting : (c : List ℕ) → Model p size c → (σ : List ℕ) × AlwaysReadBackAs sheet p size σ c
+  setting : (c : List ℕ) → Model p size c → (σ : List ℕ) × AlwaysReadBackAs sheet p size false σ c
   setting c m =
       let room : ℕ = caseLength size (p .symbols) in
       let s = of c .setting room c (model-is-judged sheet p read size c m) (le-refl room) in
       (s .0, always room (s .0) c (s .1))
 
-  taken : (text c σ : List ℕ) → Model p size c → ReadBackAs sheet size σ c → States σ text
+  taken : (text c σ : List ℕ) → Model p size c → ReadBackAs sheet size false σ c → States σ text
       → (r : SolverAnswer) (output output′ : List ℕ) → FromSolverCall sheet size text r output output′ → caseLength size (p .symbols) ≤ length output → LeavesCase r output′ c
   taken text c σ m b s r output output′ w fits =
       let room : ℕ = length output in

@@ -1,6 +1,6 @@
 -- The texts that are judged models are the texts of models.
 use Prim.Native.Nat.{ℕ, zero, _<_}
-use mathlib.Core.Path.{_≡_, ap, _∙_}
+use mathlib.Core.Path.{_≡_, sym, ap, _∙_}
 use mathlib.Core.Bool.{true}
 use mathlib.Core.List.{List}
 use Rattle.theory.specs.Cells.{isModel}
@@ -14,6 +14,7 @@ use Rattle.theory.proofs.Answers.{bind-step}
 use Rattle.theory.proofs.CaseText.{read-exactly}
 use Rattle.theory.proofs.ModelTexts.{is-model-text}
 use Rattle.theory.proofs.Truth.{truth}
+use Rattle.naming.specs.Claims.ReadingBack.{SheetModel}
 use Rattle.nesskettle.specs.Models.{IsTrue, Model}
 
 -- what is computed to be a model is one, and the other way
@@ -49,3 +50,22 @@ module _ (sheet : List ℕ) (p : Problem) (read : readProblem sheet ≡ answer p
         model = bind-step _ _ p (answer true) (placed-problem sheet p read)
             (bind-step _ _ (m .case) (answer true) (placed-case (p .symbols) text (m .case) (m .read)) (ap answer (model-if-true p text (m .case) (m .read) (m .truth))));
       }
+
+-- a model of the sheet as handed in is the text of one, and the other way
+unfoldable pub sheet-model-is : (p : Problem) (size : ℕ) (text : List ℕ) → SheetModel p size text → Model p size text
+sheet-model-is p size text m =
+    record {
+      case = m .case;
+      read = m .read;
+      sized = m .sized;
+      truth = true-if-model p text (m .case) (m .read) (ap (λ (s : ℕ). isModel s (p .symbols) (p .clauses) (m .case .values)) (m .sized) ∙ m .model);
+    }
+
+pub is-sheet-model : (p : Problem) (size : ℕ) (text : List ℕ) → Model p size text → SheetModel p size text
+is-sheet-model p size text m =
+    record {
+      case = m .case;
+      read = m .read;
+      sized = m .sized;
+      model = ap (λ (s : ℕ). isModel s (p .symbols) (p .clauses) (m .case .values)) (sym (m .sized)) ∙ model-if-true p text (m .case) (m .read) (m .truth);
+    }

@@ -2,7 +2,7 @@
 use Prim.Native.Nat.{ℕ, _≤_}
 use mathlib.Core.Path.{_≡_, sym, ap, subst, _∙_}
 use mathlib.Core.Logic.{_⊎_, _↔_, inl, inr, ⊎-elim}
-use mathlib.Core.Bool.{true}
+use mathlib.Core.Bool.{true, false}
 use mathlib.Core.List.{List}
 use lib.ListN.{length}
 use Rattle.theory.specs.Propositional.{propCount}
@@ -61,10 +61,10 @@ module _ (sheet : List ℕ) (p : Problem) (read : readProblem sheet ≡ answer p
   always-set : (size : ℕ) (case σ : List ℕ) → LeavesSetting sheet p size case σ → AlwaysSettingAs sheet p size case σ
   always-set size case σ l r output output′ c fits = leaves (settingText sheet case (length output)) r output output′ c σ (l (length output) fits)
 
-  always-back : (size : ℕ) (σ case : List ℕ) → LeavesCase sheet p size σ case → AlwaysReadBackAs sheet p size σ case
+  always-back : (size : ℕ) (σ case : List ℕ) → LeavesCase sheet p size σ case → AlwaysReadBackAs sheet p size false σ case
   always-back size σ case l r output output′ c fits = leaves (readBackText sheet size σ (length output)) r output output′ c case (l (length output) fits)
 
-  setting-again : (size : ℕ) (σ : List ℕ) → isSize size ≡ true → (r : WriteAnswer) (output output′ : List ℕ) → ReadBackCall sheet size σ r output output′
+  setting-again : (size : ℕ) (σ : List ℕ) → isSize size ≡ true → (r : WriteAnswer) (output output′ : List ℕ) → ReadBackCall sheet size false σ r output output′
       → caseLength size (p .symbols) ≤ length output → SettingRefused r ⊎ ((case : List ℕ) × Leaves r output′ case × AlwaysSettingAs sheet p size case σ)
   setting-again size σ sized r output output′ c fits =
       let n : ℕ = length output in
@@ -72,7 +72,7 @@ module _ (sheet : List ℕ) (p : Problem) (read : readProblem sheet ≡ answer p
       (λ s. inr (s .0, always-back size σ (s .0) (s .1) r output output′ c fits, always-set size (s .0) σ (s .2)))
       (theorem .settingAgain size σ sized)
 
-  satisfies : (size : ℕ) → contentOf sheet size ≡ answer p → (w : WriteAnswer) (output output′ text : List ℕ) → WriteCall sheet size w output output′ → Leaves w output′ text
+  satisfies : (size : ℕ) → contentOf sheet size ≡ answer p → (w : WriteAnswer) (output output′ text : List ℕ) → WriteCall sheet size false w output output′ → Leaves w output′ text
       → (case σ : List ℕ) (k : Case) → readCase (p .symbols) case ≡ answer k → k .size ≡ size → SettingAs sheet case σ → Satisfying p size text σ ↔ Model p size case
   satisfies size content w output output′ text c l case σ k r sized a =
       let n : ℕ = length output in

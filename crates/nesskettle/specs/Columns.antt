@@ -2,6 +2,7 @@
 use Prim.Native.Nat.{ℕ, suc, _≤_}
 use mathlib.Core.Path.{_≡_}
 use mathlib.Core.Logic.{_⊎_}
+use mathlib.Core.Bool.{Bool, true, false}
 use mathlib.Core.List.{List}
 use lib.ListN.{length}
 use Rattle.theory.specs.Refusals.{Refusal, answer, refused}
@@ -18,20 +19,25 @@ use Rattle.answers.specs.Calls.{ReadCall, JudgeCall, ExplainCall, WriteCall, Re
 use Rattle.accepting.specs.declared.SolverAnswer.{SolverAnswer}
 use Rattle.accepting.specs.Calls.{solverIn, FromSolverCall}
 
+-- the column of a 7 on line l; in the mode of named terms always 1
+abbrev pub SevenAt : Bool → List ℕ → ℕ → ℕ → Type 0
+SevenAt false sheet l column = OverLimit (sheetSymbols sheet) (dueInSheet sheet l) (firstLine (fromLine l sheet)) column
+SevenAt true sheet l column = column ≡ 1
+
 -- of the column that a sheet's refusal on line l names, the first being line 0
-pub record InSheet (sheet : List ℕ) (l number column : ℕ) : Type 0 where
+pub record InSheet (named : Bool) (sheet : List ℕ) (l number column : ℕ) : Type 0 where
   pub two : number ≡ 2 → ByteBeyondHelp twoOn sheet l column
   pub three : number ≡ 3 → OverNumber (dueInSheet sheet l) (firstLine (fromLine l sheet)) column
   pub four : number ≡ 4 → BadName sheet l column
   pub five : number ≡ 5 → FirstUnknown (sheetSymbols sheet) (dueInSheet sheet l) (firstLine (fromLine l sheet)) column
   pub six : number ≡ 6 → WordBeyondHelp (sheetSymbols sheet) (dueInSheet sheet l) (firstLine (fromLine l sheet)) column
-  pub seven : number ≡ 7 → OverLimit (sheetSymbols sheet) (dueInSheet sheet l) (firstLine (fromLine l sheet)) column
+  pub seven : number ≡ 7 → SevenAt named sheet l column
   -- a byte of the line, or one past its end
   pub within : (1 ≤ column) × (column ≤ suc (length (firstLine (fromLine l sheet))))
 
 -- a refusal of the sheet: with a line it names a column there, without one it names none
-pub record OfTheSheet (sheet : List ℕ) (q : Refusal) : Type 0 where
-  pub lined : (l : ℕ) → q .place .line ≡ suc l → InSheet sheet l (q .number) (q .place .column)
+pub record OfTheSheet (named : Bool) (sheet : List ℕ) (q : Refusal) : Type 0 where
+  pub lined : (l : ℕ) → q .place .line ≡ suc l → InSheet named sheet l (q .number) (q .place .column)
   pub unlined : q .place .line ≡ 0 → q .place .column ≡ 0
 
 -- a refusal of the case: 12, on a line of it
@@ -47,18 +53,18 @@ NoPlace q = (q .place .line ≡ 0) × (q .place .column ≡ 0)
 
 -- it holds of every call
 pub record Columns : Type 0 where
-  pub read : (sheet : List ℕ) (r : ReadAnswer) → ReadCall sheet r → (q : Refusal) → readIn r ≡ refused q → OfTheSheet sheet q
-  pub judge : (sheet case : List ℕ) (r : JudgeAnswer) → JudgeCall sheet case r → (q : Refusal) → judgeIn r ≡ refused q → OfTheSheet sheet q ⊎ OfTheCase sheet case q
-  pub explain : (sheet case : List ℕ) (r : ExplainAnswer) → ExplainCall sheet case r → (q : Refusal) → explainIn r ≡ refused q → OfTheSheet sheet q ⊎ OfTheCase sheet case q
-  pub write : (sheet : List ℕ) (size : ℕ) (r : WriteAnswer) (output output′ : List ℕ) → WriteCall sheet size r output output′
-      → (q : Refusal) → lengthIn r ≡ refused q → OfTheSheet sheet q ⊎ NoPlace q
-  pub readBack : (sheet : List ℕ) (size : ℕ) (setting : List ℕ) (r : WriteAnswer) (output output′ : List ℕ) → ReadBackCall sheet size setting r output output′
-      → (q : Refusal) → lengthIn r ≡ refused q → OfTheSheet sheet q ⊎ NoPlace q
+  pub read : (sheet : List ℕ) (r : ReadAnswer) → ReadCall sheet r → (q : Refusal) → readIn r ≡ refused q → OfTheSheet false sheet q
+  pub judge : (sheet case : List ℕ) (r : JudgeAnswer) → JudgeCall sheet case r → (q : Refusal) → judgeIn r ≡ refused q → OfTheSheet false sheet q ⊎ OfTheCase sheet case q
+  pub explain : (sheet case : List ℕ) (r : ExplainAnswer) → ExplainCall sheet case r → (q : Refusal) → explainIn r ≡ refused q → OfTheSheet false sheet q ⊎ OfTheCase sheet case q
+  pub write : (sheet : List ℕ) (size : ℕ) (named : Bool) (r : WriteAnswer) (output output′ : List ℕ) → WriteCall sheet size named r output output′
+      → (q : Refusal) → lengthIn r ≡ refused q → OfTheSheet named sheet q ⊎ NoPlace q
+  pub readBack : (sheet : List ℕ) (size : ℕ) (named : Bool) (setting : List ℕ) (r : WriteAnswer) (output output′ : List ℕ) → ReadBackCall sheet size named setting r output output′
+      → (q : Refusal) → lengthIn r ≡ refused q → OfTheSheet named sheet q ⊎ NoPlace q
   pub setting : (sheet case : List ℕ) (r : WriteAnswer) (output output′ : List ℕ) → SettingCall sheet case r output output′
-      → (q : Refusal) → lengthIn r ≡ refused q → OfTheSheet sheet q ⊎ (OfTheCase sheet case q ⊎ NoPlace q)
-  pub find : (sheet : List ℕ) (low high : ℕ) (r : FindAnswer) (work work′ output output′ : List ℕ) → FindCall sheet low high r work work′ output output′
-      → (q : Refusal) → findIn r ≡ refused q → OfTheSheet sheet q ⊎ NoPlace q
+      → (q : Refusal) → lengthIn r ≡ refused q → OfTheSheet false sheet q ⊎ (OfTheCase sheet case q ⊎ NoPlace q)
+  pub find : (sheet : List ℕ) (low high : ℕ) (named : Bool) (r : FindAnswer) (work work′ output output′ : List ℕ) → FindCall sheet low high named r work work′ output output′
+      → (q : Refusal) → findIn r ≡ refused q → OfTheSheet named sheet q ⊎ NoPlace q
   pub findPlain : (sheet : List ℕ) (low high : ℕ) (r : FindAnswer) (output output′ : List ℕ) → PlainCall sheet low high r output output′
-      → (q : Refusal) → findIn r ≡ refused q → OfTheSheet sheet q ⊎ NoPlace q
+      → (q : Refusal) → findIn r ≡ refused q → OfTheSheet false sheet q ⊎ NoPlace q
   pub fromSolver : (sheet : List ℕ) (size : ℕ) (text : List ℕ) (r : SolverAnswer) (output output′ : List ℕ) → FromSolverCall sheet size text r output output′
-      → (q : Refusal) → solverIn r ≡ refused q → OfTheSheet sheet q ⊎ NoPlace q
+      → (q : Refusal) → solverIn r ≡ refused q → OfTheSheet false sheet q ⊎ NoPlace q

@@ -2,7 +2,7 @@
 -- That the calls ask nothing is their contracts in `src/lib.rt`, which have no `requires`; that they end is part of their being proved.
 use Prim.Native.Nat.{ℕ}
 use mathlib.Core.Path.{_≡_}
-use mathlib.Core.Bool.{true}
+use mathlib.Core.Bool.{Bool, true, false}
 use mathlib.Core.List.{List, [], _∷_, _++_}
 use Rattle.theory.specs.Lists.{upFrom, elem}
 use Rattle.theory.specs.Refusals.{Refusal, Answer, answer, refused}
@@ -53,6 +53,11 @@ tptpNumbers = 11 ∷ upFrom 15 3
 abbrev pub solverNumbers : List ℕ
 solverNumbers = upFrom 1 8 ++ (11 ∷ 14 ∷ 18 ∷ 19 ∷ [])
 
+-- the numbers of Write, Read back and Find: 21 too in the mode of named terms
+abbrev pub numbersIn : Bool → List ℕ → List ℕ
+numbersIn false numbers = numbers
+numbersIn true numbers = numbers ++ (21 ∷ [])
+
 -- the refusal's number is one of these
 abbrev pub NumberOf : List ℕ → Refusal → Type 0
 NumberOf numbers q = elem (q .number) numbers ≡ true
@@ -67,14 +72,14 @@ pub record Demand1 : Type 0 where
   pub read : (sheet : List ℕ) (r : ReadAnswer) → ReadCall sheet r → ResultOr (NumberOf readNumbers) (readIn r)
   pub judge : (sheet case : List ℕ) (r : JudgeAnswer) → JudgeCall sheet case r → ResultOr (NumberOf judgeNumbers) (judgeIn r)
   pub explain : (sheet case : List ℕ) (r : ExplainAnswer) → ExplainCall sheet case r → ResultOr (NumberOf judgeNumbers) (explainIn r)
-  pub write : (sheet : List ℕ) (size : ℕ) (r : WriteAnswer) (output output′ : List ℕ) → WriteCall sheet size r output output′
-      → ResultOr (λ q. NumberOf writeNumbers q × (output′ ≡ output)) (lengthIn r)
-  pub readBack : (sheet : List ℕ) (size : ℕ) (setting : List ℕ) (r : WriteAnswer) (output output′ : List ℕ) → ReadBackCall sheet size setting r output output′
-      → ResultOr (λ q. NumberOf readBackNumbers q × (output′ ≡ output)) (lengthIn r)
+  pub write : (sheet : List ℕ) (size : ℕ) (named : Bool) (r : WriteAnswer) (output output′ : List ℕ) → WriteCall sheet size named r output output′
+      → ResultOr (λ q. NumberOf (numbersIn named writeNumbers) q × (output′ ≡ output)) (lengthIn r)
+  pub readBack : (sheet : List ℕ) (size : ℕ) (named : Bool) (setting : List ℕ) (r : WriteAnswer) (output output′ : List ℕ) → ReadBackCall sheet size named setting r output output′
+      → ResultOr (λ q. NumberOf (numbersIn named readBackNumbers) q × (output′ ≡ output)) (lengthIn r)
   pub setting : (sheet case : List ℕ) (r : WriteAnswer) (output output′ : List ℕ) → SettingCall sheet case r output output′
       → ResultOr (λ q. NumberOf settingNumbers q × (output′ ≡ output)) (lengthIn r)
-  pub find : (sheet : List ℕ) (low high : ℕ) (r : FindAnswer) (work work′ output output′ : List ℕ) → FindCall sheet low high r work work′ output output′
-      → ResultOr (λ q. NumberOf findNumbers q × (work′ ≡ work) × (output′ ≡ output)) (findIn r)
+  pub find : (sheet : List ℕ) (low high : ℕ) (named : Bool) (r : FindAnswer) (work work′ output output′ : List ℕ) → FindCall sheet low high named r work work′ output output′
+      → ResultOr (λ q. NumberOf (numbersIn named findNumbers) q × (work′ ≡ work) × (output′ ≡ output)) (findIn r)
   pub findPlain : (sheet : List ℕ) (low high : ℕ) (r : FindAnswer) (output output′ : List ℕ) → PlainCall sheet low high r output output′
       → ResultOr (λ q. NumberOf plainNumbers q × (output′ ≡ output)) (findIn r)
   pub fromTptp : (text : List ℕ) (r : WriteAnswer) (output output′ : List ℕ) → TptpCall text r output output′

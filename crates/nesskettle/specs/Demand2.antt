@@ -1,4 +1,4 @@
--- Demand 2 of the calls: truth in a finite interpretation decides what Judge, Write and Find answer.
+-- Demand 2 of the calls: truth in a finite interpretation decides what Judge, Write and Find answer; of Write and Find in the mode of named terms too, `named` being the switch.
 use Prim.Native.Nat.{ℕ, _≤_, _<_}
 use mathlib.Core.Path.{_≡_}
 use mathlib.Core.Logic.{_⊎_, _↔_}
@@ -8,8 +8,8 @@ use lib.ListN.{take}
 use Rattle.theory.specs.Refusals.{answer}
 use Rattle.theory.specs.Problem.{Problem, readProblem}
 use Rattle.theory.specs.CaseText.{Case, readCase}
-use Rattle.theory.specs.Operations.{contentOf}
 use Rattle.theory.specs.Claims.Least.{NotAfter}
+use Rattle.naming.specs.NamedOperations.{readProblemIn, modeProblem, contentOfIn}
 use Rattle.answers.specs.declared.Refusal.{Refusal}
 use Rattle.answers.specs.declared.JudgeAnswer.{JudgeAnswer}
 use Rattle.answers.specs.declared.JudgeAnswer.the-variants.{Yes, No}
@@ -33,11 +33,11 @@ pub record Judges (sheet text : List ℕ) (r : JudgeAnswer) : Type 0 where
   pub yes : (r ≡ Yes) ↔ ((c : CaseOf sheet text) × IsTrue (c .problem) (c .case))
   pub no : (r ≡ No) ↔ ((c : CaseOf sheet text) × (IsTrue (c .problem) (c .case) → ⊥))
 
--- of the text that a call of Write leaves: the clauses are those of document 01's steps, and no others
-pub record Writes (sheet : List ℕ) (size : ℕ) (text : List ℕ) : Type 0 where
+-- of the text that a call of Write leaves: the clauses are those of document 01's steps, taken on the clauses that the mode has, and no others
+pub record Writes (sheet : List ℕ) (size : ℕ) (named : Bool) (text : List ℕ) : Type 0 where
   pub problem : Problem
-  pub content : contentOf sheet size ≡ answer problem
-  pub clauses : text ≡ clausesText problem size
+  pub content : contentOfIn named sheet size ≡ answer problem
+  pub clauses : text ≡ clausesText (modeProblem named problem) size
 
 -- no case of a searched size is a model
 abbrev pub NoModel : Problem → ℕ → ℕ → Type 0
@@ -58,7 +58,7 @@ pub record Finds (p : Problem) (low high : ℕ) (r : FindAnswer) (output : List 
 -- it holds of every call
 pub record Demand2 : Type 0 where
   pub judge : (sheet text : List ℕ) (r : JudgeAnswer) → JudgeCall sheet text r → Judges sheet text r
-  pub write : (sheet : List ℕ) (size : ℕ) (r : WriteAnswer) (output output′ : List ℕ) → WriteCall sheet size r output output′
-      → (text : List ℕ) → Leaves r output′ text → Writes sheet size text
-  pub find : (sheet : List ℕ) (p : Problem) (low high : ℕ) → readProblem sheet ≡ answer p
-      → (r : FindAnswer) (work work′ output output′ : List ℕ) → FindCall sheet low high r work work′ output output′ → Finds p low high r output′
+  pub write : (sheet : List ℕ) (size : ℕ) (named : Bool) (r : WriteAnswer) (output output′ : List ℕ) → WriteCall sheet size named r output output′
+      → (text : List ℕ) → Leaves r output′ text → Writes sheet size named text
+  pub find : (sheet : List ℕ) (p : Problem) (low high : ℕ) (named : Bool) → readProblemIn named sheet ≡ answer p
+      → (r : FindAnswer) (work work′ output output′ : List ℕ) → FindCall sheet low high named r work work′ output output′ → Finds p low high r output′

@@ -2,7 +2,7 @@
 use Prim.Native.Nat.{ℕ, _≤_}
 use mathlib.Core.Path.{_≡_}
 use mathlib.Core.Logic.{_↔_}
-use mathlib.Core.Bool.{true}
+use mathlib.Core.Bool.{true, false}
 use mathlib.Core.List.{List}
 use lib.ListN.{length, take}
 use Rattle.theory.specs.Refusals.{answer}
@@ -33,11 +33,11 @@ pub record CaseLeft (sheet : List ℕ) (size : ℕ) (text case : List ℕ) : Typ
 -- of a sheet and a size that are not refused; `States σ text` says that the text is laid out as asked for and states the setting σ
 pub record FromSolver (sheet : List ℕ) (p : Problem) (size : ℕ) : Type 0 where
   -- a case that comes out is a model of the sheet, and the text states a setting that is read back as it
-  pub model : (text case : List ℕ) → CaseLeft sheet size text case → Model p size case × ((σ : List ℕ) × States σ text × AlwaysReadBackAs sheet p size σ case)
+  pub model : (text case : List ℕ) → CaseLeft sheet size text case → Model p size case × ((σ : List ℕ) × States σ text × AlwaysReadBackAs sheet p size false σ case)
   -- each model has a setting,
-  pub setting : (case : List ℕ) → Model p size case → (σ : List ℕ) × AlwaysReadBackAs sheet p size σ case
+  pub setting : (case : List ℕ) → Model p size case → (σ : List ℕ) × AlwaysReadBackAs sheet p size false σ case
   -- and every text that states a setting of it gives that model, if the output is large enough
-  pub taken : (text case σ : List ℕ) → Model p size case → ReadBackAs sheet size σ case → States σ text
+  pub taken : (text case σ : List ℕ) → Model p size case → ReadBackAs sheet size false σ case → States σ text
       → (r : SolverAnswer) (output output′ : List ℕ) → FromSolverCall sheet size text r output output′ → caseLength size (p .symbols) ≤ length output → LeavesCase r output′ case
   -- claimed none is answered exactly to a text that says s UNSATISFIABLE, without v lines, whatever the output,
   pub none : (text : List ℕ) (r : SolverAnswer) (output output′ : List ℕ) → FromSolverCall sheet size text r output output′ → (r ≡ ClaimedNone) ↔ ClaimsNone text

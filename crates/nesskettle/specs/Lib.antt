@@ -10,3 +10,4 @@ pub mod Settles
 pub mod FromTptp
 pub mod FromSolver
 pub mod SameAnswers
+pub mod Named

@@ -3,7 +3,7 @@
 use Prim.Native.Nat.{ℕ}
 use mathlib.Core.Path.{_≡_}
 use mathlib.Core.Logic.{_⊎_}
-use mathlib.Core.Bool.{Bool}
+use mathlib.Core.Bool.{Bool, false}
 use mathlib.Core.List.{List}
 use lib.ListN.{length, take}
 use Rattle.answers.specs.declared.Refusal.{Refusal}
@@ -36,6 +36,6 @@ pub record SameMark (r plain : FindAnswer) : Type 0 where
 -- it holds of every two calls with the same sheet and sizes
 abbrev pub SameAnswersHold : Type 0
 SameAnswersHold = (sheet : List ℕ) (low high : ℕ)
-    → (r : FindAnswer) (work work′ output output′ : List ℕ) → FindCall sheet low high r work work′ output output′ → NotRefused r
+    → (r : FindAnswer) (work work′ output output′ : List ℕ) → FindCall sheet low high false r work work′ output output′ → NotRefused r
     → (plain : FindAnswer) (plainOutput plainOutput′ : List ℕ) → PlainCall sheet low high plain plainOutput plainOutput′ → NotRefused plain
     → SameCase r plain output′ plainOutput′ ⊎ SameMark r plain

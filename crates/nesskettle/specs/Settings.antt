@@ -3,7 +3,7 @@
 use Prim.Native.Nat.{ℕ, _≤_}
 use mathlib.Core.Path.{_≡_}
 use mathlib.Core.Logic.{_⊎_, _↔_}
-use mathlib.Core.Bool.{true}
+use mathlib.Core.Bool.{true, false}
 use mathlib.Core.List.{List}
 use lib.ListN.{length}
 use Rattle.theory.specs.Propositional.{propCount}
@@ -41,12 +41,12 @@ pub record SettingCalls (sheet : List ℕ) (p : Problem) : Type 0 where
   -- every case has a setting, model or not
   pub sets : (case : List ℕ) (k : Case) → readCase (p .symbols) case ≡ answer k → (σ : List ℕ) × AlwaysSettingAs sheet p (k .size) case σ
   -- what Setting left of a case is read back, at the case's own size, as the same case
-  pub caseAgain : (case σ : List ℕ) (k : Case) → readCase (p .symbols) case ≡ answer k → SettingAs sheet case σ → AlwaysReadBackAs sheet p (k .size) σ case
+  pub caseAgain : (case σ : List ℕ) (k : Case) → readCase (p .symbols) case ≡ answer k → SettingAs sheet case σ → AlwaysReadBackAs sheet p (k .size) false σ case
   -- each setting that Read back does not refuse with 13 or 14 is what Setting leaves of the case that Read back left
-  pub settingAgain : (size : ℕ) (σ : List ℕ) → isSize size ≡ true → (r : WriteAnswer) (output output′ : List ℕ) → ReadBackCall sheet size σ r output output′
+  pub settingAgain : (size : ℕ) (σ : List ℕ) → isSize size ≡ true → (r : WriteAnswer) (output output′ : List ℕ) → ReadBackCall sheet size false σ r output output′
       → caseLength size (p .symbols) ≤ length output → SettingRefused r ⊎ ((case : List ℕ) × Leaves r output′ case × AlwaysSettingAs sheet p size case σ)
   -- where sheet and size are not refused for their content, what Setting left of a case of that size satisfies the text that Write left exactly if the case is a model
-  pub satisfies : (size : ℕ) → contentOf sheet size ≡ answer p → (w : WriteAnswer) (output output′ text : List ℕ) → WriteCall sheet size w output output′ → Leaves w output′ text
+  pub satisfies : (size : ℕ) → contentOf sheet size ≡ answer p → (w : WriteAnswer) (output output′ text : List ℕ) → WriteCall sheet size false w output output′ → Leaves w output′ text
       → (case σ : List ℕ) (k : Case) → readCase (p .symbols) case ≡ answer k → k .size ≡ size → SettingAs sheet case σ → Satisfying p size text σ ↔ Model p size case
 
 -- it holds of every sheet that is read

@@ -2,16 +2,17 @@
 -- every interpretation makes some clause false under some assignment.
 use Prim.Native.Nat.{ℕ}
 use mathlib.Core.Path.{_≡_}
-use mathlib.Core.Bool.{true}
+use mathlib.Core.Bool.{Bool, true}
 use mathlib.Core.List.{List}
 use Rattle.theory.specs.Refusals.{answer}
-use Rattle.theory.specs.Problem.{Problem, readProblem}
+use Rattle.theory.specs.Problem.{Problem}
 use Rattle.theory.specs.Claims.Settling.{Unsatisfiable}
+use Rattle.naming.specs.NamedOperations.{readProblemIn}
 use Rattle.answers.specs.declared.FindAnswer.{FindAnswer}
 use Rattle.answers.specs.declared.FindAnswer.the-variants.{Nothing}
 use Rattle.answers.specs.Calls.{FindCall}
 
--- it holds of every call
+-- it holds of every call, in the mode of named terms too
 abbrev pub SettlesHolds : Type 0
-SettlesHolds = (sheet : List ℕ) (p : Problem) (low high : ℕ) → readProblem sheet ≡ answer p
-    → (r : FindAnswer) (work work′ output output′ : List ℕ) → FindCall sheet low high r work work′ output output′ → r ≡ Nothing true → Unsatisfiable p
+SettlesHolds = (sheet : List ℕ) (p : Problem) (low high : ℕ) (named : Bool) → readProblemIn named sheet ≡ answer p
+    → (r : FindAnswer) (work work′ output output′ : List ℕ) → FindCall sheet low high named r work work′ output output′ → r ≡ Nothing true → Unsatisfiable p

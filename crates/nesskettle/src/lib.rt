@@ -1,6 +1,6 @@
 // The operations of documents 01 and 02. Each answers every byte string, number and lent buffer with a result or a numbered refusal, and
 // ends. A promise is a record of `answers/specs/Calls` (From TPTP's of `importing/specs/Calls`, From solver's of `accepting/specs/Calls`):
-// equations with the definitions of `theory/specs/Operations`, `theory/specs/PlainSearch`, `tptp/specs/Tptp` and `solver/specs/SolverText`, where
+// equations with the definitions of `theory/specs/Operations`, `naming/specs/NamedOperations`, `theory/specs/PlainSearch`, `tptp/specs/Tptp` and `solver/specs/SolverText`, where
 // `answers/specs/Answers` says what each answer means. What is lent as `&` cannot change; what is lent as `&mut` is told to the last byte
 // and number. The demands (`specs/Demand1` to `specs/Demand3`) and what is asked of From TPTP (`specs/FromTptp`), From solver
 // (`specs/FromSolver`), Explain (`specs/Explains`) and Setting (`specs/Settings`), what settled means (`specs/Settles`), that Find and Find
@@ -47,18 +47,24 @@ pub fn explain(sheet: &[u8], case: &[u8]) -> ExplainAnswer
     explain_case(sheet, case)
 }
 
-// Write: the clauses of the sheet at a size, as a text at the front of the output.
-pub fn write(sheet: &[u8], size: u64, output: &mut [u8]) -> WriteAnswer
-    ensures { λ r. ⌜ WriteCall (now (sheet .entry)) size r (now (output .entry)) (now (output .exit)) ⌝ }
+// Write: the clauses of the sheet at a size, as a text at the front of the output; of its clauses as they stand, or with named terms.
+pub fn write(sheet: &[u8], size: u64, named: bool, output: &mut [u8]) -> WriteAnswer
+    ensures { λ r. ⌜ WriteCall (now (sheet .entry)) size named r (now (output .entry)) (now (output .exit)) ⌝ }
 {
-    write_clauses(sheet, size, output)
+    write_clauses(sheet, size, named, output)
 }
 
-// Read back: the case that the setting says, at the front of the output.
-pub fn read_back(sheet: &[u8], size: u64, setting: &[u8], output: &mut [u8]) -> WriteAnswer
-    ensures { λ r. ⌜ ReadBackCall (now (sheet .entry)) size (now (setting .entry)) r (now (output .entry)) (now (output .exit)) ⌝ }
+// Read back: the case that the setting says, at the front of the output; a setting of Write's clauses as they stand, or with named terms.
+pub fn read_back(
+    sheet: &[u8],
+    size: u64,
+    named: bool,
+    setting: &[u8],
+    output: &mut [u8],
+) -> WriteAnswer
+    ensures { λ r. ⌜ ReadBackCall (now (sheet .entry)) size named (now (setting .entry)) r (now (output .entry)) (now (output .exit)) ⌝ }
 {
-    read_setting_back(sheet, size, setting, output)
+    read_setting_back(sheet, size, named, setting, output)
 }
 
 // Setting: the setting of the case, a model or not, at the front of the output.
@@ -68,11 +74,18 @@ pub fn setting(sheet: &[u8], case: &[u8], output: &mut [u8]) -> WriteAnswer
     write_case_setting(sheet, case, output)
 }
 
-// Find: the least model at the smallest size from low to high that has one, as a case at the front of the output; or none.
-pub fn find(sheet: &[u8], low: u64, high: u64, work: &mut [u32], output: &mut [u8]) -> FindAnswer
-    ensures { λ r. ⌜ FindCall (now (sheet .entry)) low high r (now (work .entry)) (now (work .exit)) (now (output .entry)) (now (output .exit)) ⌝ }
+// Find: the least model at the smallest size from low to high that has one, as a case at the front of the output; or none. It searches the sheet's clauses as they stand, or with named terms.
+pub fn find(
+    sheet: &[u8],
+    low: u64,
+    high: u64,
+    named: bool,
+    work: &mut [u32],
+    output: &mut [u8],
+) -> FindAnswer
+    ensures { λ r. ⌜ FindCall (now (sheet .entry)) low high named r (now (work .entry)) (now (work .exit)) (now (output .entry)) (now (output .exit)) ⌝ }
 {
-    find_model(sheet, low, high, work, output)
+    find_model(sheet, low, high, named, work, output)
 }
 
 // Find plain: the same by trying all cases in order, for at most 64 cells, without a work area.

@@ -18,11 +18,10 @@ use Rattle.syntax.specs.declared.limits.Problem.{Problem}
 use Rattle.syntax.specs.Signatures.{signatureIn}
 use Rattle.problem.specs.Problems.{problemIn}
 use Rattle.judging.specs.Cases.{cellsOf}
-use Rattle.finding.specs.Ending.{Ranged}
 use Rattle.case_writer.specs.Writable.{Writable}
 use Rattle.plain.specs.declared.filling.Filling.{Filling}
 use Rattle.plain.specs.Filling.{Searchable, modelIn}
-use Rattle.plain.specs.Ending.{Sizes}
+use Rattle.plain.specs.Ending.{Ranged, Sizes}
 
 -- the least model as a filling tells it
 module _ (sheet : List ℕ) (p : Problem) (s : ℕ) (r : Filling) (e : modelIn sheet p s r ≡ leastModel s (problemIn sheet p)) where
@@ -95,3 +94,12 @@ all-sizes sheet p low high room h few case =
       searchable = record { positive = omega (arith, h .positive, h .ordered); size = h .within; accepted = h .accepted; few = few };
       case = case;
     }
+
+-- the length of a case and the room for it, by the symbols in code and as read
+pub length-is : (sheet : List ℕ) (p : Problem) (size n : ℕ) → n ≡ caseLength size (signatureIn sheet (p .signature)) → n ≡ caseLength size (problemIn sheet p .symbols)
+unfolding problemIn
+length-is sheet p size n e = e
+
+pub case-room : (sheet : List ℕ) (p : Problem) (size room : ℕ) → caseLength size (problemIn sheet p .symbols) ≤ room → caseLength size (signatureIn sheet (p .signature)) ≤ room
+unfolding problemIn
+case-room sheet p size room h = h

@@ -19,8 +19,7 @@ use syntax::size::DomainSize;
 ghost use lib.ListN.{length};
 ghost use Rattle.answers.specs.Calls.{PlainCall, PlainSearchingCall};
 ghost use Rattle.problem.specs.Problems.{problemIn};
-ghost use Rattle.finding.specs.Ending.{Ranged};
-ghost use Rattle.plain.specs.Ending.{foundIn};
+ghost use Rattle.plain.specs.Ending.{Ranged, foundIn};
 
 // The sheet's refusals, 8, then what is found at the sizes.
 pub fn find_plainly(sheet: &[u8], low: u64, high: u64, output: &mut [u8]) -> FindAnswer

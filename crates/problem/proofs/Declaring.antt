@@ -11,7 +11,7 @@ use lib.ListN.{length, getD, take, drop}
 use borrow.Author.Tests.{lt-ltb, le-ltb, le-leb, lt-leb, eq-eqb, ne-eqb}
 use Rattle.theory.specs.Lists.{same}
 use Rattle.theory.specs.Bytes.{isDigit}
-use Rattle.theory.specs.Syntax.{Signature, Symbol, noSymbol}
+use Rattle.theory.specs.Syntax.{declared, Signature, Symbol, noSymbol}
 use Rattle.theory.specs.Refusals.{Answer, answer, atLine, _>>=_, check, orRefuse}
 use Rattle.theory.specs.Problem.{maxArity, isName, symbolOf, isNamed, placeOfName}
 use Rattle.theory.proofs.Tests.{ltb-true, and-right}
@@ -42,7 +42,7 @@ module _ (sheet : List ℕ) (from end : ℕ) (function : Bool) (g : Signature) (
 
   -- the symbol, if the last two bytes are as laid out
   laidOut : Bool → Option Symbol
-  laidOut b = cond b (some (record { kind = kindOf function; name = take (length value - 2) value; arity = getD value (suc (length value - 2)) 0 - 48 })) none
+  laidOut b = cond b (some (record { kind = kindOf function; name = take (length value - 2) value; arity = getD value (suc (length value - 2)) 0 - 48; origin = declared })) none
 
   count : length value ≡ end - from
   unfolding value
@@ -102,14 +102,14 @@ module _ (sheet : List ℕ) (from end : ℕ) (function : Bool) (g : Signature) (
       module _ (digited : isDigit (getD sheet (end - 2 + 1) 0) ≡ true) where
         -- the symbol that the code reads
         symbol : Symbol
-        symbol = record { kind = kindOf function; name = part sheet from (end - 2); arity = getD sheet (end - 2 + 1) 0 - 48 }
+        symbol = record { kind = kindOf function; name = part sheet from (end - 2); arity = getD sheet (end - 2 + 1) 0 - 48; origin = declared }
 
         symbol-read : symbolOf (kindOf function) value ≡ some symbol
         unfolding laidOut symbol
         symbol-read =
             tested true true (eq-eqb (getD sheet (end - 2) 0) 47 slashed) digited
-            ∙ ap (λ (x : ℕ). some (record { kind = kindOf function; name = take (length value - 2) value; arity = x - 48 })) digit
-            ∙ ap (λ (w : List ℕ). some (record { kind = kindOf function; name = w; arity = getD sheet (end - 2 + 1) 0 - 48 })) front
+            ∙ ap (λ (x : ℕ). some (record { kind = kindOf function; name = take (length value - 2) value; arity = x - 48; origin = declared })) digit
+            ∙ ap (λ (w : List ℕ). some (record { kind = kindOf function; name = w; arity = getD sheet (end - 2 + 1) 0 - 48; origin = declared })) front
 
         limited : (l : ℕ) (r : Answer (Symbol × List ℕ))
             → (check (leb (symbol .arity) maxArity) (atLine 3 l) >>= λ _. check (isName (symbol .name) && not (isNamed (symbol .name) g)) (atLine 4 l) >>= λ _. answer (symbol, drop (suc end) sheet)) ≡ r
@@ -148,7 +148,7 @@ module _ (sheet : List ℕ) (from end : ℕ) (function : Bool) (g : Signature) (
             name-repeated e = misnamed (ap (λ (b : Bool). b && not (isNamed (symbol .name) g)) good ∙ ap not e)
 
             pub symbol-declared : isNamed (part sheet from (end - 2)) g ≡ false
-                → ValueDeclared sheet from end (kindOf function) g (Read (record { function = function; arity = getD sheet (end - 2 + 1) 0 - 48; name = from; length = end - 2 - from }) (end + 1))
+                → ValueDeclared sheet from end (kindOf function) g (Read (record { function = function; helper = false; arity = getD sheet (end - 2 + 1) 0 - 48; name = from; length = end - 2 - from }) (end + 1))
             unfolding symbol
             symbol-declared e =
                 record {

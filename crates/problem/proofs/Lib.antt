@@ -7,5 +7,14 @@ pub mod ClausePlaces
 pub mod ClauseTaking
 pub mod Stages
 pub mod WholeSheet
-pub mod WordsAgain
+pub mod NamedLines
+pub mod LinesThere
+pub mod NamedWalk
+pub mod Handed
+pub mod PlainProblem
+pub mod ModeProblem
 pub mod SheetRead
+pub mod Counted
+pub mod WordsAgain
+pub mod Showing
+pub mod ModeRead

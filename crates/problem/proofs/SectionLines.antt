@@ -4,7 +4,7 @@ use mathlib.Core.Path.{_≡_, refl, sym, ap, _∙_}
 use mathlib.Core.Bool.{Bool, true, cond, _&&_}
 use mathlib.Core.List.{List, [], _∷_, _++_, map, map-append}
 use native.Mathlib.Omega.{arith}
-use lib.Dec.{leb}
+use lib.Dec.{eqb, leb}
 use lib.ListN.{length, take, drop, length-take, length-append}
 use lib.Seq.{length-take-le}
 use borrow.Author.Tests.{le-leb, ne-eqb}
@@ -24,6 +24,7 @@ use Rattle.problem.specs.declared.lines.CountLine.the-variants as count
 use Rattle.problem.specs.declared.sections.Section.{Section}
 use Rattle.problem.specs.Lines.{CountRead}
 use Rattle.clauses.specs.Names.{Readable}
+use Rattle.clauses.proofs.Held.{none-past}
 use Rattle.problem.specs.Symbols.{SymbolRead}
 use Rattle.problem.specs.Sections.{linesFrom, sectionFrom, SectionRead}
 
@@ -39,6 +40,7 @@ readable-none sheet s e =
         count = omega arith;
         held = omega arith;
         arities = ap (λ (n : ℕ). all (λ (y : Symbol). leb (y .arity) 3) (take n (s .symbols))) e;
+        constants = none-past s (λ (y : Symbol). eqb (y .arity) 0) (omega arith);
       };
       names = ap (λ (n : ℕ). all (λ (y : Symbol). leb (y .name + y .length) (length sheet)) (take n (s .symbols))) e;
     }
@@ -57,9 +59,10 @@ module _ (sheet : List ℕ) (s r : Signature) (y : Symbol) (h : Readable sheet s
   readable-more small arity name =
       record {
         limited = record {
-          count = small;
+          count = omega arith;
           held = omega (arith, ap length symbols, length-append (take (s .count) (s .symbols)) (y ∷ []), length-take (r .count) (r .symbols), length-take-le (s .count) (s .symbols) (h .limited .held));
           arities = all-more (λ (y : Symbol). leb (y .arity) 3) (h .limited .arities) (le-leb (y .arity) 3 arity);
+          constants = none-past r (λ (y : Symbol). eqb (y .arity) 0) small;
         };
         names = all-more (λ (y : Symbol). leb (y .name + y .length) (length sheet)) (h .names) (le-leb (y .name + y .length) (length sheet) name);
       }

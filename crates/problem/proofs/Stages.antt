@@ -23,19 +23,19 @@ use Rattle.problem.specs.Stages.{ProblemRead, clauseLinesFrom, clausesFr
 use Rattle.problem.proofs.ClauseTaking.{reading-refused}
 
 -- the clauses: their count line is faulty, or so many lines follow
-module _ (sheet : List ℕ) (at line : ℕ) (g : Signature) (r : Reading) where
-  pub clauses-uncounted : (f : ℕ) → CountRead sheet at (bytes "clauses=") maxClauses (count.Fault f) → r .fault ≡ f → r .line ≡ line → ProblemRead sheet (clausesFrom g line (drop at sheet)) r
+module _ (named : Bool) (sheet : List ℕ) (at line : ℕ) (g : Signature) (r : Reading) where
+  pub clauses-uncounted : (f : ℕ) → CountRead sheet at (bytes "clauses=") maxClauses (count.Fault f) → r .fault ≡ f → r .line ≡ line → ProblemRead named sheet (clausesFrom named g line (drop at sheet)) r
   unfolding clausesFrom
   clauses-uncounted f h fault place =
-      reading-refused sheet _ r f line (h .within) fault place (bind-refused (countLine (bytes "clauses=") maxClauses line (drop at sheet)) _ (atLine f line) (sym (h .read line)))
+      reading-refused named sheet _ r f line (h .within) fault place (bind-refused (countLine (bytes "clauses=") maxClauses line (drop at sheet)) _ (atLine f line) (sym (h .read line)))
 
-  pub clauses-counted : (n next : ℕ) → CountRead sheet at (bytes "clauses=") maxClauses (count.Read n next) → ProblemRead sheet (clauseLinesFrom n g (line + 1) (drop next sheet)) r
-      → ProblemRead sheet (clausesFrom g line (drop at sheet)) r
+  pub clauses-counted : (n next : ℕ) → CountRead sheet at (bytes "clauses=") maxClauses (count.Read n next) → ProblemRead named sheet (clauseLinesFrom named n g (line + 1) (drop next sheet)) r
+      → ProblemRead named sheet (clausesFrom named g line (drop at sheet)) r
   unfolding clausesFrom
   clauses-counted n next h p =
       record {
         read = p .read ∙ sym (bind-step (countLine (bytes "clauses=") maxClauses line (drop at sheet)) _ (n, drop next sheet) _ (sym (h .read line)) refl);
-        accepted = p .accepted;
+        handed = p .handed;
       }
 
 -- a section that was read
@@ -45,15 +45,15 @@ section-answer sheet most last a s h e =
     sym (h .read) ∙ ap (λ (b : Bool). cond b (answer (signatureIn sheet (s .signature), s .line, drop (s .next) sheet)) (refused (atLine (s .fault) (s .line)))) (eq-eqb (s .fault) 0 e)
 
 -- and what follows it
-module _ (sheet : List ℕ) (most last : ℕ) (a : Answer Rest) (k : Rest → Answer theory.Problem) (s : Section) (r : Reading) (h : SectionRead sheet most last a s) where
-  pub section-refused : (s .fault ≡ 0 → ⊥) → r .fault ≡ s .fault → r .line ≡ s .line → ProblemRead sheet (a >>= k) r
+module _ (named : Bool) (sheet : List ℕ) (most last : ℕ) (a : Answer Rest) (k : Rest → Answer theory.Problem) (s : Section) (r : Reading) (h : SectionRead sheet most last a s) where
+  pub section-refused : (s .fault ≡ 0 → ⊥) → r .fault ≡ s .fault → r .line ≡ s .line → ProblemRead named sheet (a >>= k) r
   section-refused ne fault place =
-      reading-refused sheet _ r (s .fault) (s .line) ne fault place
+      reading-refused named sheet _ r (s .fault) (s .line) ne fault place
       (bind-refused a k (atLine (s .fault) (s .line))
       (sym (h .read) ∙ ap (λ (b : Bool). cond b (answer (signatureIn sheet (s .signature), s .line, drop (s .next) sheet)) (refused (atLine (s .fault) (s .line)))) (ne-eqb (s .fault) 0 ne)))
 
-  pub section-read : s .fault ≡ 0 → ProblemRead sheet (k (signatureIn sheet (s .signature), s .line, drop (s .next) sheet)) r → ProblemRead sheet (a >>= k) r
-  section-read e p = record { read = p .read ∙ sym (bind-step a k _ _ (section-answer sheet most last a s h e) refl); accepted = p .accepted }
+  pub section-read : s .fault ≡ 0 → ProblemRead named sheet (k (signatureIn sheet (s .signature), s .line, drop (s .next) sheet)) r → ProblemRead named sheet (a >>= k) r
+  section-read e p = record { read = p .read ∙ sym (bind-step a k _ _ (section-answer sheet most last a s h e) refl); handed = p .handed }
 
 -- the symbols that a section adds
 section-added : (counting key : List ℕ) (k : Kind) (g : Signature) (l : ℕ) (text : List ℕ) (r : Rest) → sectionFrom counting key k g l text ≡ answer r → (n : ℕ) × Added k n g (r .0)

@@ -4,3 +4,5 @@ pub mod Sections
 pub mod Problems
 pub mod Stages
 pub mod ClausePlaces
+pub mod NamedTerms
+pub mod Modes

@@ -65,6 +65,7 @@ fn symbol_at(sheet: &[u8], from: usize, end: usize, function: bool, before: Sign
     SymbolLine::Read(
         Symbol {
             function,
+            helper: false,
             arity,
             name: from,
             length: slash - from,

@@ -26,7 +26,7 @@ pub const OUTPUT: usize = OUTCOME + LONGEST_CASE;
 
 // Two lines of 14 bytes together, and for each symbol a name, `=`, and two bytes for each cell.
 const LONGEST_CASE: usize = 14
-    + Problem::MAX_SYMBOLS * (Problem::MAX_NAME + 1 + 2 * Problem::MAX_TABLE);
+    + Problem::MAX_DECLARED * (Problem::MAX_NAME + 1 + 2 * Problem::MAX_TABLE);
 
 // The numbers of work.
 const WORK: usize = 16000;
@@ -58,6 +58,6 @@ fn search_sheet(sheet: &[u8], low: u64, high: u64, out: &mut [u8]) -> usize
     ensures { λ r. ⌜ Responds (theory.printed (findResult (now (sheet .entry)) low high 16000 24902)) r (now (out .entry)) (now (out .exit)) ⌝ }
 {
     let mut work = [0u32; WORK];
-    let answer = find(sheet, low, high, &mut work, &mut out[OUTCOME..]);
+    let answer = find(sheet, low, high, false, &mut work, &mut out[OUTCOME..]);
     put_result(out, answer)
 }

@@ -9,10 +9,12 @@ use borrow.Author.Tests.{eq-eqb, ne-eqb}
 use lib.Dec.{eqb}
 use lib.ListN.{length, take, drop, replicate, length-map, length-drop, take-append-drop}
 use lib.Seq.{take-append-le, drop-append-le, length-take-le, take-at}
-use Rattle.theory.specs.Syntax.{Kind}
+use Rattle.theory.specs.Syntax.{Kind, Signature}
+use Rattle.theory.specs.Cells.{cellCount, cellKinds}
 use Rattle.theory.specs.Propositional.{width}
-use Rattle.theory.specs.Valuation.{valueOf, valuesOf, settingOf}
+use Rattle.theory.specs.Valuation.{valueOf, valuesOf, readBack, settingOf}
 use Rattle.theory.proofs.Lists.{map-drop}
+use Rattle.theory.proofs.Numbering.{length-cellKinds}
 use Rattle.reading_back.specs.Bits.{bitsHeld}
 
 module _ (setting values : List ℕ) where
@@ -30,6 +32,15 @@ setting-held setting = no-values setting [] refl
 
 pub length-settingOf : (values : List ℕ) → length (settingOf values) ≡ length values
 length-settingOf values = length-map values (λ z. cond (eqb z 1) 1 0)
+
+-- a value for each cell
+length-valuesOf : (s : ℕ) (ks : List Kind) (σ : List ℕ) → length (valuesOf s ks σ) ≡ length ks
+length-valuesOf s [] σ = refl
+length-valuesOf s (k ∷ ks) σ = ap suc (length-valuesOf s ks (drop (width s k) σ))
+
+pub length-readBack : (s : ℕ) (g : Signature) (σ : List ℕ) → length (readBack s g σ) ≡ cellCount s g
+unfolding readBack
+length-readBack s g σ = length-valuesOf s (cellKinds s g) σ ∙ length-cellKinds s g
 
 -- a callee that was lent the first n of a list leaves as many,
 pub part-length : (n : ℕ) (l : List ℕ) → n ≤ length l → length (take (n - 0) l) ≡ n

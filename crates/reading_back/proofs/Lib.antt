@@ -1,4 +1,6 @@
 pub mod Bits
+pub mod Shown
 pub mod CaseLines
 pub mod Written
 pub mod Answered
+pub mod Fronts

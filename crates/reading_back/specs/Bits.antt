@@ -4,10 +4,11 @@ use mathlib.Core.Path.{_≡_}
 use mathlib.Core.Bool.{true, cond}
 use mathlib.Core.List.{List}
 use lib.Dec.{eqb, ltb}
-use lib.ListN.{length}
+use lib.ListN.{length, take}
 use Rattle.theory.specs.Lists.{all}
 use Rattle.theory.specs.Vectors.{AllBelow}
-use Rattle.theory.specs.Propositional.{width}
+use Rattle.theory.specs.Syntax as theory
+use Rattle.theory.specs.Propositional.{width, propCount}
 use Rattle.theory.specs.CaseText.{tableText, tablesText, caseText}
 use Rattle.theory.specs.Valuation.{isFunctional, settingOf, readBack}
 use Rattle.syntax.specs.declared.signature.Symbol.{Symbol}
@@ -49,6 +50,19 @@ pub record WritableBits (sheet : List ℕ) (y : Signature) (n : Numbering) (s : 
   pub counted : length bits ≡ n .count
   pub binary : all (λ b. ltb b 2) bits ≡ true
   pub functional : isFunctional s (signatureIn sheet y) bits ≡ true
+
+-- the bits of a signature's cells, where they stand at the front of a setting
+abbrev pub frontBits : ℕ → theory.Signature → List ℕ → List ℕ
+frontBits s g setting = take (propCount s g) setting
+
+-- the setting's front is a valuation of the signature and gives each function cell one result
+pub record FrontLent (sheet : List ℕ) (y : Signature) (s : ℕ) (setting : List ℕ) : Type 0 where
+  pub readable : Readable sheet y
+  pub positive : 1 ≤ s
+  pub size : s ≤ 8
+  pub counted : propCount s (signatureIn sheet y) ≤ length setting
+  pub binary : all (λ b. ltb b 2) setting ≡ true
+  pub functional : isFunctional s (signatureIn sheet y) (frontBits s (signatureIn sheet y) setting) ≡ true
 
 -- the symbols' lines of the case that the bits say, and the whole case
 abbrev pub linesSaid : List ℕ → Signature → ℕ → List ℕ → List ℕ

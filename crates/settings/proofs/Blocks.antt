@@ -17,13 +17,12 @@ use Rattle.theory.proofs.Lists.{concatMap-append}
 use Rattle.theory.proofs.Numbering.{length-cellKinds, widths-total, cellBase-suc}
 use Rattle.syntax.specs.declared.signature.Symbol.{Symbol}
 use Rattle.syntax.specs.declared.signature.Signature.{Signature}
-use Rattle.syntax.specs.Signatures.{kindOf, symbolIn, signatureIn}
+use Rattle.syntax.specs.Signatures.{maxCells, kindOf, symbolIn, signatureIn}
 use Rattle.text.specs.Put.{put, put-none, put-run}
 use Rattle.answers.proofs.Answering.{put-over}
 use Rattle.clauses.specs.Names.{Limited}
-use Rattle.clauses.proofs.Held.{blank, arity-at, count-signatureIn, symbolAt-signatureIn}
-use Rattle.interpretation.proofs.Ranks.{table-within}
-use Rattle.interpretation.proofs.Tabling.{base-within, limited-small}
+use Rattle.clauses.proofs.Held.{blank, count-signatureIn, symbolAt-signatureIn}
+use Rattle.interpretation.proofs.Tabling.{table-limited}
 use Rattle.valuations.specs.declared.numbering.Numbering.{Numbering}
 use Rattle.valuations.specs.Numbers.{NumberingOf}
 use Rattle.valuations.proofs.Blocks.{block-room}
@@ -74,14 +73,11 @@ module _ (sheet : List ℕ) (y : Signature) (s : ℕ) (cells : List ℕ) where
   unfolding valuationOf cellKinds
   none-put out = record { within = omega arith; held = refl; ended = refl; bytes = sym (put-none out 0) }
 
-module _ (y : Signature) (s : ℕ) (cells : List ℕ) (limited : Limited y) (small : s ≤ 8) (enough : 12288 ≤ length cells) (sheet : List ℕ) where
+module _ (y : Signature) (s : ℕ) (cells : List ℕ) (limited : Limited y) (small : s ≤ 8) (enough : maxCells ≤ length cells) (sheet : List ℕ) where
   abbrev g : theory.Signature
   g = signatureIn sheet y
 
   module _ (out out′ : List ℕ) (base i : ℕ) (b : BlocksPut sheet y s cells out out′ base i) where
-    base-cell : base ≤ 512 * i
-    base-cell = omega (arith, b .ended, base-within g s i small (limited-small sheet y limited) (omega (arith, b .within, count-signatureIn y limited sheet)))
-
     module _ (h : i < y .count) where
       abbrev f : Symbol
       f = getD (y .symbols) i blank
@@ -94,8 +90,8 @@ module _ (y : Signature) (s : ℕ) (cells : List ℕ) (limited : Limited y) (sma
 
       -- the symbol has m cells
       module _ (m : ℕ) (counted : m ≡ s ^ f .arity) where
-        pub table-ends : base + m ≤ 12288
-        table-ends = omega (arith, base-cell, counted, table-within s (f .arity) small (arity-at y limited i h), limited .count)
+        pub table-ends : base + m ≤ maxCells
+        table-ends = omega (arith, b .ended, counted, table-limited sheet y limited s small i h)
 
         -- they are lent
         abbrev table : List ℕ

@@ -16,7 +16,7 @@ ghost use Rattle.theory.specs.Syntax as syntax;
 ghost use Rattle.theory.specs.Propositional.{width};
 ghost use Rattle.theory.specs.Valuation.{bitsOfCells, oneHot, valuationOf};
 ghost use Rattle.theory.specs.Operations.{over};
-ghost use Rattle.syntax.specs.Signatures.{kindOf, signatureIn};
+ghost use Rattle.syntax.specs.Signatures.{maxCells, kindOf, signatureIn};
 ghost use Rattle.clauses.specs.Names.{Limited};
 ghost use Rattle.text.specs.Put.{put};
 ghost use Rattle.valuations.specs.Numbers.{NumberingOf};
@@ -29,7 +29,7 @@ pub fn put_valuation(
     n: Numbering,
     size: DomainSize,
 )
-    requires { ⌜ Limited signature × ((size .0 ≤ 8) × (12288 ≤ length (now cells))) ⌝ }
+    requires { ⌜ Limited signature × ((size .0 ≤ 8) × (maxCells ≤ length (now cells))) ⌝ }
     requires { ⌜ ((sheet : List ℕ) → NumberingOf (signatureIn sheet signature) (size .0) n) × (n .count ≤ length (now out)) ⌝ }
     ensures { λ _. ⌜ ((sheet : List ℕ) → now (out .exit) ≡ over (valuationOf (size .0) (signatureIn sheet signature) (now (cells .entry))) (now (out .entry))) ⌝ }
 {

@@ -16,7 +16,7 @@ use Rattle.theory.specs.Lifted.{within}
 use Rattle.theory.proofs.Tests.{and-left, and-right}
 use Rattle.theory.proofs.Lists.{all-append}
 use Rattle.theory.proofs.Declared.{predicateOf→}
-use Rattle.syntax.specs.Codes.{codeOf, codeWord}
+use Rattle.syntax.specs.Codes.{plusCode, equalsCode, codeOf, codeWord}
 use Rattle.syntax.proofs.Codes.{codeOf-wordOf}
 use Rattle.lifting.specs.declared.terms.AllLifted.{AllLifted}
 use Rattle.lifting.specs.Reading.{wordsFrom, TermsThere, TermsLifted}
@@ -29,9 +29,9 @@ use Rattle.shallow.specs.Shallow.{withLiteral, LiteralThere, EqualityThe
 use Rattle.shallow.proofs.Written.{three, literal-added, arguments-right}
 
 -- the code of a sign says which it is
-sign-code : (n : ℕ) (b : Bool) → codeWord n ≡ sign b → eqb n 43 ≡ b
-sign-code n true e = ap (λ (n : ℕ). eqb n 43) (sym (codeOf-wordOf n) ∙ ap codeOf e)
-sign-code n false e = ap (λ (n : ℕ). eqb n 43) (sym (codeOf-wordOf n) ∙ ap codeOf e)
+sign-code : (n : ℕ) (b : Bool) → codeWord n ≡ sign b → eqb n plusCode ≡ b
+sign-code n true e = ap (λ (n : ℕ). eqb n plusCode) (sym (codeOf-wordOf n) ∙ ap codeOf e)
+sign-code n false e = ap (λ (n : ℕ). eqb n plusCode) (sym (codeOf-wordOf n) ∙ ap codeOf e)
 
 -- an atom has a first word
 starts : (a : Atom) (rest : List Word) → (w : Word) × (ws : List Word) × (atomWords a ++ rest ≡ w ∷ ws)
@@ -51,7 +51,7 @@ module _ {codes place arities : List ℕ} {l : Lifting} (s : LiteralThere codes 
   abbrev p : ℕ
   p = getD codes (l .next + 1) 0
 
-  pub signed : eqb (getD codes (l .next) 0) 43 ≡ s .literal .sign
+  pub signed : eqb (getD codes (l .next) 0) plusCode ≡ s .literal .sign
   signed = sign-code (getD codes (l .next) 0) (s .literal .sign) (first-word codes n (s .source .fits) (l .next) (sign (s .literal .sign)) (atomWords (s .literal .atom) ++ s .rest) (s .words))
 
   atom-words : wordsFrom codes n (l .next + 1) ≡ atomWords (s .literal .atom) ++ s .rest
@@ -65,7 +65,7 @@ module _ {codes place arities : List ℕ} {l : Lifting} (s : LiteralThere codes 
     pub left : Term
     pub right : Term
     pub is : s .literal .atom ≡ equal left right
-    pub coded : getD codes (l .next + 1) 0 ≡ 61
+    pub coded : getD codes (l .next + 1) 0 ≡ equalsCode
     pub words : wordsFrom codes (s .source .count) (l .next + 2) ≡ termWords left ++ (termWords right ++ s .rest)
 
   pub record PredicateAtom : Type 0 where
@@ -102,10 +102,10 @@ module _ {codes place arities : List ℕ} {l : Lifting} (s : LiteralThere codes 
             words = w .1;
           })
 
-  pub equality-atom : getD codes (l .next + 1) 0 ≡ 61 → EqualityAtom
+  pub equality-atom : getD codes (l .next + 1) 0 ≡ equalsCode → EqualityAtom
   equality-atom h = ⊎-elim (λ e. e) (λ q. absurd (omega (arith, q .below, s .source .small .symbols))) split
 
-  pub predicate-atom : getD codes (l .next + 1) 0 ≢ 61 → PredicateAtom
+  pub predicate-atom : getD codes (l .next + 1) 0 ≢ equalsCode → PredicateAtom
   predicate-atom h = ⊎-elim (λ e. absurd (h (e .coded))) (λ q. q) split
 
   -- the terms of an equality
@@ -116,7 +116,7 @@ module _ {codes place arities : List ℕ} {l : Lifting} (s : LiteralThere codes 
     pub both-own : (within (s .source .variables) (termVariables (q .left)) && within (s .source .variables) (termVariables (q .right))) ≡ true
     both-own = sym (all-append (λ y. elem y xs) (termVariables (q .left)) (termVariables (q .right))) ∙ ap (λ (a : Atom). within xs (atomVariables a)) (sym (q .is)) ∙ s .own
 
-    abbrev pub equality-there : EqualityThere codes place arities l (eqb (getD codes (l .next) 0) 43) (l .next + 2)
+    abbrev pub equality-there : EqualityThere codes place arities l (eqb (getD codes (l .next) 0) plusCode) (l .next + 2)
     equality-there =
         record {
           source = s .source;
@@ -142,7 +142,7 @@ module _ {codes place arities : List ℕ} {l : Lifting} (s : LiteralThere codes 
         let end : l .next + 2 + k ≡ l .next + suc (suc k) = omega arith in
         subst (λ (a : Atom). LiteralAdded g xs (s .found) (s .done) l (record { sign = s .literal .sign; atom = a }) (l .next + suc (length (atomWords a))) r) (sym (q .is))
         (subst (λ (b : Bool). LiteralAdded g xs (s .found) (s .done) l (record { sign = b; atom = equal (q .left) (q .right) }) (l .next + suc (suc k)) r) signed
-        (subst (λ (i : ℕ). LiteralAdded g xs (s .found) (s .done) l (record { sign = eqb (getD codes (l .next) 0) 43; atom = equal (q .left) (q .right) }) i r) end e))
+        (subst (λ (i : ℕ). LiteralAdded g xs (s .found) (s .done) l (record { sign = eqb (getD codes (l .next) 0) plusCode; atom = equal (q .left) (q .right) }) i r) end e))
 
   -- the terms of a predicate
   module _ (q : PredicateAtom) where
@@ -167,11 +167,11 @@ module _ {codes place arities : List ℕ} {l : Lifting} (s : LiteralThere codes 
 
     pub predicate-made : (r : AllLifted) → TermsLifted predicate-there r
         → LiteralMade s
-        (withLiteral l (record { sign = eqb (getD codes (l .next) 0) 43; shape = Predicate (getD codes (l .next + 1) 0) }) (r .variables) (r .table) (r .next))
+        (withLiteral l (record { sign = eqb (getD codes (l .next) 0) plusCode; shape = Predicate (getD codes (l .next + 1) 0) }) (r .variables) (r .table) (r .next))
     predicate-made r e =
         let ts : Terms = q .arguments in
         let more : List Term = addTerms (s .found) (allFunctionTerms ts) in
-        let c : Literal = record { sign = eqb (getD codes (l .next) 0) 43; shape = Predicate p } in
+        let c : Literal = record { sign = eqb (getD codes (l .next) 0) plusCode; shape = Predicate p } in
         let k : theory.Literal = record { sign = s .literal .sign; atom = holds p ts } in
         let arguments : map new (take (symbolAt g p .arity) (three (r .variables))) ≡ map (placedVariable xs) (variablesFor more ts) =
         arguments-right g (s .source .small) xs more ts p (r .variables) (q .arity) (e .variables) in

@@ -25,11 +25,12 @@ use Rattle.shallow.specs.declared.literals.Lifting.{Lifting}
 use Rattle.shallow.specs.Placed.{placedVariable, placedLiteral}
 use Rattle.shallow.specs.Shallow.{withLiteral, EqualityThere, LiteralAdded, EqualityMade}
 use Rattle.shallow.specs.Literals.{literalWith}
+use Rattle.syntax.specs.Codes.{letterCode}
 use Rattle.shallow.proofs.Written.{three, literal-added, arguments-right}
 
 -- a variable is read to its place
-own-at : {codes place arities : List ℕ} {owns at : ℕ} {t : Table} (s : TermThere codes place arities owns at t) (h : 65 ≤ getD codes at 0) (v : VariableTerm s)
-    → getD place (getD codes at 0 - 65) 0 ≡ placeIn (s .source .variables) (own (v .x))
+own-at : {codes place arities : List ℕ} {owns at : ℕ} {t : Table} (s : TermThere codes place arities owns at t) (h : letterCode ≤ getD codes at 0) (v : VariableTerm s)
+    → getD place (getD codes at 0 - letterCode) 0 ≡ placeIn (s .source .variables) (own (v .x))
 own-at s h v = letter-lifted s h .variable ∙ ap (λ (u : Term). placeIn (s .source .variables) (variableFor (addTerms (s .found) (functionTerms u)) u)) (v .is)
 
 module _ {codes place arities : List ℕ} {l : Lifting} {b : Bool} {at : ℕ} (s : EqualityThere codes place arities l b at) where
@@ -90,14 +91,14 @@ module _ {codes place arities : List ℕ} {l : Lifting} {b : Bool} {at : ℕ} (s
         }
 
     -- and is a variable too
-    pub variables-made : 65 ≤ getD codes at 0 → 65 ≤ getD codes (at + 1) 0
+    pub variables-made : letterCode ≤ getD codes at 0 → letterCode ≤ getD codes (at + 1) 0
         → EqualityMade s
-        (withLiteral l (record { sign = b; shape = VariableEquality (getD place (getD codes at 0 - 65) 0) (getD place (getD codes (at + 1) 0 - 65) 0) }) (replicate 3 0) (l .table) (at + 1 + 1))
+        (withLiteral l (record { sign = b; shape = VariableEquality (getD place (getD codes at 0 - letterCode) 0) (getD place (getD codes (at + 1) 0 - letterCode) 0) }) (replicate 3 0) (l .table) (at + 1 + 1))
     variables-made h k =
         let w = variable-term right-there k in
         made-of (variable (v .x)) (variable (w .x)) (v .is) (w .is)
-        (record { sign = b; shape = VariableEquality (getD place (getD codes at 0 - 65) 0) (getD place (getD codes (at + 1) 0 - 65) 0) }) (replicate 3 0)
-        (ap (λ (i : ℕ). record { sign = b; atom = flatEquality (new i) (new (getD place (getD codes (at + 1) 0 - 65) 0)) }) (own-at left-there h v)
+        (record { sign = b; shape = VariableEquality (getD place (getD codes at 0 - letterCode) 0) (getD place (getD codes (at + 1) 0 - letterCode) 0) }) (replicate 3 0)
+        (ap (λ (i : ℕ). record { sign = b; atom = flatEquality (new i) (new (getD place (getD codes (at + 1) 0 - letterCode) 0)) }) (own-at left-there h v)
         ∙ ap (λ (i : ℕ). record { sign = b; atom = flatEquality (new (placeIn xs (own (v .x)))) (new i) }) (own-at right-there k w))
         (l .table) (s .lifts) (at + 1 + 1) (omega arith)
 
@@ -117,11 +118,11 @@ module _ {codes place arities : List ℕ} {l : Lifting} {b : Bool} {at : ℕ} (s
           arguments-right g (s .source .small) xs (more (variable (v .x)) (apply f ts)) ts f (r .variables) (q .arity)
           (λ j k. e .variables j k ∙ ap (λ (found : List Term). getD (places xs found ts) j 0) all)
 
-      pub turned-made : 65 ≤ getD codes at 0
+      pub turned-made : letterCode ≤ getD codes at 0
           → EqualityMade s
-          (withLiteral l (record { sign = b; shape = FunctionResult (getD codes (at + 1) 0) (getD place (getD codes at 0 - 65) 0) }) (r .variables) (r .table) (r .next))
+          (withLiteral l (record { sign = b; shape = FunctionResult (getD codes (at + 1) 0) (getD place (getD codes at 0 - letterCode) 0) }) (r .variables) (r .table) (r .next))
       turned-made h =
-          made-of (variable (v .x)) (apply f ts) (v .is) (q .is) (record { sign = b; shape = FunctionResult f (getD place (getD codes at 0 - 65) 0) }) (r .variables)
+          made-of (variable (v .x)) (apply f ts) (v .is) (q .is) (record { sign = b; shape = FunctionResult f (getD place (getD codes at 0 - letterCode) 0) }) (r .variables)
           (ap (λ (i : ℕ). record { sign = b; atom = flatResult f (map new (take (symbolAt g f .arity) (three (r .variables)))) (new i) }) (own-at left-there h v)
           ∙ ap (λ (ys : List FlatVariable). record { sign = b; atom = flatResult f ys (new (placeIn xs (own (v .x)))) }) arguments)
           (r .table) (subst (λ (found : List Term). Lifts g xs found (r .table)) all (e .lifts)) (r .next) (omega (arith, e .next))

@@ -12,6 +12,7 @@ ghost use lib.ListN.{getD};
 ghost use Rattle.theory.specs.Problem.{maxWords, maxLiterals};
 ghost use Rattle.shallow.specs.Flattenable.{Flattenable};
 ghost use Rattle.shallow.specs.Shallow.{ClauseLifted, EqualityMade, EqualityThere, LiteralMade, LiteralThere, started, withLiteral};
+ghost use Rattle.syntax.specs.Codes.{letterCode};
 
 // The three shallow shapes; a predicate's and a function's arguments stand in an array beside.
 pub enum Shape {
@@ -184,7 +185,7 @@ fn lift_result(
     sign: bool,
     at: usize,
 ) -> Lifting
-    requires { ⌜ EqualityThere (now words) (now place) (now arities) state sign at × (getD (now words) at 0 < 65) ⌝ }
+    requires { ⌜ EqualityThere (now words) (now place) (now arities) state sign at × (getD (now words) at 0 < letterCode) ⌝ }
     ensures { λ r. ⌜ ((s : EqualityThere (now (words .entry)) (now (place .entry)) (now (arities .entry)) state sign at) → EqualityMade s r) ⌝ }
 {
     let left = words[at];

@@ -1,5 +1,5 @@
--- A word's text by its code: the name of the symbol at that place, or else the code's own byte.
-use Prim.Native.Nat.{ℕ, zero, suc, _+_, _≤_, _<_}
+-- A word's text by its code: the name of the symbol at that place, or else the code's byte.
+use Prim.Native.Nat.{ℕ, zero, suc, _+_, _-_, _≤_, _<_}
 use mathlib.Core.Path.{_≡_, refl, sym, ap, _∙_}
 use mathlib.Core.Bool.{true, false}
 use mathlib.Core.List.{List, [], _∷_}
@@ -13,7 +13,7 @@ use Rattle.theory.proofs.Tests.{ltb-true}
 use Rattle.syntax.specs.declared.signature.Symbol.{Symbol}
 use Rattle.syntax.specs.declared.signature.Signature.{Signature}
 use Rattle.syntax.specs.Signatures.{symbolIn, signatureIn}
-use Rattle.syntax.specs.Codes.{codeOf, codeWord, isKnown}
+use Rattle.syntax.specs.Codes.{maxPlaces, codeOf, codeWord, isKnown}
 use Rattle.syntax.proofs.Codes.{wordOf-symbol, codeOf-wordOf}
 use Rattle.clauses.proofs.Held.{blank, name-within, count-signatureIn, symbolAt-signatureIn}
 use Rattle.text.specs.Put.{put, put-none, put-run, put-cursor}
@@ -28,15 +28,18 @@ module _ (text : List ℕ) (s : Signature) (code : ℕ) (h : WritableWord text s
       ∙ ap (λ (f : theory.Symbol). f .name) (symbolAt-signatureIn s (h .readable .limited) text code l)
 
   -- it is no symbol's place
-  pub byte-word : s .count ≤ code → wordText (signatureIn text s) (codeWord code) ≡ code ∷ []
-  byte-word l = go (codeWord code) (codeOf-wordOf code) (h .known)
-    where
-      go : (w : Word) → codeOf w ≡ code → isKnown (signatureIn text s) w ≡ true → wordText (signatureIn text s) w ≡ code ∷ []
-      go (sign true) e k = ap (λ (n : ℕ). n ∷ []) e
-      go (sign false) e k = ap (λ (n : ℕ). n ∷ []) e
-      go equals e k = ap (λ (n : ℕ). n ∷ []) e
-      go (symbol i) e k = absurd (omega (arith, ltb-true i (length (signatureIn text s)) k, count-signatureIn s (h .readable .limited) text))
-      go (letter x) e k = ap (λ (n : ℕ). n ∷ []) e
+  past-places : s .count ≤ code → (w : Word) → codeOf w ≡ code → isKnown (signatureIn text s) w ≡ true → (maxPlaces ≤ code) × (wordText (signatureIn text s) w ≡ (code - maxPlaces) ∷ [])
+  past-places l (sign true) e k = (omega arith, ap (λ (n : ℕ). (n - maxPlaces) ∷ []) e)
+  past-places l (sign false) e k = (omega arith, ap (λ (n : ℕ). (n - maxPlaces) ∷ []) e)
+  past-places l equals e k = (omega arith, ap (λ (n : ℕ). (n - maxPlaces) ∷ []) e)
+  past-places l (symbol i) e k = absurd (omega (arith, ltb-true i (length (signatureIn text s)) k, count-signatureIn s (h .readable .limited) text))
+  past-places l (letter x) e k = let b : 65 + x ≡ code - maxPlaces = omega arith in (omega arith, ap (λ (n : ℕ). n ∷ []) b)
+
+  pub byte-code : s .count ≤ code → maxPlaces ≤ code
+  byte-code l = past-places l (codeWord code) (codeOf-wordOf code) (h .known) .0
+
+  pub byte-word : s .count ≤ code → wordText (signatureIn text s) (codeWord code) ≡ (code - maxPlaces) ∷ []
+  byte-word l = past-places l (codeWord code) (codeOf-wordOf code) (h .known) .1
 
   pub name-word-length : code < s .count → getD (s .symbols) code blank .length ≡ length (wordText (signatureIn text s) (codeWord code))
   name-word-length l = sym (ap length (name-word l) ∙ name-length text (getD (s .symbols) code blank) (name-within text s (h .readable) code l))

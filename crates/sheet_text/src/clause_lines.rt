@@ -96,7 +96,7 @@ fn put_next_word(
     put_word(out, at + 1, text, signature, code)
 }
 
-// A word: a symbol's name as it stands in the text, or else the code, which is the word's byte.
+// A word: a symbol's name as it stands in the text, or else the word's byte, which its code has behind the places.
 fn put_word(out: &mut [u8], at: usize, text: &[u8], signature: Signature, code: u8) -> usize
     requires { ⌜ WritableWord (now text) signature code × (at + length (wordText (signatureIn (now text) signature) (codeWord code)) ≤ length (now out)) ⌝ }
     ensures written { λ r. ⌜ now (out .exit) ≡ put (now (out .entry)) at (wordText (signatureIn (now (text .entry)) signature) (codeWord code)) ⌝ }
@@ -106,6 +106,6 @@ fn put_word(out: &mut [u8], at: usize, text: &[u8], signature: Signature, code: 
     if place < signature.count {
         return put_name(out, at, text, signature.symbols[place]);
     }
-    out[at] = code;
+    out[at] = code - ClauseWords::MAX_PLACES;
     at + 1
 }

@@ -18,7 +18,7 @@ ghost use Rattle.sheet_text.specs.Parts.{ShortNames, Span, between, head
 pub fn head_length(signature: Signature, functions: usize, clauses: u32) -> usize
     requires { ⌜ ShortNames signature × (functions ≤ signature .count) ⌝ }
     ensures length { λ r. ⌜ ((text : List ℕ) → Readable text signature → r ≡ length (headText (signatureIn text signature) functions clauses)) ⌝ }
-    ensures short { λ r. ⌜ r ≤ 1024 ⌝ }
+    ensures short { λ r. ⌜ r ≤ 2048 ⌝ }
 {
     let count = signature.count;
     let function_lines = kind_length(signature, b"funs=", b"fun=", 0, functions);

@@ -1,5 +1,5 @@
 -- Clause words that are a clause: the clause's words are theirs, and its variables.
-use Prim.Native.Nat.{ℕ, suc, _≤_, _<_}
+use Prim.Native.Nat.{ℕ, _≤_}
 use mathlib.Core.Path.{_≡_, refl, sym, ap, _∙_}
 use mathlib.Core.Bool.{true}
 use mathlib.Core.Option.{some}
@@ -12,7 +12,7 @@ use Rattle.theory.proofs.Lists.{concatMap-append}
 use Rattle.theory.specs.Claims.Grammar.{isDeclared}
 use Rattle.theory.proofs.Grammar.{clause-passed, clause-read, readClause-sound}
 use Rattle.syntax.specs.declared.words.ClauseWords.{ClauseWords}
-use Rattle.syntax.specs.Codes.{wordsIn, clauseIn, isKnown, IsClause}
+use Rattle.syntax.specs.Codes.{maxPlaces, wordsIn, clauseIn, isKnown, IsClause}
 use Rattle.syntax.specs.Variables.{letterOf, lettersOf, variablesIn, CodesBelow}
 use Rattle.syntax.proofs.Codes.{known-declared, known-at, known-below}
 
@@ -63,7 +63,7 @@ module _ (g : Signature) (w : ClauseWords) (h : IsClause g w) where
   unfolding variablesIn
   variables-clauseIn = ap distinct (sym (clause-letters (clauseIn g w)) ∙ ap lettersOf clauseWords-clauseIn)
 
-  pub codesBelow : length g ≤ 24 → w .count ≤ length (w .words) → CodesBelow w
+  pub codesBelow : length g ≤ maxPlaces → w .count ≤ length (w .words) → CodesBelow w
   codesBelow small fits i l = known-below g small _ (known-at w fits g i (h .known) l)
 
 -- clause words that stand for the words of a clause are that clause

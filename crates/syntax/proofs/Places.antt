@@ -18,12 +18,12 @@ use Rattle.theory.proofs.Finding.{placeThat-some, any→placeThat, any→placeT
 use Rattle.theory.proofs.Distinct.{elem-any, distinct-new, distinct-old, distinct-elem, length-distinct}
 use Rattle.syntax.specs.declared.words.ClauseWords.{ClauseWords}
 use Rattle.syntax.specs.declared.variables.Variables.{Variables}
-use Rattle.syntax.specs.Codes.{codeWord, codeOf, wordsIn}
+use Rattle.syntax.specs.Codes.{letterCode, pastLetters, codeWord, codeOf, wordsIn}
 use Rattle.syntax.specs.Variables.{letterOf, lettersOf, isLetter, placeOr8, Places, variablesIn}
 use Rattle.syntax.proofs.Codes.{wordOf-letter, codeOf-wordOf}
 
 -- a code below that of A is of no letter
-no-letter : (n : ℕ) → n < 65 → letterOf (codeWord n) ≡ []
+no-letter : (n : ℕ) → n < letterCode → letterOf (codeWord n) ≡ []
 no-letter n h = go (codeWord n) (codeOf-wordOf n)
   where
     go : (w : Word) → codeOf w ≡ n → letterOf w ≡ []
@@ -38,7 +38,7 @@ module _ (xs : List ℕ) (letters : all isLetter xs ≡ true) (v : Variables) (h
   few = length-distinct 8 xs letters
 
   -- a word that is no letter adds none
-  pub none-added : (n : ℕ) → n < 65 → Places (distinct (xs ++ letterOf (codeWord n))) v
+  pub none-added : (n : ℕ) → n < letterCode → Places (distinct (xs ++ letterOf (codeWord n))) v
   none-added n l = subst (λ (ys : List ℕ). Places (distinct ys) v) (sym (ap (λ (ys : List ℕ). xs ++ ys) (no-letter n l) ∙ append-nil xs)) h
 
   unplaced-none : (x : ℕ) → elem x xs ≡ false → placeThat (eqb x) (distinct xs) ≡ none
@@ -58,9 +58,9 @@ module _ (xs : List ℕ) (letters : all isLetter xs ≡ true) (v : Variables) (h
       omega (arith, h .places x l, ap placeOr8 (r .1), s .0, few))
 
   -- nor does a letter that has a place
-  pub old-added : (n : ℕ) → 65 ≤ n → n < 73 → getD (v .place) (n - 65) 0 < 8 → Places (distinct (xs ++ letterOf (codeWord n))) v
+  pub old-added : (n : ℕ) → letterCode ≤ n → n < pastLetters → getD (v .place) (n - letterCode) 0 < 8 → Places (distinct (xs ++ letterOf (codeWord n))) v
   old-added n l k p =
-      subst (λ (ys : List ℕ). Places ys v) (sym (ap (λ (w : Word). distinct (xs ++ letterOf w)) (wordOf-letter n l) ∙ distinct-old xs (n - 65) (placed-elem (n - 65) (omega arith) p))) h
+      subst (λ (ys : List ℕ). Places ys v) (sym (ap (λ (w : Word). distinct (xs ++ letterOf w)) (wordOf-letter n l) ∙ distinct-old xs (n - letterCode) (placed-elem (n - letterCode) (omega arith) p))) h
 
   -- any other gets the next one
   added : (x : ℕ) → x < 8 → elem x xs ≡ false → length (v .place) ≡ 8 → Places (distinct xs ++ (x ∷ [])) (record { place = set (v .place) x (v .count); count = v .count + 1 })
@@ -82,19 +82,19 @@ module _ (xs : List ℕ) (letters : all isLetter xs ≡ true) (v : Variables) (h
       go z m false e =
           getD-set-other (v .place) x z (v .count) 0 (eqb-ne z x e) ∙ h .places z m ∙ ap placeOr8 (sym (other z e (placeThat (eqb z) (distinct xs)) refl))
 
-  pub new-added : (n : ℕ) → 65 ≤ n → n < 73 → 8 ≤ getD (v .place) (n - 65) 0 → length (v .place) ≡ 8
-      → Places (distinct (xs ++ letterOf (codeWord n))) (record { place = set (v .place) (n - 65) (v .count); count = v .count + 1 })
+  pub new-added : (n : ℕ) → letterCode ≤ n → n < pastLetters → 8 ≤ getD (v .place) (n - letterCode) 0 → length (v .place) ≡ 8
+      → Places (distinct (xs ++ letterOf (codeWord n))) (record { place = set (v .place) (n - letterCode) (v .count); count = v .count + 1 })
   new-added n l k p q =
-      let new : elem (n - 65) xs ≡ false = unplaced (n - 65) (omega arith) p in
-      subst (λ (ys : List ℕ). Places ys (record { place = set (v .place) (n - 65) (v .count); count = v .count + 1 }))
-      (sym (ap (λ (w : Word). distinct (xs ++ letterOf w)) (wordOf-letter n l) ∙ distinct-new xs (n - 65) new)) (added (n - 65) (omega arith) new q)
+      let new : elem (n - letterCode) xs ≡ false = unplaced (n - letterCode) (omega arith) p in
+      subst (λ (ys : List ℕ). Places ys (record { place = set (v .place) (n - letterCode) (v .count); count = v .count + 1 }))
+      (sym (ap (λ (w : Word). distinct (xs ++ letterOf w)) (wordOf-letter n l) ∙ distinct-new xs (n - letterCode) new)) (added (n - letterCode) (omega arith) new q)
 
 -- there is none at first
 pub none-placed : Places [] (record { place = replicate 8 8; count = 0 })
 none-placed = record { count = refl; places = λ x l. getD-replicate 8 x 8 0 l }
 
 -- the letters of codes below 73
-letter-below : (n : ℕ) → n < 73 → all isLetter (letterOf (codeWord n)) ≡ true
+letter-below : (n : ℕ) → n < pastLetters → all isLetter (letterOf (codeWord n)) ≡ true
 letter-below n h = go (codeWord n) (codeOf-wordOf n)
   where
     go : (w : Word) → codeOf w ≡ n → all isLetter (letterOf w) ≡ true
@@ -103,7 +103,7 @@ letter-below n h = go (codeWord n) (codeOf-wordOf n)
     go (symbol i) e = refl
     go (letter x) e = and-join (ltb x 8) true (ltb-of-< x 8 (omega arith)) refl
 
-pub letters-below : (ns : List ℕ) (i : ℕ) → ((j : ℕ) → j < i → getD ns j 0 < 73) → all isLetter (lettersOf (map codeWord (take i ns))) ≡ true
+pub letters-below : (ns : List ℕ) (i : ℕ) → ((j : ℕ) → j < i → getD ns j 0 < pastLetters) → all isLetter (lettersOf (map codeWord (take i ns))) ≡ true
 letters-below [] zero h = refl
 letters-below [] (suc i) h = refl
 letters-below (n ∷ ns) zero h = refl

@@ -11,17 +11,41 @@ use Rattle.theory.specs.Grammar.{Word, sign, equals, symbol, letter, clause, gr
 use Rattle.theory.specs.Problem.{maxWords}
 use Rattle.syntax.specs.declared.words.ClauseWords.{ClauseWords}
 
--- the code of a word: a symbol's place, or the word's byte
+-- the places that symbols may have: the codes of all other words are behind them
+abbrev pub maxPlaces : ℕ
+maxPlaces = 128
+
+-- the code of a word that is no symbol: its byte, behind the places
+abbrev pub fixedCode : ℕ → ℕ
+fixedCode b = maxPlaces + b
+
+-- the codes of +, - and =, that of the letter A, which the others follow, and the one after H's
+abbrev pub plusCode : ℕ
+plusCode = fixedCode 43
+
+abbrev pub minusCode : ℕ
+minusCode = fixedCode 45
+
+abbrev pub equalsCode : ℕ
+equalsCode = fixedCode 61
+
+abbrev pub letterCode : ℕ
+letterCode = fixedCode 65
+
+abbrev pub pastLetters : ℕ
+pastLetters = letterCode + 8
+
+-- the code of a word: a symbol's place, or the code of the word's byte
 abbrev pub codeOf : Word → ℕ
-codeOf (sign true) = 43
-codeOf (sign false) = 45
-codeOf equals = 61
+codeOf (sign true) = plusCode
+codeOf (sign false) = minusCode
+codeOf equals = equalsCode
 codeOf (symbol i) = i
-codeOf (letter x) = 65 + x
+codeOf (letter x) = letterCode + x
 
 -- the word that a code stands for
 abbrev pub codeWord : ℕ → Word
-codeWord n = cond (eqb n 43) (sign true) (cond (eqb n 45) (sign false) (cond (eqb n 61) equals (cond (ltb n 65) (symbol n) (letter (n - 65)))))
+codeWord n = cond (eqb n plusCode) (sign true) (cond (eqb n minusCode) (sign false) (cond (eqb n equalsCode) equals (cond (ltb n letterCode) (symbol n) (letter (n - letterCode)))))
 
 -- the words that clause words stand for
 abbrev pub wordsIn : ClauseWords → List Word

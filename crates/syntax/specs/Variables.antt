@@ -10,7 +10,7 @@ use Rattle.theory.specs.Lists.{concatMap, distinct, placeThat}
 use Rattle.theory.specs.Grammar.{Word, sign, equals, symbol, letter}
 use Rattle.syntax.specs.declared.words.ClauseWords.{ClauseWords}
 use Rattle.syntax.specs.declared.variables.Variables.{Variables}
-use Rattle.syntax.specs.Codes.{wordsIn}
+use Rattle.syntax.specs.Codes.{pastLetters, wordsIn}
 
 -- the letter of a word, if it is one
 abbrev pub letterOf : Word → List ℕ
@@ -33,7 +33,7 @@ variablesIn w = distinct (lettersOf (wordsIn w))
 
 -- no code is past that of the letter H
 abbrev pub CodesBelow : ClauseWords → Type 0
-CodesBelow w = (i : ℕ) → i < w .count → getD (w .words) i 0 < 73
+CodesBelow w = (i : ℕ) → i < w .count → getD (w .words) i 0 < pastLetters
 
 -- the place, or 8 for none
 abbrev pub placeOr8 : Option ℕ → ℕ

@@ -2,5 +2,6 @@
 pub mod limits;
 pub mod signature;
 pub mod size;
+pub mod terms;
 pub mod variables;
 pub mod words;

@@ -1,13 +1,19 @@
 // A problem (document 01: a sheet) and its limits.
 use crate::signature::Signature;
+use crate::terms::FixedTerms;
 
-// The sheet's bytes are not held: a name and a clause are places in them.
+// The sheet's bytes are not held: a name, a clause and a fixed term are places in them.
 pub struct Problem {
+    // the declared symbols, and the helpers behind them
     pub signature: Signature,
+    // the functions, helpers included
     pub functions: usize,
     // where the value of each clause line starts
     pub clauses: [usize; Problem::MAX_CLAUSES],
+    // all clauses: the helpers' own, then those of the lines
     pub count: usize,
+    // the terms that the helpers stand for
+    pub terms: FixedTerms,
 }
 
 impl Problem {
@@ -17,7 +23,12 @@ impl Problem {
     // the functions, and as many predicates
     pub const MAX_OF_A_KIND: usize = 12;
 
-    pub const MAX_SYMBOLS: usize = 2 * Self::MAX_OF_A_KIND;
+    pub const MAX_DECLARED: usize = 2 * Self::MAX_OF_A_KIND;
+
+    // the helper constants
+    pub const MAX_HELPERS: usize = 32;
+
+    pub const MAX_SYMBOLS: usize = Self::MAX_DECLARED + Self::MAX_HELPERS;
 
     // the bytes of a name
     pub const MAX_NAME: usize = 12;
@@ -65,8 +76,8 @@ impl Problem {
     // the cells of one symbol
     pub const MAX_TABLE: usize = Self::MAX_SIZE * Self::MAX_SIZE * Self::MAX_SIZE;
 
-    // the cells of all symbols
-    pub const MAX_CELLS: usize = Self::MAX_SYMBOLS * Self::MAX_TABLE;
+    // the cells of all symbols: a helper has one
+    pub const MAX_CELLS: usize = Self::MAX_DECLARED * Self::MAX_TABLE + Self::MAX_HELPERS;
 
     // the propositional variables of one symbol
     pub const MAX_TABLE_BITS: usize = Self::MAX_TABLE * Self::MAX_SIZE;

@@ -2,14 +2,14 @@
 use crate::limits::Problem;
 ghost use mathlib.Core.Path.{_≡_};
 ghost use mathlib.Core.List.{[], _∷_, _++_, map};
-ghost use Prim.Native.Nat.{_+_, _*_, _<_, _≤_};
+ghost use Prim.Native.Nat.{_+_, _<_, _≤_};
 ghost use lib.ListN.{take};
-ghost use Rattle.theory.specs.Problem.{maxSymbols};
-ghost use Rattle.syntax.specs.Signatures.{aritiesOf};
+ghost use Rattle.syntax.specs.Signatures.{maxInAll, aritiesOf, declaredCount, withoutHelpers};
 
-// A function or a predicate, and the place and length of its name in the sheet.
+// A function or a predicate, whether it is a helper or declared, and the place and length of its name in the sheet.
 pub struct Symbol {
     pub function: bool,
+    pub helper: bool,
     pub arity: u8,
     pub name: usize,
     pub length: usize,
@@ -27,6 +27,7 @@ impl Signature {
         Signature {
             symbols: [Symbol {
                 function: false,
+                helper: false,
                 arity: 0,
                 name: 0,
                 length: 0,
@@ -37,7 +38,7 @@ impl Signature {
 
     // The signature with one symbol more.
     pub fn with(mut self, symbol: Symbol) -> Signature
-        requires { ⌜ self .count < 2 * maxSymbols ⌝ }
+        requires { ⌜ self .count < maxInAll ⌝ }
         ensures count { λ r. ⌜ r .count ≡ self .count + 1 ⌝ }
         ensures symbols { λ r. ⌜ take (r .count) (r .symbols) ≡ take (self .count) (self .symbols) ++ (symbol ∷ []) ⌝ }
     {
@@ -49,7 +50,7 @@ impl Signature {
 
     // The arity of each symbol, 0 past the last.
     pub fn arities(self) -> [u8; Problem::MAX_SYMBOLS]
-        requires { ⌜ self .count ≤ 2 * maxSymbols ⌝ }
+        requires { ⌜ self .count ≤ maxInAll ⌝ }
         ensures { λ r. ⌜ take (self .count) r ≡ aritiesOf (take (self .count) (self .symbols)) ⌝ }
     {
         let mut arities = [0; Problem::MAX_SYMBOLS];
@@ -59,5 +60,30 @@ impl Signature {
             i += 1;
         }
         arities
+    }
+
+    // The declared symbols: those before the first helper.
+    pub fn declared(mut self) -> Signature
+        requires { ⌜ self .count ≤ maxInAll ⌝ }
+        ensures { λ r. ⌜ r ≡ withoutHelpers self ⌝ }
+    {
+        let count = self.declared_count();
+        self.count = count;
+        self
+    }
+
+    // How many they are.
+    fn declared_count(self) -> usize
+        requires { ⌜ self .count ≤ maxInAll ⌝ }
+        ensures { λ r. ⌜ r ≡ declaredCount (take (self .count) (self .symbols)) ⌝ }
+    {
+        let mut i: usize = 0;
+        while i < self.count {
+            if self.symbols[i].helper {
+                return i;
+            }
+            i += 1;
+        }
+        i
     }
 }

@@ -7,7 +7,7 @@ ghost use mathlib.Core.List.{List, _++_};
 ghost use Prim.Native.Nat.{_≤_, _<_, ℕ};
 ghost use Rattle.theory.specs.Lists.{all, distinct};
 ghost use Rattle.theory.specs.Problem.{maxWords};
-ghost use Rattle.syntax.specs.Codes.{codeWord};
+ghost use Rattle.syntax.specs.Codes.{pastLetters, codeWord};
 ghost use Rattle.syntax.specs.Variables.{CodesBelow, Places, isLetter, letterOf, variablesIn};
 
 // How many letters the clause has, and the place of each; NONE where it does not occur.
@@ -38,7 +38,7 @@ pub fn variables_of(c: ClauseWords) -> Variables
 
 // The letters with those of one more word.
 fn with_word(mut found: Variables, word: u8) -> Variables
-    requires { ⌜ (word < 73) × (found .count ≤ maxWords) ⌝ }
+    requires { ⌜ (word < pastLetters) × (found .count ≤ maxWords) ⌝ }
     ensures { λ r. ⌜ ((xs : List ℕ) → all isLetter xs ≡ true → Places (distinct xs) found → Places (distinct (xs ++ letterOf (codeWord word))) r) ⌝ }
 {
     if word < ClauseWords::LETTER {

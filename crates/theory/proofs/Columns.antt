@@ -28,34 +28,33 @@ use Rattle.theory.proofs.SheetAgain.{sheetReading, sheet-again, problem
 use Rattle.theory.proofs.CaseAgain.{caseReading, readCase-parts, case-again}
 use Rattle.theory.proofs.ByteColumns.{beyond, sheet-can, read-again}
 
-two : (sheet : List ℕ) (l : ℕ) → readProblem sheet ≡ refused (atLine 2 (suc l)) → ByteBeyondHelp twoOn sheet l (sheetColumn sheet 2 (suc l))
+-- the columns of faults on a line
+pub two-at : (sheet : List ℕ) (l : ℕ) → LineFault sheet l 2 → ByteBeyondHelp twoOn sheet l (sheetColumn sheet 2 (suc l))
 unfolding sheetColumn lineColumn
-two sheet l e =
-    let f : LineFault sheet l 2 = sheet-fault sheet 2 l e in
-    beyond dueInSheet sheet-local sheet l (f .cuts) (sheet-can sheet l) (f .has)
+two-at sheet l f = beyond dueInSheet sheet-local sheet l (f .cuts) (sheet-can sheet l) (f .has)
 
-three : (sheet : List ℕ) (l : ℕ) → readProblem sheet ≡ refused (atLine 3 (suc l)) → OverNumber (dueInSheet sheet l) (firstLine (fromLine l sheet)) (sheetColumn sheet 3 (suc l))
+pub three-at : (sheet : List ℕ) (l : ℕ) → LineFault sheet l 3 → OverNumber (dueInSheet sheet l) (firstLine (fromLine l sheet)) (sheetColumn sheet 3 (suc l))
 unfolding sheetColumn lineColumn
-three sheet l e = sheet-fault sheet 3 l e .has
+three-at sheet l f = f .has
 
-four : (sheet : List ℕ) (l : ℕ) → readProblem sheet ≡ refused (atLine 4 (suc l)) → BadName sheet l (sheetColumn sheet 4 (suc l))
+pub four-at : (sheet : List ℕ) (l : ℕ) → LineFault sheet l 4 → BadName sheet l (sheetColumn sheet 4 (suc l))
 unfolding sheetColumn lineColumn
-four sheet l e = sheet-fault sheet 4 l e .has
+four-at sheet l f = f .has
 
-five : (sheet : List ℕ) (l : ℕ) → readProblem sheet ≡ refused (atLine 5 (suc l)) → FirstUnknown (sheetSymbols sheet) (dueInSheet sheet l) (firstLine (fromLine l sheet)) (sheetColumn sheet 5 (suc l))
+pub five-at : (sheet : List ℕ) (l : ℕ) → LineFault sheet l 5 → FirstUnknown (sheetSymbols sheet) (dueInSheet sheet l) (firstLine (fromLine l sheet)) (sheetColumn sheet 5 (suc l))
 unfolding sheetColumn lineColumn
-five sheet l e = first-unknown (sheetSymbols sheet) (dueInSheet sheet l) (firstLine (fromLine l sheet)) (sheet-fault sheet 5 l e .has .unknown)
+five-at sheet l f = first-unknown (sheetSymbols sheet) (dueInSheet sheet l) (firstLine (fromLine l sheet)) (f .has .unknown)
 
-six : (sheet : List ℕ) (l : ℕ) → readProblem sheet ≡ refused (atLine 6 (suc l)) → WordBeyondHelp (sheetSymbols sheet) (dueInSheet sheet l) (firstLine (fromLine l sheet)) (sheetColumn sheet 6 (suc l))
+pub six-at : (sheet : List ℕ) (l : ℕ) → LineFault sheet l 6 → WordBeyondHelp (sheetSymbols sheet) (dueInSheet sheet l) (firstLine (fromLine l sheet)) (sheetColumn sheet 6 (suc l))
 unfolding sheetColumn lineColumn
-six sheet l e =
-    let w = sheet-fault sheet 6 l e .has in
+six-at sheet l f =
+    let w = f .has in
     beyond-words (sheetSymbols sheet) (dueInSheet sheet l) (firstLine (fromLine l sheet)) (w .known) (w .read) (w .noClause)
 
-seven : (sheet : List ℕ) (l : ℕ) → readProblem sheet ≡ refused (atLine 7 (suc l)) → OverLimit (sheetSymbols sheet) (dueInSheet sheet l) (firstLine (fromLine l sheet)) (sheetColumn sheet 7 (suc l))
+pub seven-at : (sheet : List ℕ) (l : ℕ) → LineFault sheet l 7 → OverLimit (sheetSymbols sheet) (dueInSheet sheet l) (firstLine (fromLine l sheet)) (sheetColumn sheet 7 (suc l))
 unfolding sheetColumn lineColumn
-seven sheet l e =
-    let w = sheet-fault sheet 7 l e .has in
+seven-at sheet l f =
+    let w = f .has in
     over-limit (sheetSymbols sheet) (dueInSheet sheet l) (firstLine (fromLine l sheet)) (w .known) (w .clause) (w .read) (w .is) (w .over)
 
 twelve : (sheet case : List ℕ) (p : Problem) (l : ℕ) → readProblem sheet ≡ answer p → readCase (p .symbols) case ≡ refused (atLine 12 (suc l))
@@ -105,12 +104,12 @@ no-line sheet n = refl
 pub columns : Columns
 columns =
     record {
-      two = two;
-      three = three;
-      four = four;
-      five = five;
-      six = six;
-      seven = seven;
+      two = λ sheet l e. two-at sheet l (sheet-fault sheet 2 l e);
+      three = λ sheet l e. three-at sheet l (sheet-fault sheet 3 l e);
+      four = λ sheet l e. four-at sheet l (sheet-fault sheet 4 l e);
+      five = λ sheet l e. five-at sheet l (sheet-fault sheet 5 l e);
+      six = λ sheet l e. six-at sheet l (sheet-fault sheet 6 l e);
+      seven = λ sheet l e. seven-at sheet l (sheet-fault sheet 7 l e);
       twelve = twelve;
       givenTwo = given-two;
       givenTwelve = given-twelve;

@@ -9,16 +9,15 @@ use lib.Dec.{eqb, ltb}
 use lib.ListN.{length, drop, length-append, length-drop}
 use Rattle.theory.specs.Bytes.{space}
 use Rattle.theory.specs.Lines.{cutWords, addByte, wordsOf}
-use Rattle.theory.specs.Refusals.{refused, atLine}
-use Rattle.theory.specs.Problem.{maxWords, maxLiterals, readProblem}
+use Rattle.theory.specs.Problem.{maxWords, maxLiterals}
 use Rattle.theory.specs.LineForms.{LineForm}
 use Rattle.theory.specs.DueLines.{firstLine, fromLine, dueInSheet, sheetSymbols}
 use Rattle.theory.specs.Columns.{keyLength, wordStart, lineWords, wordColumn, sheetColumn}
 use Rattle.theory.specs.Claims.Columns.{OverNumber, WordBeyondHelp, OverLimit, WithinLine}
 use Rattle.theory.proofs.Tests.{true-or-false, lt-or-eq-or-gt}
 use Rattle.theory.proofs.Misplaced.{readAll-length}
-use Rattle.theory.proofs.SheetFaults.{HasFault, sheet-fault}
-use Rattle.theory.proofs.Columns.{columns}
+use Rattle.theory.proofs.SheetFaults.{LineFault, sheet-fault}
+use Rattle.theory.proofs.Columns.{two-at, three-at, four-at, five-at, six-at, seven-at}
 
 start-within : (v : List ℕ) (i : ℕ) → i < length (cutWords v) → wordStart i (cutWords v) ≤ length v
 start-within [] zero h = omega arith
@@ -87,19 +86,20 @@ module _ (sheet : List ℕ) (l : ℕ) where
           (omega (arith, f .2, b .0), omega (arith, f .2, b .1))
       go (inr h) = (omega (arith, o .only h), omega (arith, o .only h))
 
-  at : (n : ℕ) → readProblem sheet ≡ refused (atLine n (suc l)) → HasFault sheet n l → Within t (sheetColumn sheet n (suc l))
-  at zero e h = absurd h
-  at (suc zero) e h = absurd h
-  at (suc (suc zero)) e h = let b = columns .two sheet l e in (b .first, b .within)
-  at (suc (suc (suc zero))) e h = number-within d t _ (columns .three sheet l e)
-  at (suc (suc (suc (suc zero)))) e h = let b = columns .four sheet l e .here in behind-key (b .key) _ t _ (b .behind) (b .whole)
-  at (suc (suc (suc (suc (suc zero))))) e h =
-      let u = columns .five sheet l e in
+  -- the column of a fault on a line
+  pub fault-within : (n : ℕ) → LineFault sheet l n → Within t (sheetColumn sheet n (suc l))
+  fault-within zero f = absurd (f .has)
+  fault-within (suc zero) f = absurd (f .has)
+  fault-within (suc (suc zero)) f = let b = two-at sheet l f in (b .first, b .within)
+  fault-within (suc (suc (suc zero))) f = number-within d t _ (three-at sheet l f)
+  fault-within (suc (suc (suc (suc zero)))) f = let b = four-at sheet l f .here in behind-key (b .key) _ t _ (b .behind) (b .whole)
+  fault-within (suc (suc (suc (suc (suc zero))))) f =
+      let u = five-at sheet l f in
       let b = word-within d t (u .place) (u .among) in
       (omega (arith, u .atWord, b .0), omega (arith, u .atWord, b .1))
-  at (suc (suc (suc (suc (suc (suc zero)))))) e h = clause-within _ (columns .six sheet l e)
-  at (suc (suc (suc (suc (suc (suc (suc zero))))))) e h = limit-within _ (columns .seven sheet l e)
-  at (suc (suc (suc (suc (suc (suc (suc (suc n)))))))) e h = absurd h
+  fault-within (suc (suc (suc (suc (suc (suc zero)))))) f = clause-within _ (six-at sheet l f)
+  fault-within (suc (suc (suc (suc (suc (suc (suc zero))))))) f = limit-within _ (seven-at sheet l f)
+  fault-within (suc (suc (suc (suc (suc (suc (suc (suc n)))))))) f = absurd (f .has)
 
 pub within : WithinLine
-within sheet n l e = at sheet l n e (sheet-fault sheet n l e .has)
+within sheet n l e = fault-within sheet l n (sheet-fault sheet n l e)

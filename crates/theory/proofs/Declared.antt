@@ -43,8 +43,13 @@ module _ (g : Signature) (i n : ℕ) where
   pub predicateOf→ : predicateOf g i n ≡ true → Declared g i predicate n
   predicateOf→ h = declared (isPredicate (symbolAt g i .kind)) predicate (predicate-kind (symbolAt g i .kind)) h
 
-  -- and the other way: a function of n arguments passes its test
+  -- and the other way: a function, and a predicate, of n arguments passes its test
   pub →functionOf : Declared g i function n → functionOf g i n ≡ true
   →functionOf d =
       and-join (within && isFunction (symbolAt g i .kind)) fits
       (and-join within (isFunction (symbolAt g i .kind)) (ltb-of-< i (length g) (d .below)) (ap isFunction (d .kind))) (eqb-of-≡ n (symbolAt g i .arity) (d .arity))
+
+  pub →predicateOf : Declared g i predicate n → predicateOf g i n ≡ true
+  →predicateOf d =
+      and-join (within && isPredicate (symbolAt g i .kind)) fits
+      (and-join within (isPredicate (symbolAt g i .kind)) (ltb-of-< i (length g) (d .below)) (ap isPredicate (d .kind))) (eqb-of-≡ n (symbolAt g i .arity) (d .arity))

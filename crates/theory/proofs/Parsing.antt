@@ -12,7 +12,7 @@ use lib.Seq.{getD-append-seam}
 use Rattle.theory.specs.Lists.{all, same, prefix}
 use Rattle.theory.specs.Bytes.{bytes, zeroDigit, isDigit}
 use Rattle.theory.specs.Lines.{Cut, wordsOf}
-use Rattle.theory.specs.Syntax.{Kind, function, predicate, isFunction, isPredicate, Symbol, Signature, noSymbol, symbolAt, Clause, clauseOk, functions}
+use Rattle.theory.specs.Syntax.{Kind, function, predicate, isFunction, isPredicate, declared, isFromSheet, Symbol, Signature, allDeclared, noSymbol, symbolAt, Clause, clauseOk, functions}
 use Rattle.theory.specs.Grammar.{Word, sign, equals, symbol, letter, clauseWords, readClause}
 use Rattle.theory.specs.Refusals.{answer, atLine, unplaced}
 use Rattle.theory.specs.Problem.{countLine, isNameByte, isName, symbolOf, isNamed, symbolLines, placeOfName, nameWord, wordOf, readAll, withinLimits, clauseOf, clauseLines, Problem, readProblem}
@@ -40,14 +40,16 @@ pub record Added (k : Kind) (n : ℕ) (g r : Signature) : Type 0 where
   pub counted : length added ≡ n
   pub kinds : all (λ (f : Symbol). isKind k (f .kind)) added ≡ true
   pub shaped : all symbolOk added ≡ true
+  pub origins : allDeclared added ≡ true
   pub differ : NamesDiffer g → NamesDiffer r
 
-symbolOf-kind : (k : Kind) (v : List ℕ) (f : Symbol) → symbolOf k v ≡ some f → isKind k (f .kind) ≡ true
-symbolOf-kind k v f e = go (leb 2 (length v) && eqb (getD v (length v - 2) 0) 47 && isDigit (getD v (suc (length v - 2)) 0)) e
+-- a symbol of this kind that is read passes a test that every declared one passes
+symbolOf-passes : (q : Symbol → Bool) (k : Kind) → ((w : List ℕ) (n : ℕ) → q (record { kind = k; name = w; arity = n; origin = declared }) ≡ true) → (v : List ℕ) (f : Symbol) → symbolOf k v ≡ some f → q f ≡ true
+symbolOf-passes q k h v f e = go (leb 2 (length v) && eqb (getD v (length v - 2) 0) 47 && isDigit (getD v (suc (length v - 2)) 0)) e
   where
-    go : (b : Bool) → cond b (some (record { kind = k; name = take (length v - 2) v; arity = getD v (suc (length v - 2)) 0 - zeroDigit })) none ≡ some f → isKind k (f .kind) ≡ true
+    go : (b : Bool) → cond b (some (record { kind = k; name = take (length v - 2) v; arity = getD v (suc (length v - 2)) 0 - zeroDigit; origin = declared })) none ≡ some f → q f ≡ true
     go true e =
-        ap (λ (f : Symbol). isKind k (f .kind)) (sym (Option·some-injective (record { kind = k; name = take (length v - 2) v; arity = getD v (suc (length v - 2)) 0 - zeroDigit }) f e)) ∙ isKind-refl k
+        ap q (sym (Option·some-injective (record { kind = k; name = take (length v - 2) v; arity = getD v (suc (length v - 2)) 0 - zeroDigit; origin = declared }) f e)) ∙ h (take (length v - 2) v) (getD v (suc (length v - 2)) 0 - zeroDigit)
     go false e = let z : _≡_ {A = ℕ} 0 1 = cc in absurd (omega arith)
 
 differ-snoc : (g : Signature) (f : Symbol) → isNamed (f .name) g ≡ false → NamesDiffer g → NamesDiffer (g ++ (f ∷ []))
@@ -84,6 +86,7 @@ symbolLines-added zero key k g l text r e =
       counted = refl;
       kinds = refl;
       shaped = refl;
+      origins = refl;
       differ = λ d. subst NamesDiffer q d;
     }
 symbolLines-added (suc n) key k g l text r e =
@@ -101,10 +104,13 @@ symbolLines-added (suc n) key k g l text r e =
           added = f ∷ ih .added;
           whole = ih .whole ∙ append-assoc g (f ∷ []) (ih .added);
           counted = ap suc (ih .counted);
-          kinds = and-join (isKind k (f .kind)) (all (λ (f : Symbol). isKind k (f .kind)) (ih .added)) (symbolOf-kind k v f a) (ih .kinds);
+          kinds = and-join (isKind k (f .kind)) (all (λ (f : Symbol). isKind k (f .kind)) (ih .added)) (symbolOf-passes (λ (f : Symbol). isKind k (f .kind)) k (λ w n. isKind-refl k) v f a) (ih .kinds);
           shaped =
               and-join (symbolOk f) (all symbolOk (ih .added))
               (and-join (leb (f .arity) 3) (isName (f .name)) b (and-left (isName (f .name)) (not (isNamed (f .name) g)) c)) (ih .shaped);
+          origins =
+              and-join (isFromSheet (f .origin)) (allDeclared (ih .added))
+              (symbolOf-passes (λ (f : Symbol). isFromSheet (f .origin)) k (λ w n. refl) v f a) (ih .origins);
           differ = λ d. ih .differ (differ-snoc g f (false-of-not (isNamed (f .name) g) (and-right (isName (f .name)) (not (isNamed (f .name) g)) c)) d);
         }
 
@@ -194,7 +200,7 @@ countLine-limit key limit l text r e =
     subst (λ (m : ℕ). m ≤ limit) (ap (λ (r : ℕ × List ℕ). r .0) (answer-inj (n, p .1) r e₃)) (leb-true n limit (check-true (leb n limit) (atLine 3 l) u h₃))
 
 -- every problem that is read is well-formed
-well-formed : (f p c : ℕ) (fs g : Signature) (cs : List Clause) → f ≤ 12 → p ≤ 12 → c ≤ 64 → Added function f [] fs → Added predicate p fs g → (length cs ≡ c) × (all (clauseAccepted g) cs ≡ true)
+pub well-formed : (f p c : ℕ) (fs g : Signature) (cs : List Clause) → f ≤ 12 → p ≤ 12 → c ≤ 64 → Added function f [] fs → Added predicate p fs g → (length cs ≡ c) × (all (clauseAccepted g) cs ≡ true)
     → WellFormed (record { symbols = g; clauses = cs })
 well-formed f p c fs g cs hf hp hc af ap′ h =
     let e : fs ≡ af .added = af .whole in
@@ -209,6 +215,7 @@ well-formed f p c fs g cs hf hp hc af ap′ h =
       predicate-count = omega (arith, ap′ .counted);
       symbols-ok = ap (all symbolOk) s ∙ all-append symbolOk (af .added) (ap′ .added) ∙ and-join (all symbolOk (af .added)) (all symbolOk (ap′ .added)) (af .shaped) (ap′ .shaped);
       names-differ = ap′ .differ (af .differ (λ i j hi. absurd (omega arith)));
+      origins = ap allDeclared s ∙ all-append (λ (f : Symbol). isFromSheet (f .origin)) (af .added) (ap′ .added) ∙ and-join (allDeclared (af .added)) (allDeclared (ap′ .added)) (af .origins) (ap′ .origins);
       clause-count = omega (arith, h .0);
       clauses-accepted = h .1;
     }

@@ -16,11 +16,11 @@ pub record PlacedRefusal {A : Type 0} (column : ℕ → ℕ → ℕ) (m : Answer
   pub placed : withColumn (column (plain .number) (plain .place .line)) plain ≡ r
 
 module _ {A : Type 0} (column : ℕ → ℕ → ℕ) where
-  answered : (m : Answer A) (a : A) → withColumns column m ≡ answer a → m ≡ answer a
+  pub answered : (m : Answer A) (a : A) → withColumns column m ≡ answer a → m ≡ answer a
   answered (answer b) a e = e
   answered (refused q) a e = absurd (answer≢refused a _ (sym e))
 
-  refusal : (m : Answer A) (r : Refusal) → withColumns column m ≡ refused r → PlacedRefusal column m r
+  pub refusal : (m : Answer A) (r : Refusal) → withColumns column m ≡ refused r → PlacedRefusal column m r
   refusal (answer a) r e = absurd (answer≢refused a r e)
   refusal (refused q) r e = record { plain = q; refuses = refl; placed = refused-inj {A = A} _ r e }
 

@@ -59,11 +59,11 @@ too-long sheet h =
     problem-refused sheet (unplaced 1)
     (bind-refused (check (leb (length sheet) maxBytes) (unplaced 1)) _ (unplaced 1) (check-of-false (leb (length sheet) maxBytes) (unplaced 1) (leb-of-< (length sheet) maxBytes h)))
 
--- a refusal of a sheet is one at its line
-at-its-line : (r : Refusal) → OfSheet r → r ≡ atLine (r .number) (r .place .line)
-at-its-line r h =
-    ap (λ (c : ℕ). record { number = r .number; place = record { line = r .place .line; column = c }; needed = r .needed }) (h .column)
-    ∙ ap (λ (m : ℕ). record { number = r .number; place = record { line = r .place .line; column = 0 }; needed = m }) (h .needed)
+-- a refusal without column and length is one at its line
+pub at-its-line : (r : Refusal) → r .place .column ≡ 0 → r .needed ≡ 0 → r ≡ atLine (r .number) (r .place .line)
+at-its-line r c n =
+    ap (λ (c : ℕ). record { number = r .number; place = record { line = r .place .line; column = c }; needed = r .needed }) c
+    ∙ ap (λ (m : ℕ). record { number = r .number; place = record { line = r .place .line; column = 0 }; needed = m }) n
 
 column-near : (sheet : List ℕ) (n l : ℕ) → readProblem sheet ≡ refused (atLine n l) → sheetColumn sheet n l ≤ 16385
 unfolding sheetColumn
@@ -78,8 +78,9 @@ refusal-told sheet r e =
     let q = plain-problem sheet r e in
     let number : q .plain .number ≡ r .number = ap (λ (r : Refusal). r .number) (q .placed) in
     let line : q .plain .place .line ≡ r .place .line = ap (λ (r : Refusal). r .place .line) (q .placed) in
-    let column : sheetColumn sheet (q .plain .number) (q .plain .place .line) ≡ r .place .column = ap (λ (r : Refusal). r .place .column) (q .placed) in (
-      q .refuses ∙ ap refused (at-its-line (q .plain) (sheet-refusal sheet (q .plain) (q .refuses))) ∙ ap (λ (n : ℕ). refused (atLine n (q .plain .place .line))) number
+    let column : sheetColumn sheet (q .plain .number) (q .plain .place .line) ≡ r .place .column = ap (λ (r : Refusal). r .place .column) (q .placed) in
+    let of : OfSheet (q .plain) = sheet-refusal sheet (q .plain) (q .refuses) in (
+      q .refuses ∙ ap refused (at-its-line (q .plain) (of .column) (of .needed)) ∙ ap (λ (n : ℕ). refused (atLine n (q .plain .place .line))) number
           ∙ ap (λ (l : ℕ). refused (atLine (r .number) l)) line,
       ap (λ (l : ℕ). sheetColumn sheet (r .number) l) (sym line) ∙ ap (λ (n : ℕ). sheetColumn sheet n (q .plain .place .line)) (sym number) ∙ column,
     )

@@ -102,8 +102,11 @@ settled-search p low high le none h e =
     }
 settled-search p low high le (some k) h e = let z : _≡_ {A = ℕ} 0 1 = cc in absurd (omega arith)
 
+-- a search that found none and is settled
+pub none-settled : (p : Problem) (low high : ℕ) → all (clauseOk (p .symbols)) (p .clauses) ≡ true → Searched p low high (nothing true) → Unsatisfiable p
+none-settled p low high ok r = unsatisfiable p ok high (settled-search p low high (r .ordered) (smallestModel p low high) refl (r .result))
+
 -- the theorem
 pub settling : SettlingHolds
 settling sheet p low high work room read e =
-    let r : Searched p low high (nothing true) = searched sheet p low high work room (nothing true) read e in
-    unsatisfiable p (clauses-ok p (readProblem-wellFormed sheet p read)) high (settled-search p low high (r .ordered) (smallestModel p low high) refl (r .result))
+    none-settled p low high (clauses-ok p (readProblem-wellFormed sheet p read)) (searched sheet p low high work room (nothing true) read e)

@@ -84,14 +84,14 @@ module _ (text : List ℕ) where
   LineFaults r = (l : ℕ) → r .place .line ≡ suc l → LineFault l (r .number)
 
   -- a refusal on a line
-  site : (n l m : ℕ) (t : List ℕ) → l ≡ suc m → ReadUpTo text m t → HasFault n m → LineFaults (atLine n l)
+  pub site : (n l m : ℕ) (t : List ℕ) → l ≡ suc m → ReadUpTo text m t → HasFault n m → LineFaults (atLine n l)
   site n l m t e a f i h = let q : m ≡ i = omega (arith, e, h) in subst (λ (k : ℕ). LineFault k n) q (record { cuts = a .cuts; has = f })
 
   -- a line that is not as laid out
   not-laid : (l m : ℕ) (t : List ℕ) (d : LineForm) → l ≡ suc m → ReadUpTo text m t → dueInSheet text m ≡ d → isLaidOut d t ≡ false → LineFaults (atLine 2 l)
   not-laid l m t d e a q h = site 2 l m t e a (ap (λ (d : LineForm). isLaidOut d (fromLine m text)) q ∙ ap (isLaidOut d) (a .here) ∙ h)
 
-  keyLine-faults : (key : List ℕ) (x : ValueForm) (l m : ℕ) (t : List ℕ) → l ≡ suc m → ReadUpTo text m t → dueInSheet text m ≡ keyed key x → RefusedSo LineFaults (keyLine key l t)
+  pub keyLine-faults : (key : List ℕ) (x : ValueForm) (l m : ℕ) (t : List ℕ) → l ≡ suc m → ReadUpTo text m t → dueInSheet text m ≡ keyed key x → RefusedSo LineFaults (keyLine key l t)
   unfolding isLaidOut
   keyLine-faults key x l m t e a d =
       bind-so LineFaults (orRefuse (cutLine t) (atLine 2 l)) _
@@ -134,7 +134,7 @@ module _ (text : List ℕ) where
       (λ _ _. symbolLines-faults n key k (g ++ (f ∷ [])) (suc l) (suc m) (p .1) (ap suc e) (at-next text m key t (p .0) (p .1) a y) d₊ (named-one text key k g m t (p .0) (p .1) f a d₀ y s b)))))
 
   -- the value of a clause line
-  clauseOf-faults : (g : Signature) (l m : ℕ) (t v rest : List ℕ) → l ≡ suc m → ReadUpTo text m t → KeyCut (bytes "clause=") t v rest → g ≡ sheetSymbols text → dueInSheet text m ≡ clauseForm
+  pub clauseOf-faults : (g : Signature) (l m : ℕ) (t v rest : List ℕ) → l ≡ suc m → ReadUpTo text m t → KeyCut (bytes "clause=") t v rest → g ≡ sheetSymbols text → dueInSheet text m ≡ clauseForm
       → RefusedSo LineFaults (clauseOf g l v)
   unfolding clauseOf
   clauseOf-faults g l m t v rest e a y q d =
@@ -172,7 +172,7 @@ module _ (text : List ℕ) where
   heading-faults a h e =
       not-laid 1 0 text (keyed (bytes "sheet=1") noBytes) refl (record { cuts = tt; here = refl }) refl (key-form (bytes "sheet=1") text (a .0) (a .1) noBytes (key-cut (bytes "sheet=1") 1 text a h) ∙ e)
 
-  end-faults : (l m : ℕ) (t : List ℕ) → l ≡ suc m → ReadUpTo text m t → dueInSheet text m ≡ noLine → RefusedSo LineFaults (nothingLeft l t)
+  pub end-faults : (l m : ℕ) (t : List ℕ) → l ≡ suc m → ReadUpTo text m t → dueInSheet text m ≡ noLine → RefusedSo LineFaults (nothingLeft l t)
   unfolding isLaidOut
   end-faults l m t e a d = check-so LineFaults (same t []) (atLine 2 l) (not-laid l m t noLine e a d)
 

@@ -10,7 +10,7 @@ use lib.ListN.{length, getD, take, drop}
 use lib.Seq.{drop-at}
 use Rattle.theory.specs.Lists.{orZero}
 use Rattle.theory.specs.Bytes.{bytes, zeroDigit, isDigit}
-use Rattle.theory.specs.Syntax.{Kind, function, predicate, Symbol, Signature, Clause}
+use Rattle.theory.specs.Syntax.{Kind, function, predicate, declared, Symbol, Signature, Clause}
 use Rattle.theory.specs.Refusals.{answer, atLine}
 use Rattle.theory.specs.Lines.{Cut, cutLine, afterKey, countOf}
 use Rattle.theory.specs.Problem.{keyLine, countLine, symbolOf, symbolLines, clauseLines}
@@ -25,7 +25,7 @@ pub any-kind : (k : Kind) (v : List ℕ) → isSome (symbolOf function v) ≡ is
 any-kind k v =
     let n : ℕ = length v - 2 in
     let d : ℕ = getD v (suc n) 0 in
-    go (leb 2 (length v) && eqb (getD v n 0) 47 && isDigit d) (record { kind = function; name = take n v; arity = d - zeroDigit }) (record { kind = k; name = take n v; arity = d - zeroDigit })
+    go (leb 2 (length v) && eqb (getD v n 0) 47 && isDigit d) (record { kind = function; name = take n v; arity = d - zeroDigit; origin = declared }) (record { kind = k; name = take n v; arity = d - zeroDigit; origin = declared })
   where
     go : (b : Bool) (f g : Symbol) → isSome (cond b (some f) none) ≡ isSome (cond b (some g) none)
     go true f g = refl

@@ -11,7 +11,7 @@ use lib.Seq.{getD-append-seam}
 use Rattle.theory.specs.Lists.{all, same, select, concatMap, upTo}
 use Rattle.theory.specs.Bytes.{bytes, LF, zeroDigit, isDigit, decimal}
 use Rattle.theory.specs.Lines.{cutLine, afterKey, countOf}
-use Rattle.theory.specs.Syntax.{Kind, function, predicate, isFunction, isPredicate, Symbol, Signature, noSymbol, symbolAt, Clause, functions, predicates}
+use Rattle.theory.specs.Syntax.{Kind, function, predicate, isFunction, isPredicate, Origin, declared, helper, isFromSheet, Symbol, Signature, allDeclared, noSymbol, symbolAt, Clause, functions, predicates}
 use Rattle.theory.specs.Problem.{keyLine, countLine, isName, symbolOf, isNamed, symbolLines, clauseLines, Problem, readProblem}
 use Rattle.theory.specs.Refusals.{answer, atLine, unplaced}
 use Rattle.theory.specs.WellFormed.{symbolOk, clauseAccepted, WellFormed, NamesDiffer}
@@ -75,8 +75,12 @@ kind-of : (k l : Kind) → isKind k l ≡ true → l ≡ k
 kind-of function l h = function-kind l h
 kind-of predicate l h = predicate-kind l h
 
+origin-of : (o : Origin) → isFromSheet o ≡ true → o ≡ declared
+origin-of declared h = refl
+origin-of helper h = absurd (false≢true h)
+
 -- a name, / and a digit d are read as these
-pub symbol-made : (k : Kind) (w : List ℕ) (d : ℕ) → 48 ≤ d → d < 58 → symbolOf k (w ++ (47 ∷ d ∷ [])) ≡ some (record { kind = k; name = w; arity = d - zeroDigit })
+pub symbol-made : (k : Kind) (w : List ℕ) (d : ℕ) → 48 ≤ d → d < 58 → symbolOf k (w ++ (47 ∷ d ∷ [])) ≡ some (record { kind = k; name = w; arity = d - zeroDigit; origin = declared })
 symbol-made k w d lo hi = found (length (w ++ (47 ∷ d ∷ [])) - 2) n
   where
     v : List ℕ
@@ -95,23 +99,24 @@ symbol-made k w d lo hi = found (length (w ++ (47 ∷ d ∷ [])) - 2) n
     digit = and-join (leb 48 d) (ltb d 58) (leb-of-≤ 48 d lo) (ltb-of-< d 58 hi)
 
     tested : ℕ → ℕ → ℕ → Option Symbol
-    tested x y m = cond (leb 2 (length v) && eqb x 47 && isDigit y) (some (record { kind = k; name = take m v; arity = y - zeroDigit })) none
+    tested x y m = cond (leb 2 (length v) && eqb x 47 && isDigit y) (some (record { kind = k; name = take m v; arity = y - zeroDigit; origin = declared })) none
 
-    found : (m : ℕ) → m ≡ length w → tested (getD v m 0) (getD v (suc m) 0) m ≡ some (record { kind = k; name = w; arity = d - zeroDigit })
+    found : (m : ℕ) → m ≡ length w → tested (getD v m 0) (getD v (suc m) 0) m ≡ some (record { kind = k; name = w; arity = d - zeroDigit; origin = declared })
     found m e =
         ap (λ (m : ℕ). tested (getD v m 0) (getD v (suc m) 0) m) e
         ∙ ap (λ (x : ℕ). tested x (getD v (suc (length w)) 0) (length w)) (getD-append-seam w 47 (d ∷ []) 0)
         ∙ ap (λ (y : ℕ). tested 47 y (length w)) (last-byte w 47 d)
-        ∙ ap (λ (q : Bool). cond (q && true && isDigit d) (some (record { kind = k; name = take (length w) v; arity = d - zeroDigit })) none) enough
-        ∙ ap (λ (q : Bool). cond q (some (record { kind = k; name = take (length w) v; arity = d - zeroDigit })) none) digit
-        ∙ ap (λ (u : List ℕ). some (record { kind = k; name = u; arity = d - zeroDigit })) (name-taken w 47 d)
+        ∙ ap (λ (q : Bool). cond (q && true && isDigit d) (some (record { kind = k; name = take (length w) v; arity = d - zeroDigit; origin = declared })) none) enough
+        ∙ ap (λ (q : Bool). cond q (some (record { kind = k; name = take (length w) v; arity = d - zeroDigit; origin = declared })) none) digit
+        ∙ ap (λ (u : List ℕ). some (record { kind = k; name = u; arity = d - zeroDigit; origin = declared })) (name-taken w 47 d)
 
-symbol-of : (k : Kind) (f : Symbol) → isKind k (f .kind) ≡ true → f .arity ≤ 3 → symbolOf k (symbolText f) ≡ some f
-symbol-of k f h le =
+symbol-of : (k : Kind) (f : Symbol) → isKind k (f .kind) ≡ true → isFromSheet (f .origin) ≡ true → f .arity ≤ 3 → symbolOf k (symbolText f) ≡ some f
+symbol-of k f h o le =
     let ar : zeroDigit + f .arity - zeroDigit ≡ f .arity = omega arith in
     symbol-made k (f .name) (zeroDigit + f .arity) (omega arith) (omega arith)
-    ∙ ap (λ (a : ℕ). some (record { kind = k; name = f .name; arity = a })) ar
-    ∙ ap (λ (l : Kind). some (record { kind = l; name = f .name; arity = f .arity })) (sym (kind-of k (f .kind) h))
+    ∙ ap (λ (a : ℕ). some (record { kind = k; name = f .name; arity = a; origin = declared })) ar
+    ∙ ap (λ (l : Kind). some (record { kind = l; name = f .name; arity = f .arity; origin = declared })) (sym (kind-of k (f .kind) h))
+    ∙ ap (λ (m : Origin). some (record { kind = f .kind; name = f .name; arity = f .arity; origin = m })) (sym (origin-of (f .origin) o))
 
 -- a name that no earlier symbol has
 new-name : (g : Signature) (f : Symbol) (fs : List Symbol) → NamesDiffer (g ++ (f ∷ fs)) → isNamed (f .name) g ≡ false
@@ -135,11 +140,11 @@ symbol-inLine f h =
 
 -- lines of symbols of one kind are read, after the symbols g
 symbols-read : (key : List ℕ) → all inLine key ≡ true → (k : Kind) (fs : List Symbol) (g : Signature) (l : ℕ) (rest : List ℕ)
-    → all (λ (f : Symbol). isKind k (f .kind)) fs ≡ true → all symbolOk fs ≡ true → NamesDiffer (g ++ fs)
+    → all (λ (f : Symbol). isKind k (f .kind)) fs ≡ true → allDeclared fs ≡ true → all symbolOk fs ≡ true → NamesDiffer (g ++ fs)
     → symbolLines (length fs) key k g l (concatMap (λ (f : Symbol). line key (symbolText f)) fs ++ rest) ≡ answer (g ++ fs, rest)
 unfolding symbolLines
-symbols-read key hk k [] g l rest kinds ok d = ap (λ (g : Signature). answer (g, rest)) (sym (append-nil g))
-symbols-read key hk k (f ∷ fs) g l rest kinds ok d =
+symbols-read key hk k [] g l rest kinds from ok d = ap (λ (g : Signature). answer (g, rest)) (sym (append-nil g))
+symbols-read key hk k (f ∷ fs) g l rest kinds from ok d =
     let more : List ℕ = concatMap (λ (f : Symbol). line key (symbolText f)) fs in
     let shape : (line key (symbolText f) ++ more) ++ rest ≡ line key (symbolText f) ++ (more ++ rest) = append-assoc (line key (symbolText f)) more rest in
     let okf : symbolOk f ≡ true = and-left (symbolOk f) (all symbolOk fs) ok in
@@ -150,10 +155,11 @@ symbols-read key hk k (f ∷ fs) g l rest kinds ok d =
     ap (symbolLines (suc (length fs)) key k g l) shape
     ∙ bind-step _ _ (symbolText f, more ++ rest) _ (line-read key (symbolText f) (more ++ rest) l hk (symbol-inLine f okf))
     (bind-step _ _ f _ (orRefuse-of-some (symbolOf k (symbolText f)) (atLine 2 l) f
-    (symbol-of k f (and-left (isKind k (f .kind)) (all (λ (f : Symbol). isKind k (f .kind)) fs) kinds) (leb-true (f .arity) 3 ar)))
+    (symbol-of k f (and-left (isKind k (f .kind)) (all (λ (f : Symbol). isKind k (f .kind)) fs) kinds) (and-left (isFromSheet (f .origin)) (allDeclared fs) from) (leb-true (f .arity) 3 ar)))
     (bind-step _ _ tt _ (check-of-true (leb (f .arity) 3) (atLine 3 l) ar)
     (bind-step _ _ tt _ (check-of-true (isName (f .name) && not (isNamed (f .name) g)) (atLine 4 l) named)
-    (symbols-read key hk k fs (g ++ (f ∷ [])) (suc l) rest (and-right (isKind k (f .kind)) (all (λ (f : Symbol). isKind k (f .kind)) fs) kinds) (and-right (symbolOk f) (all symbolOk fs) ok)
+    (symbols-read key hk k fs (g ++ (f ∷ [])) (suc l) rest (and-right (isKind k (f .kind)) (all (λ (f : Symbol). isKind k (f .kind)) fs) kinds)
+    (and-right (isFromSheet (f .origin)) (allDeclared fs) from) (and-right (symbolOk f) (all symbolOk fs) ok)
     (subst NamesDiffer (sym whole) d)
     ∙ ap (λ (g : Signature). answer (g, rest)) whole))))
 
@@ -237,6 +243,11 @@ module _ (p : Problem) (w : WellFormed p) where
       ap (λ (fs : List Symbol). line (bytes "sheet=1") [] ++ fromFunctions fs (predicates g)) functions-of
       ∙ ap (λ (ps : List Symbol). line (bytes "sheet=1") [] ++ fromFunctions fs ps) predicates-of
 
+  from-sheet : (allDeclared fs ≡ true) × (allDeclared ps ≡ true)
+  from-sheet =
+      let both : (allDeclared fs && allDeclared ps) ≡ true = sym (all-append (λ (f : Symbol). isFromSheet (f .origin)) fs ps) ∙ ap allDeclared (sym (w .split)) ∙ w .origins in
+      (and-left (allDeclared fs) (allDeclared ps) both, and-right (allDeclared fs) (allDeclared ps) both)
+
   ok-functions : all symbolOk fs ≡ true
   ok-functions = and-left (all symbolOk fs) (all symbolOk ps) (sym (all-append symbolOk fs ps) ∙ ap (all symbolOk) (sym (w .split)) ∙ w .symbols-ok)
 
@@ -260,7 +271,7 @@ module _ (p : Problem) (w : WellFormed p) where
 
   predicates-read : symbolLines (length ps) (bytes "pred=") predicate fs (4 + length fs) (concatMap (λ (f : Symbol). line (bytes "pred=") (symbolText f)) ps ++ fromCount) ≡ answer (g, fromCount)
   predicates-read =
-      symbols-read (bytes "pred=") refl predicate ps fs (4 + length fs) fromCount (w .predicate-kinds) ok-predicates differ-all
+      symbols-read (bytes "pred=") refl predicate ps fs (4 + length fs) fromCount (w .predicate-kinds) (from-sheet .1) ok-predicates differ-all
       ∙ ap (λ (g : Signature). answer (g, fromCount)) (sym (w .split))
 
   pub sheet-read : length (sheetText p) ≤ 16384 → readProblem (sheetText p) ≡ answer p
@@ -273,7 +284,7 @@ module _ (p : Problem) (w : WellFormed p) where
       (bind-step _ _ tt _ refl
       (bind-step _ _ (length fs, concatMap (λ (f : Symbol). line (bytes "fun=") (symbolText f)) fs ++ fromPredicates ps) _
       (count-read (bytes "funs=") (concatMap (λ (f : Symbol). line (bytes "fun=") (symbolText f)) fs ++ fromPredicates ps) 12 (length fs) 2 refl (w .function-count) (omega arith))
-      (bind-step _ _ (fs, fromPredicates ps) _ (symbols-read (bytes "fun=") refl function fs [] 3 (fromPredicates ps) (w .function-kinds) ok-functions differ-functions)
+      (bind-step _ _ (fs, fromPredicates ps) _ (symbols-read (bytes "fun=") refl function fs [] 3 (fromPredicates ps) (w .function-kinds) (from-sheet .0) ok-functions differ-functions)
       (bind-step _ _ (length ps, concatMap (λ (f : Symbol). line (bytes "pred=") (symbolText f)) ps ++ fromCount) _
       (count-read (bytes "preds=") (concatMap (λ (f : Symbol). line (bytes "pred=") (symbolText f)) ps ++ fromCount) 12 (length ps) (3 + length fs) refl (w .predicate-count) (omega arith))
       (bind-step _ _ (g, fromCount) _ predicates-read

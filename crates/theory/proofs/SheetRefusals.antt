@@ -23,10 +23,10 @@ pub record OfSheet (r : Refusal) : Type 0 where
   pub column : r .place .column ≡ 0
   pub needed : r .needed ≡ 0
 
-of-line : (n l : ℕ) → (leb 1 n && leb n 7) ≡ true → l ≤ 93 → OfSheet (atLine n l)
+pub of-line : (n l : ℕ) → (leb 1 n && leb n 7) ≡ true → l ≤ 93 → OfSheet (atLine n l)
 of-line n l e h = record { number = e; line = h; column = refl; needed = refl }
 
-keyLine-so : (key : List ℕ) (l : ℕ) (text : List ℕ) → l ≤ 93 → RefusedSo OfSheet (keyLine key l text)
+pub keyLine-so : (key : List ℕ) (l : ℕ) (text : List ℕ) → l ≤ 93 → RefusedSo OfSheet (keyLine key l text)
 keyLine-so key l text h =
     let two : OfSheet (atLine 2 l) = of-line 2 l refl h in
     bind-so OfSheet (orRefuse (cutLine text) (atLine 2 l)) _ (orRefuse-so OfSheet (cutLine text) (atLine 2 l) (λ _. two))
@@ -66,7 +66,7 @@ clauseLines-so (suc n) g l text h =
     (λ p _. bind-so OfSheet (clauseOf g l (p .0)) _ (clauseOf-so g l (p .0) here)
     (λ c _. bind-so OfSheet (clauseLines n g (suc l) (p .1)) _ (clauseLines-so n g (suc l) (p .1) (omega arith)) (λ r _. tt)))
 
-nothingLeft-so : (l : ℕ) (text : List ℕ) → l ≤ 93 → RefusedSo OfSheet (nothingLeft l text)
+pub nothingLeft-so : (l : ℕ) (text : List ℕ) → l ≤ 93 → RefusedSo OfSheet (nothingLeft l text)
 nothingLeft-so l text h = check-so OfSheet (same text []) (atLine 2 l) (λ _. of-line 2 l refl h)
 
 readProblem-so : (text : List ℕ) → RefusedSo OfSheet (readProblem text)

@@ -11,7 +11,7 @@ use lib.ListN.{length, getD, take, drop, length-append, length-take}
 use lib.Seq.{getD-append-add}
 use Rattle.theory.specs.Lists.{same}
 use Rattle.theory.specs.Bytes.{zeroDigit, isDigit}
-use Rattle.theory.specs.Syntax.{Kind, Symbol, Signature}
+use Rattle.theory.specs.Syntax.{Kind, declared, Symbol, Signature}
 use Rattle.theory.specs.Refusals.{answer, atLine}
 use Rattle.theory.specs.Lines.{Cut, countOf}
 use Rattle.theory.specs.Problem.{maxArity, isName, symbolOf, isNamed, symbolLines}
@@ -30,7 +30,7 @@ record SymbolIn (k : Kind) (v : List ℕ) (f : Symbol) : Type 0 where
   long : 2 ≤ length v
   slash : getD v (length v - 2) 0 ≡ 47
   digit : isDigit (getD v (suc (length v - 2)) 0) ≡ true
-  is : f ≡ record { kind = k; name = take (length v - 2) v; arity = getD v (suc (length v - 2)) 0 - zeroDigit }
+  is : f ≡ record { kind = k; name = take (length v - 2) v; arity = getD v (suc (length v - 2)) 0 - zeroDigit; origin = declared }
 
 symbol-in : (k : Kind) (v : List ℕ) (f : Symbol) → symbolOf k v ≡ some f → SymbolIn k v f
 symbol-in k v f e = go (test && isDigit last) refl e
@@ -42,7 +42,7 @@ symbol-in k v f e = go (test && isDigit last) refl e
     test = leb 2 (length v) && eqb (getD v (length v - 2) 0) 47
 
     made : Symbol
-    made = record { kind = k; name = take (length v - 2) v; arity = last - zeroDigit }
+    made = record { kind = k; name = take (length v - 2) v; arity = last - zeroDigit; origin = declared }
 
     go : (q : Bool) → (test && isDigit last) ≡ q → cond q (some made) none ≡ some f → SymbolIn k v f
     go false h z = let q : _≡_ {A = ℕ} 0 1 = cc in absurd (omega arith)

@@ -8,7 +8,7 @@ use lib.ListN.{length, getD, take}
 use Rattle.theory.specs.Lists.{any, all, same, prefix, placeThat}
 use Rattle.theory.specs.Bytes.{bytes, zeroDigit, isDigit}
 use Rattle.theory.specs.Lines.{Cut, cutLine, afterKey, countOf, wordsOf}
-use Rattle.theory.specs.Syntax.{Kind, function, predicate, Symbol, Signature, Clause}
+use Rattle.theory.specs.Syntax.{Kind, function, predicate, declared, Symbol, Signature, Clause}
 use Rattle.theory.specs.Grammar.{Word, sign, equals, symbol, letter, readClause}
 use Rattle.theory.specs.Flattening.{FlatClause, flatten, variableCount}
 use Rattle.theory.specs.Refusals.{Refusal, Answer, answer, refused, atLine, unplaced, _>>=_, check, orRefuse}
@@ -79,7 +79,7 @@ symbolOf k v =
     let n = length v - 2 in
     let slash = getD v n 0 in
     let d = getD v (suc n) 0 in
-    cond (leb 2 (length v) && eqb slash 47 && isDigit d) (some (record { kind = k; name = take n v; arity = d - zeroDigit })) none
+    cond (leb 2 (length v) && eqb slash 47 && isDigit d) (some (record { kind = k; name = take n v; arity = d - zeroDigit; origin = declared })) none
 
 -- the name is that of a symbol of the list
 abbrev pub isNamed : List ℕ → List Symbol → Bool

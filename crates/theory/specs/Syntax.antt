@@ -20,19 +20,33 @@ abbrev pub isPredicate : Kind → Bool
 isPredicate function = false
 isPredicate predicate = true
 
--- a symbol: its kind, its name in bytes, the number of its arguments
+-- a symbol is declared by the sheet, or a helper that stands for a term of it
+pub data Origin : Type 0 where
+  declared helper : Origin
+
+-- the origin is the sheet
+abbrev pub isFromSheet : Origin → Bool
+isFromSheet declared = true
+isFromSheet helper = false
+
+-- a symbol: its kind, its name in bytes, the number of its arguments, its origin
 pub record Symbol : Type 0 where
   pub kind : Kind
   pub name : List ℕ
   pub arity : ℕ
+  pub origin : Origin
 
 -- the symbols in numbering order; a sheet's functions come first, each kind in order of declaration
 abbrev pub Signature : Type 0
 Signature = List Symbol
 
+-- every symbol is declared
+abbrev pub allDeclared : Signature → Bool
+allDeclared g = all (λ (f : Symbol). isFromSheet (f .origin)) g
+
 -- what stands for a symbol past the end of a signature
 abbrev pub noSymbol : Symbol
-noSymbol = record { kind = predicate; name = []; arity = 0 }
+noSymbol = record { kind = predicate; name = []; arity = 0; origin = declared }
 
 -- the symbol at a place
 abbrev pub symbolAt : Signature → ℕ → Symbol

@@ -6,7 +6,7 @@ use mathlib.Core.List.{List, _++_}
 use lib.Dec.{ltb, leb}
 use lib.ListN.{length}
 use Rattle.theory.specs.Lists.{all}
-use Rattle.theory.specs.Syntax.{isFunction, isPredicate, Symbol, Signature, symbolAt, Clause, clauseOk}
+use Rattle.theory.specs.Syntax.{isFunction, isPredicate, allDeclared, Symbol, Signature, symbolAt, Clause, clauseOk}
 use Rattle.theory.specs.Grammar.{Word, sign, equals, symbol, letter, clauseWords}
 use Rattle.theory.specs.Problem.{maxSymbols, maxClauses, maxArity, isName, withinLimits, Problem}
 
@@ -46,6 +46,8 @@ pub record WellFormed (p : Problem) : Type 0 where
   -- each has at most 3 arguments and a name, and no two have the same name
   pub symbols-ok : all symbolOk (p .symbols) ≡ true
   pub names-differ : NamesDiffer (p .symbols)
+  -- and is declared
+  pub origins : allDeclared (p .symbols) ≡ true
   -- at most 64 clauses, each accepted
   pub clause-count : length (p .clauses) ≤ maxClauses
   pub clauses-accepted : all (clauseAccepted (p .symbols)) (p .clauses) ≡ true

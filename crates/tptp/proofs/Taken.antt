@@ -15,7 +15,7 @@ use Rattle.theory.specs.Grammar as words
 use Rattle.theory.specs.Problem.{isName, isNamed, placeOfName, withinLimits, Problem, readProblem}
 use Rattle.theory.proofs.PlacedReading.{placed-problem, placed-case}
 use Rattle.theory.proofs.Tests.{true-or-false, ltb-true, ltb-false, ltb-of-<, leb-false, leb-of-≤, and-left, and-right, and-join, or-false-left, or-false-right, beq-true, beq-not, false-of-not}
-use Rattle.theory.proofs.Lists.{all-append, all-map, all-concatMap, all-and, all-imply, all-at}
+use Rattle.theory.proofs.Lists.{all-append, all-map, all-concatMap, all-and, all-imply, all-every, all-at}
 use Rattle.theory.proofs.Finding.{any→placeThat}
 use Rattle.theory.proofs.Names.{named-place}
 use Rattle.theory.specs.Cells.{interpretation, isModel}
@@ -99,7 +99,7 @@ module _ (g : Signature) where
       let no17 : (ltb 3 n || not (isName w) || leb 12 (placeInKind g k w)) ≡ false = no-fault (ltb 3 n || not (isName w) || leb 12 (placeInKind g k w)) 17 (f .place) (empty-right first second both) in
       let no17₁ : (ltb 3 n || not (isName w)) ≡ false = or-false-left (ltb 3 n || not (isName w)) (leb 12 (placeInKind g k w)) no17 in
       let low : placeInKind g k w < 12 = leb-false 12 (placeInKind g k w) (or-false-right (ltb 3 n || not (isName w)) (leb 12 (placeInKind g k w)) no17) in
-      let self : Symbol = record { kind = k; name = w; arity = n } in
+      let self : Symbol = record { kind = k; name = w; arity = n; origin = sheet.declared } in
       let ok : limited self ≡ true =
       and-join (leb n 3 && isName w) (ltb (placeInKind g k w) 12)
       (and-join (leb n 3) (isName w) (leb-of-≤ n 3 (ltb-false 3 n (or-false-left (ltb 3 n) (not (isName w)) no17₁))) (not-false (isName w) (or-false-right (ltb 3 n) (not (isName w)) no17₁)))
@@ -316,6 +316,18 @@ module _ (cs : List NameClause) where
       ∙ all-imply (λ (f : Symbol). isNamed (f .name) (declared cs)) (named g) (declared cs)
       (λ f h. parts-have (λ (u : Symbol). same (f .name) (u .name)) fs (first-has (λ (u : Symbol). u .name) (f .name) (declared cs) h)) (self-named (declared cs))
 
+  -- and every symbol is declared
+  all-origins : sheet.allDeclared g ≡ true
+  all-origins =
+      let q : Symbol → Bool = λ f. sheet.isFromSheet (f .origin) in
+      let one : (o : Occurrence) → all q (declares o) ≡ true = λ o. elim o [ ofVariable x ↦ refl | ofSymbol f k n ↦ refl ] in
+      let inside : (c : NameClause) → all q (concatMap declares (clauseOccurrences c)) ≡ true =
+      λ c. all-concatMap q declares (clauseOccurrences c) ∙ all-every (λ o. all q (declares o)) (clauseOccurrences c) one in
+      let every : all q (declared cs) ≡ true =
+      all-concatMap q (λ (c : NameClause). concatMap declares (clauseOccurrences c)) cs ∙ all-every (λ (c : NameClause). all q (concatMap declares (clauseOccurrences c))) cs inside in
+      let firsts : all q fs ≡ true = first-keeps (λ (f : Symbol). f .name) q (declared cs) every in
+      all-append q F P ∙ and-join (all q F) (all q P) (select-keeps q (λ (f : Symbol). isFunction (f .kind)) fs firsts) (select-keeps q (λ (f : Symbol). isPredicate (f .kind)) fs firsts)
+
   module _ (count-ok : length cs ≤ 64) (clean-all : all (cleanClause g) cs ≡ true) where
     declared-limited : all (limited g) (declared cs) ≡ true
     declared-limited =
@@ -362,6 +374,7 @@ module _ (cs : List NameClause) where
               (all-and (λ (f : Symbol). isPredicate (f .kind)) (limited g) P all-predicates (select-keeps (limited g) (λ (f : Symbol). isPredicate (f .kind)) fs all-limited)));
           symbols-ok = all-ok;
           names-differ = fresh-differ g (parts-fresh fs distinct-names);
+          origins = all-origins;
           clause-count = omega (arith, length-map cs (clauseOver g), count-ok);
           clauses-accepted =
               all-map (clauseAccepted g) (clauseOver g) cs

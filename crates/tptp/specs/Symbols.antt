@@ -45,7 +45,7 @@ clauseOccurrences c = concatMap literalOccurrences c
 -- the symbol that an occurrence would declare
 abbrev pub declares : Occurrence → List Symbol
 declares (ofVariable x) = []
-declares (ofSymbol f k n) = record { kind = k; name = f .bytes; arity = n } ∷ []
+declares (ofSymbol f k n) = record { kind = k; name = f .bytes; arity = n; origin = sheet.declared } ∷ []
 
 -- the variable that an occurrence names
 abbrev pub names : Occurrence → List (List ℕ)

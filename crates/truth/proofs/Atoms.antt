@@ -11,7 +11,7 @@ use Rattle.theory.specs.Truth.{Interpretation, value, values, atomTrue}
 use Rattle.theory.specs.Cells.{cell, interpretation}
 use Rattle.theory.proofs.Tests.{and-left}
 use Rattle.theory.proofs.Declared.{Declared, predicateOf→}
-use Rattle.syntax.specs.Codes.{codeOf}
+use Rattle.syntax.specs.Codes.{equalsCode, codeOf}
 use Rattle.syntax.proofs.Codes.{codeOf-wordOf}
 use Rattle.truth.specs.Steps.{atomWord, atomTerms, AtomLent}
 use Rattle.truth.proofs.Stack.{length-values}
@@ -38,7 +38,7 @@ module _ {word : ℕ} {bases cells : List ℕ} {s : ℕ} {held : List ℕ} (a : 
     pub is : a .atom ≡ equal left right
     pub terms : held ≡ value I (a .assignment) left ∷ (value I (a .assignment) right ∷ [])
 
-  pub is-equality : word ≡ 61 → IsEquality
+  pub is-equality : word ≡ equalsCode → IsEquality
   is-equality e = go (a .atom) refl
     where
       go : (b : Atom) → a .atom ≡ b → IsEquality
@@ -53,7 +53,7 @@ module _ {word : ℕ} {bases cells : List ℕ} {s : ℕ} {held : List ℕ} (a : 
     pub below : word < length (a .signature)
     pub arity : length held ≡ symbolAt (a .signature) word .arity
 
-  pub is-predicate : (word ≡ 61 → ⊥) → IsPredicate
+  pub is-predicate : (word ≡ equalsCode → ⊥) → IsPredicate
   is-predicate e = go (a .atom) refl
     where
       go : (b : Atom) → a .atom ≡ b → IsPredicate

@@ -16,7 +16,7 @@ use Rattle.theory.proofs.Tests.{and-left, and-right, and-join}
 use Rattle.theory.proofs.Lists.{map-at}
 use Rattle.theory.proofs.Grammar.{readClause-sound}
 use Rattle.text.specs.Lines.{part}
-use Rattle.syntax.specs.Codes.{codeOf, codeWord}
+use Rattle.syntax.specs.Codes.{letterCode, codeOf, codeWord}
 use Rattle.syntax.proofs.Codes.{codeOf-wordOf, known-declared}
 use Rattle.syntax.proofs.Places.{assign-placed}
 use Rattle.interpretation.proofs.Ranks.{allBelow-at}
@@ -151,12 +151,12 @@ module _ {words place arities : List ℕ} {functions : List Bool} {bases cells :
 
     pub chosen-below : (j x : ℕ) → j < length words → codeWord (getD words j 0) ≡ letter x → ρ x < s
     chosen-below j x h e =
-        let k : getD words j 0 ≡ 65 + x = sym (codeOf-wordOf (getD words j 0)) ∙ ap codeOf e in
-        let m : getD words j 0 - 65 ≡ x = omega arith in
-        let l : 65 ≤ getD words j 0 = omega arith in
-        let b : ρ (getD words j 0 - 65) < s =
-        rw (assign-placed (c .variables) _ (c .lent .places) (getD words j 0 - 65) (letter-below variables-lent j h l) (letter-occurs variables-lent j h l) choice)
-        (allBelow-at s choice (getD place (getD words j 0 - 65) 0) (letter-placed variables-lent j h l) (chosen .below)) in
+        let k : getD words j 0 ≡ letterCode + x = sym (codeOf-wordOf (getD words j 0)) ∙ ap codeOf e in
+        let m : getD words j 0 - letterCode ≡ x = omega arith in
+        let l : letterCode ≤ getD words j 0 = omega arith in
+        let b : ρ (getD words j 0 - letterCode) < s =
+        rw (assign-placed (c .variables) _ (c .lent .places) (getD words j 0 - letterCode) (letter-below variables-lent j h l) (letter-occurs variables-lent j h l) choice)
+        (allBelow-at s choice (getD place (getD words j 0 - letterCode) 0) (letter-placed variables-lent j h l) (chosen .below)) in
         rw m at b
 
     -- a true literal makes the clause true; behind a false one the others are left

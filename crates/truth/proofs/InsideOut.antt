@@ -13,7 +13,7 @@ use Rattle.theory.specs.Grammar.{Word, symbol, letter, takeTerms, readWords}
 use Rattle.theory.proofs.DueWords.{taken}
 use Rattle.text.specs.Lines.{part}
 use Rattle.text.proofs.Part.{part-none, length-part, take-part}
-use Rattle.syntax.specs.Codes.{codeWord}
+use Rattle.syntax.specs.Codes.{letterCode, codeWord}
 use Rattle.syntax.proofs.Codes.{wordOf-letter}
 use Rattle.interpretation.proofs.Ranks.{allBelow-take}
 use Rattle.truth.specs.Steps.{termsEnd, VariablesHeld, TermsLent, TermsValued}
@@ -50,12 +50,12 @@ module _ {words : List ℕ} {from k : ℕ} {arities bases cells : List ℕ} {s :
   room₀ = omega (arith, t .room, end-within (t .there))
 
   -- a variable among the words
-  module _ (j : ℕ) (start : from ≤ j) (below : j < termsEnd (t .there)) (letters : 65 ≤ getD words j 0) where
-    words-letter : letter (getD words j 0 - 65) ∷ drop (suc j) ws ≡ drop j ws
+  module _ (j : ℕ) (start : from ≤ j) (below : j < termsEnd (t .there)) (letters : letterCode ≤ getD words j 0) where
+    words-letter : letter (getD words j 0 - letterCode) ∷ drop (suc j) ws ≡ drop j ws
     words-letter = sym (words-from (t .there) j (omega (arith, end-within (t .there))) ∙ ap (λ (w : Word). w ∷ drop (suc j) ws) (wordOf-letter (getD words j 0) letters))
 
-    letter-below : ρ (getD words j 0 - 65) < s
-    letter-below = t .below j (getD words j 0 - 65) start below (wordOf-letter (getD words j 0) letters)
+    letter-below : ρ (getD words j 0 - letterCode) < s
+    letter-below = t .below j (getD words j 0 - letterCode) start below (wordOf-letter (getD words j 0) letters)
 
   -- the last n words, where they are variables
   tail-held : (n j : ℕ) → j + n ≡ termsEnd (t .there) → k ≤ j → Held g I ρ s (termsEnd (t .there)) (drop j ws) held₀ j
@@ -70,11 +70,11 @@ module _ {words : List ℕ} {from k : ℕ} {arities bases cells : List ℕ} {s :
   tail-held (suc n) j q l =
       let b : j < termsEnd (t .there) = omega arith in
       let a : from ≤ j = omega (arith, t .tail .start) in
-      let c : 65 ≤ getD words j 0 = t .tail .letters j l b in
-      let v : getD held₀ j 0 ≡ ρ (getD words j 0 - 65) = t .variables j (getD words j 0 - 65) a b (wordOf-letter (getD words j 0) c) in
+      let c : letterCode ≤ getD words j 0 = t .tail .letters j l b in
+      let v : getD held₀ j 0 ≡ ρ (getD words j 0 - letterCode) = t .variables j (getD words j 0 - letterCode) a b (wordOf-letter (getD words j 0) c) in
       let e : suc j - 1 ≡ j = omega arith in
-      let h : Held g I ρ s (termsEnd (t .there)) (letter (getD words j 0 - 65) ∷ drop (suc j) ws) (set held₀ j (getD held₀ j 0)) j =
-      rw e at (letter-held g I ρ s (termsEnd (t .there)) (drop (suc j) ws) held₀ (suc j) room₀ (tail-held n (suc j) (omega arith) (omega arith)) (getD words j 0 - 65) (getD held₀ j 0) v (rw v (letter-below j a b c)) (omega arith)) in
+      let h : Held g I ρ s (termsEnd (t .there)) (letter (getD words j 0 - letterCode) ∷ drop (suc j) ws) (set held₀ j (getD held₀ j 0)) j =
+      rw e at (letter-held g I ρ s (termsEnd (t .there)) (drop (suc j) ws) held₀ (suc j) room₀ (tail-held n (suc j) (omega arith) (omega arith)) (getD words j 0 - letterCode) (getD held₀ j 0) v (rw v (letter-below j a b c)) (omega arith)) in
       subst (λ (l : List ℕ). Held g I ρ s (termsEnd (t .there)) (drop j ws) l j) (set-getD held₀ j 0) (subst (λ (us : List Word). Held g I ρ s (termsEnd (t .there)) us (set held₀ j (getD held₀ j 0)) j) (words-letter j a b c) h)
 
   -- the variables at the end have their values already
@@ -107,9 +107,9 @@ module _ {words : List ℕ} {from k : ℕ} {arities bases cells : List ℕ} {s :
     untouched n y q j x a b c = getD-set-other held n j y 0 (λ z. omega arith) ∙ h .variables j x a (omega arith) c
 
     -- a variable has its value, which is put in front
-    pub variable-valued : 65 ≤ getD words (i - 1) 0 → ValuedFrom (i - 1) (top - 1) (set held (top - 1) (getD held (i - 1) 0))
+    pub variable-valued : letterCode ≤ getD words (i - 1) 0 → ValuedFrom (i - 1) (top - 1) (set held (top - 1) (getD held (i - 1) 0))
     variable-valued letters =
-        let x : ℕ = getD words (i - 1) 0 - 65 in
+        let x : ℕ = getD words (i - 1) 0 - letterCode in
         let v : getD held (i - 1) 0 ≡ ρ x = h .variables (i - 1) x started (omega arith) (wordOf-letter (getD words (i - 1) 0) letters) in
         let e : letter x ∷ drop i ws ≡ drop (i - 1) ws = ap (λ (n : ℕ). letter x ∷ drop n ws) (sym last) ∙ words-letter (i - 1) started inside letters in
         record {
@@ -123,7 +123,7 @@ module _ {words : List ℕ} {from k : ℕ} {arities bases cells : List ℕ} {s :
         }
 
     -- a function
-    module _ (symbols : getD words (i - 1) 0 < 65) where
+    module _ (symbols : getD words (i - 1) 0 < letterCode) where
       is : IsFunction (t .there) (i - 1) started inside
       is = is-function (t .there) (i - 1) started inside symbols
 

@@ -16,7 +16,7 @@ use Rattle.theory.proofs.Lists.{all-append, all-at, all-drop, map-at}
 use Rattle.theory.proofs.Declared.{function-kind, functionOf→}
 use Rattle.theory.proofs.Grammar.{appendTerms, terms-read, atom-read, words-read}
 use Rattle.theory.proofs.DueWords.{DueAt, due-at, taken, taken-due, word-passed}
-use Rattle.syntax.specs.Codes.{codeOf, codeWord, isKnown}
+use Rattle.syntax.specs.Codes.{maxPlaces, plusCode, letterCode, codeOf, codeWord, isKnown}
 use Rattle.syntax.proofs.Codes.{codeOf-wordOf, known-declared}
 use Rattle.truth.specs.Steps.{TermsStand, termsEnd}
 
@@ -115,10 +115,10 @@ module _ {g : Signature} {words : List ℕ} {i : ℕ} (t : TermsStand g words i)
       pub declared : getD words j 0 < length g
       pub kind : symbolAt g (getD words j 0) .kind ≡ function
 
-    split : (65 ≤ getD words j 0) ⊎ IsFunction
+    split : (letterCode ≤ getD words j 0) ⊎ IsFunction
     split = go (codeWord (getD words j 0)) refl (codeOf-wordOf (getD words j 0)) (known-at j (omega (arith, end-within))) is-term-word
       where
-        go : (w : Word) → codeWord (getD words j 0) ≡ w → codeOf w ≡ getD words j 0 → isKnown g w ≡ true → isTermWord g w ≡ true → (65 ≤ getD words j 0) ⊎ IsFunction
+        go : (w : Word) → codeWord (getD words j 0) ≡ w → codeOf w ≡ getD words j 0 → isKnown g w ≡ true → isTermWord g w ≡ true → (letterCode ≤ getD words j 0) ⊎ IsFunction
         go (sign b) e k d h = absurd (false≢true h)
         go equals e k d h = absurd (false≢true h)
         go (symbol f) e k d h =
@@ -129,18 +129,18 @@ module _ {g : Signature} {words : List ℕ} {i : ℕ} (t : TermsStand g words i)
             })
         go (letter x) e k d h = inl (omega arith)
 
-    pub is-function : getD words j 0 < 65 → IsFunction
+    pub is-function : getD words j 0 < letterCode → IsFunction
     is-function h = ⊎-elim (λ k. absurd (omega arith)) (λ f. f) split
 
   -- the word behind the terms is a sign
-  end-sign : termsEnd t < length words → (43 ≤ getD words (termsEnd t) 0) × (getD words (termsEnd t) 0 < 65)
+  end-sign : termsEnd t < length words → (plusCode ≤ getD words (termsEnd t) 0) × (getD words (termsEnd t) 0 < letterCode)
   end-sign h = go (t .behind) behind-stand
     where
-      coded : (b : Bool) → codeOf (sign b) ≡ getD words (termsEnd t) 0 → (43 ≤ getD words (termsEnd t) 0) × (getD words (termsEnd t) 0 < 65)
+      coded : (b : Bool) → codeOf (sign b) ≡ getD words (termsEnd t) 0 → (plusCode ≤ getD words (termsEnd t) 0) × (getD words (termsEnd t) 0 < letterCode)
       coded true e = (omega arith, omega arith)
       coded false e = (omega arith, omega arith)
 
-      go : (c : Clause) → drop (termsEnd t) ws ≡ clauseWords c → (43 ≤ getD words (termsEnd t) 0) × (getD words (termsEnd t) 0 < 65)
+      go : (c : Clause) → drop (termsEnd t) ws ≡ clauseWords c → (plusCode ≤ getD words (termsEnd t) 0) × (getD words (termsEnd t) 0 < letterCode)
       go [] e = absurd (omega (arith, ap length e, length-drop (termsEnd t) ws, length-map words codeWord))
       go (l ∷ c) e =
           coded (l .sign)
@@ -148,8 +148,8 @@ module _ {g : Signature} {words : List ℕ} {i : ℕ} (t : TermsStand g words i)
 
   -- whether the terms go on is told by the word
   module _ (j : ℕ) (from : i ≤ j) (within : j ≤ termsEnd t) (below : j < length words) where
-    pub goes-on : (getD words j 0 < 43) ⊎ (65 ≤ getD words j 0) → j < termsEnd t
+    pub goes-on : (getD words j 0 < plusCode) ⊎ (letterCode ≤ getD words j 0) → j < termsEnd t
     goes-on h = ⊎-elim (λ k. k) (λ k. let e : j ≡ termsEnd t = k in let q = end-sign (rw e at below) in absurd (⊎-elim (λ m. omega (arith, q, ap (λ (j : ℕ). getD words j 0) e)) (λ m. omega (arith, q, ap (λ (j : ℕ). getD words j 0) e)) h)) (le-split j (termsEnd t) within)
 
-    pub stops : length g ≤ 24 → 43 ≤ getD words j 0 → getD words j 0 < 65 → j ≡ termsEnd t
+    pub stops : length g ≤ maxPlaces → plusCode ≤ getD words j 0 → getD words j 0 < letterCode → j ≡ termsEnd t
     stops small h k = ⊎-elim (λ m. let f = is-function j from m k in absurd (omega (arith, f .declared))) (λ m. m) (le-split j (termsEnd t) within)

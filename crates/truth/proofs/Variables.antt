@@ -12,7 +12,7 @@ use Rattle.theory.specs.Truth.{assign}
 use Rattle.theory.specs.Grammar.{Word, letter}
 use Rattle.theory.proofs.Tests.{and-left, and-right}
 use Rattle.theory.proofs.Lists.{all-append}
-use Rattle.syntax.specs.Codes.{codeOf, codeWord}
+use Rattle.syntax.specs.Codes.{plusCode, letterCode, codeOf, codeWord}
 use Rattle.syntax.specs.Variables.{letterOf, lettersOf}
 use Rattle.syntax.proofs.Codes.{codeOf-wordOf, wordOf-letter, known-below}
 use Rattle.syntax.proofs.Places.{place-below}
@@ -44,27 +44,27 @@ module _ {words : List ℕ} {from : ℕ} {place choice : List ℕ} (v : Variable
       }
 
   -- a letter of the clause
-  module _ (i : ℕ) (below : i < length words) (letters : 65 ≤ getD words i 0) where
-    pub letter-below : getD words i 0 - 65 < 8
+  module _ (i : ℕ) (below : i < length words) (letters : letterCode ≤ getD words i 0) where
+    pub letter-below : getD words i 0 - letterCode < 8
     letter-below = omega (arith, known-below (v .signature) (v .small .symbols) (getD words i 0) (known-at (v .there) i below))
 
-    pub letter-occurs : elem (getD words i 0 - 65) (v .variables) ≡ true
+    pub letter-occurs : elem (getD words i 0 - letterCode) (v .variables) ≡ true
     letter-occurs =
-        let x : ℕ = getD words i 0 - 65 in
+        let x : ℕ = getD words i 0 - letterCode in
         let e : drop i (map codeWord words) ≡ letter x ∷ drop (suc i) (map codeWord words) =
         words-from (v .there) i below ∙ ap (λ (w : Word). w ∷ drop (suc i) (map codeWord words)) (wordOf-letter (getD words i 0) letters) in
         and-left (elem x (v .variables)) (lettersAmong (v .variables) (drop (suc i) (map codeWord words)))
         (sym (ap (lettersAmong (v .variables)) e) ∙ letters-drop (v .variables) (map codeWord words) i (v .letters))
 
-    pub letter-placed : getD place (getD words i 0 - 65) 0 < length choice
-    letter-placed = omega (arith, place-below (v .variables) _ (v .places) (getD words i 0 - 65) letter-below letter-occurs, v .counted)
+    pub letter-placed : getD place (getD words i 0 - letterCode) 0 < length choice
+    letter-placed = omega (arith, place-below (v .variables) _ (v .places) (getD words i 0 - letterCode) letter-below letter-occurs, v .counted)
 
   module _ {k i : ℕ} {held : List ℕ} (h : ValuedTo v k i held) (below : i < length words) where
     start : from ≤ i
     start = omega (arith, h .tail .start, h .tail .within)
 
     -- one variable more
-    pub letter-valued : 65 ≤ getD words i 0 → i < length held → (y : ℕ) → y ≡ assign (v .variables) choice (getD words i 0 - 65) → ValuedTo v k (i + 1) (set held i y)
+    pub letter-valued : letterCode ≤ getD words i 0 → i < length held → (y : ℕ) → y ≡ assign (v .variables) choice (getD words i 0 - letterCode) → ValuedTo v k (i + 1) (set held i y)
     letter-valued l room y e =
         record {
           within = omega (arith, goes-on (v .there) i start (h .within) below (inr l));
@@ -76,11 +76,11 @@ module _ {words : List ℕ} {from : ℕ} {place choice : List ℕ} (v : Variable
               };
           values =
               λ j x a b c. ⊎-elim (λ q. getD-set-other held i j y 0 (λ z. omega arith) ∙ h .values j x a q c)
-              (λ q. let n : getD words i 0 - 65 ≡ x = omega (arith, codeOf-wordOf (getD words j 0), ap codeOf c, ap (λ (j : ℕ). getD words j 0) q) in ap (λ (j : ℕ). getD (set held i y) j 0) q ∙ getD-set-same held i y 0 room ∙ e ∙ ap (assign (v .variables) choice) n) (le-split j i (omega arith));
+              (λ q. let n : getD words i 0 - letterCode ≡ x = omega (arith, codeOf-wordOf (getD words j 0), ap codeOf c, ap (λ (j : ℕ). getD words j 0) q) in ap (λ (j : ℕ). getD (set held i y) j 0) q ∙ getD-set-same held i y 0 room ∙ e ∙ ap (assign (v .variables) choice) n) (le-split j i (omega arith));
         }
 
     -- a function is passed
-    pub function-passed : getD words i 0 < 43 → ValuedTo v (i + 1) (i + 1) held
+    pub function-passed : getD words i 0 < plusCode → ValuedTo v (i + 1) (i + 1) held
     function-passed l =
         record {
           within = omega (arith, goes-on (v .there) i start (h .within) below (inl l));
@@ -91,7 +91,7 @@ module _ {words : List ℕ} {from : ℕ} {place choice : List ℕ} (v : Variable
         }
 
     -- at a sign the terms end
-    pub sign-ends : 43 ≤ getD words i 0 → getD words i 0 < 65 → VariablesValued v (record { tail = k; end = i }) held
+    pub sign-ends : plusCode ≤ getD words i 0 → getD words i 0 < letterCode → VariablesValued v (record { tail = k; end = i }) held
     sign-ends l m = record { end = stops (v .there) i start (h .within) below (v .small .symbols) l m; tail = h .tail; values = h .values }
 
   -- and at the clause's end

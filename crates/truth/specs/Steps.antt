@@ -12,7 +12,7 @@ use Rattle.theory.specs.Cells.{cellBase, interpretation, isInterpretation}
 use Rattle.theory.specs.Grammar.{Word, equals, symbol, letter, termsWords, clauseWords, clause, grammar}
 use Rattle.text.specs.Lines.{part}
 use Rattle.syntax.specs.Signatures.{Arities, Small}
-use Rattle.syntax.specs.Codes.{codeWord, isKnown}
+use Rattle.syntax.specs.Codes.{letterCode, codeWord, isKnown}
 use Rattle.truth.specs.declared.values.TermsSpan.{TermsSpan}
 use Rattle.truth.specs.Values.{PlacesIn, lettersAmong}
 
@@ -47,7 +47,7 @@ VariablesHeld ρ words a e held = (j x : ℕ) → a ≤ j → j < e → codeWord
 pub record Tail (words : List ℕ) (from k e : ℕ) : Type 0 where
   pub start : from ≤ k
   pub within : k ≤ e
-  pub letters : (j : ℕ) → k ≤ j → j < e → 65 ≤ getD words j 0
+  pub letters : (j : ℕ) → k ≤ j → j < e → letterCode ≤ getD words j 0
 
 -- terms of a literal, and a choice of values for the clause's variables
 pub record VariablesLent (words : List ℕ) (from : ℕ) (place choice : List ℕ) : Type 0 where

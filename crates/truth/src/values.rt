@@ -6,13 +6,13 @@ use syntax::limits::Problem;
 use syntax::size::DomainSize;
 use syntax::words::ClauseWords;
 ghost use mathlib.Core.Path.{_≡_};
-ghost use Prim.Native.Nat.{_+_, _-_, _<_, _≤_};
+ghost use Prim.Native.Nat.{_+_, _*_, _-_, _<_, _≤_};
 ghost use lib.ListN.{getD, length};
 ghost use Rattle.theory.specs.Vectors.{AllBelow, rank};
 ghost use Rattle.theory.specs.Syntax.{Literal, Term, equal};
 ghost use Rattle.theory.specs.Truth.{Assignment, Interpretation, atomTrue, literalTrue, value};
 ghost use Rattle.theory.specs.Grammar as words;
-ghost use Rattle.syntax.specs.Codes.{codeWord};
+ghost use Rattle.syntax.specs.Codes.{maxPlaces, letterCode, codeWord};
 ghost use Rattle.truth.specs.Values.{Chosen, ClauseLent, IsClauseValue, IsFunctionValue, IsPredicateValue, IsVariableValue};
 ghost use Rattle.truth.specs.Steps.{AtomLent, IsAtomValue, TermsLent, TermsValued, VariablesLent, VariablesValued};
 
@@ -24,8 +24,8 @@ pub struct TermsSpan {
 
 // Variables: the value that the choice has for the letter.
 pub fn variable_value(choice: &[u8], place: &[u8], letter: u8) -> Element
-    requires { ⌜ (65 ≤ letter) × ((letter - 65 < length (now place)) × (getD (now place) (letter - 65) 0 < length (now choice))) ⌝ }
-    ensures { λ r. ⌜ IsVariableValue (now (choice .entry)) (now (place .entry)) (letter - 65) r ⌝ }
+    requires { ⌜ (letterCode ≤ letter) × ((letter - letterCode < length (now place)) × (getD (now place) (letter - letterCode) 0 < length (now choice))) ⌝ }
+    ensures { λ r. ⌜ IsVariableValue (now (choice .entry)) (now (place .entry)) (letter - letterCode) r ⌝ }
 {
     let x = (letter - ClauseWords::LETTER) as usize;
     let p = place[x] as usize;
@@ -64,7 +64,7 @@ fn variable_values(
 
 // Functions: the cell of the symbol with this first cell at the values of its terms. The loop's bound is fixed, so that it is compiled to straight code.
 pub fn cell_at(base: Cell, arguments: &[u8], size: DomainSize) -> Cell
-    requires { ⌜ (base .0 ≤ 12288) × ((size .0 ≤ 8) × ((length (now arguments) ≤ 3) × AllBelow (size .0) (now arguments))) ⌝ }
+    requires { ⌜ (base .0 ≤ 512 * maxPlaces) × ((size .0 ≤ 8) × ((length (now arguments) ≤ 3) × AllBelow (size .0) (now arguments))) ⌝ }
     ensures { λ r. ⌜ r .0 ≡ base .0 + rank (size .0) (now (arguments .entry)) ⌝ }
 {
     let s = size.0;

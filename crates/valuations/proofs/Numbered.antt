@@ -28,14 +28,14 @@ block-within s a b h l = omega (arith, mul-le-mul {n₁ = s ^ a} {m₁ = width s
 
 -- the numbering of the first i symbols
 pub record Numbered (g : theory.Signature) (s : ℕ) (n : Numbering) (i : ℕ) : Type 0 where
-  pub bases-held : length (n .bases) ≡ 24
-  pub widths-held : length (n .widths) ≡ 24
+  pub bases-held : length (n .bases) ≡ 56
+  pub widths-held : length (n .widths) ≡ 56
   pub base : (j : ℕ) → j < i → getD (n .bases) j 0 ≡ propBase s g j
   pub width : (j : ℕ) → j < i → getD (n .widths) j 0 ≡ width s (symbolAt g j .kind)
   pub count : n .count ≡ propBase s g i
   pub within : n .count ≤ 4096 * i
 
-pub none-numbered : (g : theory.Signature) (s : ℕ) → Numbered g s (record { bases = replicate 24 0; widths = replicate 24 0; count = 0 }) 0
+pub none-numbered : (g : theory.Signature) (s : ℕ) → Numbered g s (record { bases = replicate 56 0; widths = replicate 56 0; count = 0 }) 0
 none-numbered g s =
     record {
       bases-held = refl;
@@ -51,7 +51,7 @@ abbrev pub with : Numbering → ℕ → ℕ → ℕ → Numbering
 with n i w b = record { bases = set (n .bases) i (n .count); widths = set (n .widths) i w; count = n .count + b }
 
 module _ (g : theory.Signature) (s : ℕ) (n : Numbering) (i : ℕ) (y : Symbol) (sheet : List ℕ) (p : Numbered g s n i) (e : symbolAt g i ≡ symbolIn sheet y) where
-  pub one-numbered : i < length g → i < 24 → s ≤ 8 → y .arity ≤ 3 → Numbered g s (with n i (width s (kindOf (y .function))) (s ^ y .arity * width s (kindOf (y .function)))) (suc i)
+  pub one-numbered : i < length g → i < 56 → s ≤ 8 → y .arity ≤ 3 → Numbered g s (with n i (width s (kindOf (y .function))) (s ^ y .arity * width s (kindOf (y .function)))) (suc i)
   one-numbered l few small le =
       record {
         bases-held = length-set (n .bases) i (n .count) ∙ p .bases-held;
@@ -65,7 +65,7 @@ module _ (g : theory.Signature) (s : ℕ) (n : Numbering) (i : ℕ) (y : Symbol)
       }
 
 -- all of them
-pub all-numbered : (g : theory.Signature) (s : ℕ) (n : Numbering) → length g ≤ 24 → Numbered g s n (length g) → NumberingOf g s n
+pub all-numbered : (g : theory.Signature) (s : ℕ) (n : Numbering) → length g ≤ 56 → Numbered g s n (length g) → NumberingOf g s n
 all-numbered g s n few p =
     record {
       bases-held = omega (arith, p .bases-held);
@@ -73,5 +73,6 @@ all-numbered g s n few p =
       widths-held = omega (arith, p .widths-held);
       width = p .width;
       count = p .count ∙ propBase-length s g;
+      few = few;
       small = omega (arith, p .within);
     }

@@ -49,4 +49,7 @@ fn main() {
     run_file(b"setting", Operation::Setting);
     run_file(b"from_solver", Operation::FromSolver);
     run_file(b"find_plain", Operation::FindPlain);
+    run_file(b"write_named", Operation::WriteNamed);
+    run_file(b"read_back_named", Operation::ReadBackNamed);
+    run_file(b"find_named", Operation::FindNamed);
 }

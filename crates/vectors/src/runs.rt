@@ -31,6 +31,9 @@ pub enum Operation {
     Setting,
     FromSolver,
     FindPlain,
+    WriteNamed,
+    ReadBackNamed,
+    FindNamed,
 }
 
 fn read(sheet: &[u8]) {
@@ -66,13 +69,13 @@ fn text(answer: WriteAnswer, output: &[u8]) {
     }
 }
 
-fn write(sheet: &[u8], size: u64, output: &mut [u8]) {
-    let answer = nesskettle::write(sheet, size, output);
+fn write(sheet: &[u8], size: u64, named: bool, output: &mut [u8]) {
+    let answer = nesskettle::write(sheet, size, named, output);
     text(answer, output);
 }
 
-fn read_back(sheet: &[u8], size: u64, setting: &[u8], output: &mut [u8]) {
-    let answer = nesskettle::read_back(sheet, size, setting, output);
+fn read_back(sheet: &[u8], size: u64, named: bool, setting: &[u8], output: &mut [u8]) {
+    let answer = nesskettle::read_back(sheet, size, named, setting, output);
     text(answer, output);
 }
 
@@ -102,8 +105,8 @@ fn search(answer: FindAnswer, work: &[u32], output: &[u8]) {
     }
 }
 
-fn find(sheet: &[u8], low: u64, high: u64, work: &mut [u32], output: &mut [u8]) {
-    let answer = nesskettle::find(sheet, low, high, work, output);
+fn find(sheet: &[u8], low: u64, high: u64, named: bool, work: &mut [u32], output: &mut [u8]) {
+    let answer = nesskettle::find(sheet, low, high, named, work, output);
     search(answer, work, output);
 }
 
@@ -192,6 +195,9 @@ fn name(operation: Operation) {
         Operation::Setting => say(b"setting"),
         Operation::FromSolver => say(b"from_solver"),
         Operation::FindPlain => say(b"find_plain"),
+        Operation::WriteNamed => say(b"write_named"),
+        Operation::ReadBackNamed => say(b"read_back_named"),
+        Operation::FindNamed => say(b"find_named"),
     }
 }
 
@@ -208,14 +214,17 @@ fn answer(
     match operation {
         Operation::Read => read(sheet),
         Operation::Judge => judge(sheet, beside),
-        Operation::Write => write(sheet, x.low, output),
-        Operation::ReadBack => read_back(sheet, x.low, beside, output),
-        Operation::Find => find(sheet, x.low, x.high, work, output),
+        Operation::Write => write(sheet, x.low, false, output),
+        Operation::ReadBack => read_back(sheet, x.low, false, beside, output),
+        Operation::Find => find(sheet, x.low, x.high, false, work, output),
         Operation::FromTptp => from_tptp(sheet, output),
         Operation::Explain => explain(sheet, beside),
         Operation::Setting => setting(sheet, beside, output),
         Operation::FromSolver => from_solver(sheet, x.low, beside, output),
         Operation::FindPlain => find_plain(sheet, x.low, x.high, output),
+        Operation::WriteNamed => write(sheet, x.low, true, output),
+        Operation::ReadBackNamed => read_back(sheet, x.low, true, beside, output),
+        Operation::FindNamed => find(sheet, x.low, x.high, true, work, output),
     }
 }
 

@@ -5,14 +5,14 @@ use mathlib.Core.Bool.{Bool, true, false}
 use mathlib.Core.List.{List}
 use lib.Dec.{leb}
 use lib.ListN.{length}
-use Rattle.theory.specs.Refusals.{answer, refused, unplaced, needing, check, _>>=_}
+use Rattle.theory.specs.Refusals.{Answer, answer, refused, unplaced, needing, check, _>>=_}
 use Rattle.theory.specs.Refusals as theory
 use Rattle.theory.specs.Problem.{Problem}
-use Rattle.theory.specs.Columns.{placedProblem}
 use Rattle.theory.specs.Operations.{maxInstances, isSize, contentOf, writtenText}
 use Rattle.theory.proofs.Tests.{leb-of-≤, leb-of-<}
 use Rattle.theory.proofs.Answers.{bind-step, bind-refused, check-of-true, check-of-false}
-use Rattle.answers.specs.declared.Refusal.{Refusal}
+use Rattle.naming.specs.NamedOperations.{namedContentOf, namedWrittenText, modeProblem, writtenTextIn}
+use Rattle.problem.specs.Modes.{placedIn}
 use Rattle.writing.specs.Texts.{instancesAt, clausesText, textWithin, textAt}
 
 module _ (p : Problem) (s room : ℕ) where
@@ -30,31 +30,51 @@ module _ (p : Problem) (s room : ℕ) where
   pub not-too-many : instancesAt p s ≤ maxInstances → textAt p s room ≡ textWithin p s room
   not-too-many h = bind-step _ _ tt _ (check-of-true (leb (instancesAt p s) maxInstances) (unplaced 9) (leb-of-≤ (instancesAt p s) maxInstances h)) refl
 
-module _ (sheet : List ℕ) (s room : ℕ) where
-  -- 1 to 7
-  pub sheet-refusal : (q : theory.Refusal) → placedProblem sheet ≡ refused q → writtenText sheet s room ≡ refused q
-  unfolding writtenText contentOf
-  sheet-refusal q e = bind-refused _ _ q (bind-refused _ _ q e)
+module _ (sheet : List ℕ) (s room : ℕ) (named : Bool) where
+  -- 9 of a problem as handed in
+  abbrev counted : Problem → Answer Problem
+  counted p = check (leb (instancesAt (modeProblem named p) s) maxInstances) (unplaced 9) >>= λ _. answer p
 
-  -- 8
-  pub size-refusal : (p : Problem) → placedProblem sheet ≡ answer p → isSize s ≡ false → writtenText sheet s room ≡ refused (unplaced 8)
-  unfolding writtenText contentOf
-  size-refusal p e h = bind-refused _ _ (unplaced 8) (bind-step _ _ p _ e (bind-refused _ _ (unplaced 8) (check-of-false (isSize s) (unplaced 8) h)))
+  -- Write's chain, of both modes
+  abbrev chain : Answer (List ℕ)
+  chain = (placedIn named sheet >>= λ p. check (isSize s) (unplaced 8) >>= λ _. counted p) >>= λ p. textWithin (modeProblem named p) s room
 
-  -- what is left to check at a checked size
-  module _ (p : Problem) (read : placedProblem sheet ≡ answer p) (h : isSize s ≡ true) where
-    content : contentOf sheet s ≡ (check (leb (instancesAt p s) maxInstances) (unplaced 9) >>= λ _. answer p)
-    unfolding contentOf
-    content = bind-step _ _ p _ read (bind-step _ _ tt _ (check-of-true (isSize s) (unplaced 8) h) refl)
+  -- 1 to 7, and 21
+  refused-first : (q : theory.Refusal) → placedIn named sheet ≡ refused q → chain ≡ refused q
+  refused-first q e = bind-refused _ _ q (bind-refused _ _ q e)
 
-    pub sized-text : writtenText sheet s room ≡ textAt p s room
-    unfolding writtenText
-    sized-text = go (leb (instancesAt p s) maxInstances) refl
+  module _ (p : Problem) (read : placedIn named sheet ≡ answer p) where
+    -- 8
+    refused-8 : isSize s ≡ false → chain ≡ refused (unplaced 8)
+    refused-8 h = bind-refused _ _ (unplaced 8) (bind-step _ _ p _ read (bind-refused _ _ (unplaced 8) (check-of-false (isSize s) (unplaced 8) h)))
+
+    -- what is left to check at a checked size
+    sized : isSize s ≡ true → chain ≡ textAt (modeProblem named p) s room
+    sized h = go (leb (instancesAt (modeProblem named p) s) maxInstances) refl
       where
-        go : (b : Bool) → leb (instancesAt p s) maxInstances ≡ b → writtenText sheet s room ≡ textAt p s room
+        content : (placedIn named sheet >>= λ p. check (isSize s) (unplaced 8) >>= λ _. counted p) ≡ counted p
+        content = bind-step _ _ p _ read (bind-step _ _ tt _ (check-of-true (isSize s) (unplaced 8) h) refl)
+
+        go : (b : Bool) → leb (instancesAt (modeProblem named p) s) maxInstances ≡ b → chain ≡ textAt (modeProblem named p) s room
         go true t =
-            let taken = check-of-true (leb (instancesAt p s) maxInstances) (unplaced 9) t in
+            let taken = check-of-true (leb (instancesAt (modeProblem named p) s) maxInstances) (unplaced 9) t in
             bind-step _ _ p _ (content ∙ bind-step _ _ tt (answer p) taken refl) (sym (bind-step _ _ tt _ taken refl))
         go false t =
-            let many = check-of-false (leb (instancesAt p s) maxInstances) (unplaced 9) t in
+            let many = check-of-false (leb (instancesAt (modeProblem named p) s) maxInstances) (unplaced 9) t in
             bind-refused _ _ (unplaced 9) (content ∙ bind-refused _ _ (unplaced 9) many) ∙ sym (bind-refused _ _ (unplaced 9) many)
+
+-- it is what the definition says
+is-chain : (sheet : List ℕ) (s room : ℕ) (named : Bool) → writtenTextIn named sheet s room ≡ chain sheet s room named
+unfolding writtenText contentOf namedWrittenText namedContentOf
+is-chain sheet s room false = refl
+is-chain sheet s room true = refl
+
+module _ (sheet : List ℕ) (s room : ℕ) (named : Bool) where
+  pub sheet-refusal : (q : theory.Refusal) → placedIn named sheet ≡ refused q → writtenTextIn named sheet s room ≡ refused q
+  sheet-refusal q e = is-chain sheet s room named ∙ refused-first sheet s room named q e
+
+  pub size-refusal : (p : Problem) → placedIn named sheet ≡ answer p → isSize s ≡ false → writtenTextIn named sheet s room ≡ refused (unplaced 8)
+  size-refusal p e h = is-chain sheet s room named ∙ refused-8 sheet s room named p e h
+
+  pub sized-text : (p : Problem) → placedIn named sheet ≡ answer p → isSize s ≡ true → writtenTextIn named sheet s room ≡ textAt (modeProblem named p) s room
+  sized-text p e h = is-chain sheet s room named ∙ sized sheet s room named p e h

@@ -25,7 +25,7 @@ header-small : (v m : ℕ) → v < 2 ^ 32 → m < 2 ^ 32 → length (header v m)
 header-small v m h k = omega (arith, length-header v m, decimal-within 9 v (omega arith), decimal-within 9 m (omega arith))
 
 -- the length of the text fits its type
-pub needed-small : (v m a b n : ℕ) → v < 2 ^ 32 → m < 2 ^ 32 → a ≡ length (header v m) → b ≡ n → n < 2 ^ 42 → a + b < 2 ^ 64
+pub needed-small : (v m a b n : ℕ) → v < 2 ^ 32 → m < 2 ^ 32 → a ≡ length (header v m) → b ≡ n → n < 2 ^ 43 → a + b < 2 ^ 64
 needed-small v m a b n h k e f l = omega (arith, header-small v m h k)
 
 module _ (p : theory.Problem) (s v m : ℕ) (variables : v ≡ propCount s (p .symbols)) (clauses : m ≡ length (clausesAt p s)) where

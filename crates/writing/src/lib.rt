@@ -1,13 +1,13 @@
-// Write: the clauses of a sheet at a size, as a text. The refusals in document 01's order, then the text.
+// Write: the clauses of a sheet at a size, as a text, plain or with named terms. The refusals in document 01's order, then the text.
 mod clause_text;
 
 use crate::clause_text::write_text;
 use answers::WriteAnswer;
 use answers::at_line;
-use columns::sheet::sheet_refusal;
+use columns::sheet::refusal_in;
 use counts::Counts;
 use counts::counts_at;
-use problem::sheet::read_problem;
+use problem::modes::read_in;
 use syntax::limits::Problem;
 use syntax::size::DomainSize;
 use syntax::size::SizeCheck;
@@ -16,12 +16,12 @@ ghost use Rattle.answers.specs.Calls.{WriteCall, WritingCall};
 ghost use Rattle.problem.specs.Problems.{problemIn};
 ghost use Rattle.writing.specs.Texts.{Sized, textAt};
 
-pub fn write_clauses(sheet: &[u8], size: u64, output: &mut [u8]) -> WriteAnswer
-    ensures { λ r. ⌜ WriteCall (now (sheet .entry)) size r (now (output .entry)) (now (output .exit)) ⌝ }
+pub fn write_clauses(sheet: &[u8], size: u64, named: bool, output: &mut [u8]) -> WriteAnswer
+    ensures { λ r. ⌜ WriteCall (now (sheet .entry)) size named r (now (output .entry)) (now (output .exit)) ⌝ }
 {
-    let r = read_problem(sheet);
+    let r = read_in(sheet, named);
     if r.fault != 0 {
-        return WriteAnswer::Refused(sheet_refusal(sheet, r.fault, r.line));
+        return WriteAnswer::Refused(refusal_in(sheet, named, r.fault, r.line));
     }
     let p = r.problem;
     match DomainSize::checked(size as usize) {

@@ -49,11 +49,13 @@ pub enum Reason {
     NoModel = 19,
     /// 20: a case of size high has over 64 cells, the most that the plain search takes.
     TooManyCells = 20,
+    /// 21: with [`Terms::Named`], over 32 helper constants.
+    TooManyHelpers = 21,
 }
 
 impl Reason {
     /// Every reason, in order of its number.
-    pub const ALL: [Reason; 20] = [
+    pub const ALL: [Reason; 21] = [
         Reason::SheetTooLong,
         Reason::Layout,
         Reason::OverLimit,
@@ -74,6 +76,7 @@ impl Reason {
         Reason::BadAnswer,
         Reason::NoModel,
         Reason::TooManyCells,
+        Reason::TooManyHelpers,
     ];
 
     /// The specification's number of this reason.
@@ -137,6 +140,11 @@ impl fmt::Display for Reason {
                 "a case of size high has more than 64 cells, and the plain search takes at most 64: take a lower high, or \
                  find without plain"
             }
+            Reason::TooManyHelpers => {
+                "the sheet has more than 32 different terms to name (terms without variables that are no constants and \
+                 stand inside no other), and at most 32 are named: declare constants for some of them, or leave terms as \
+                 they are written"
+            }
         })
     }
 }
@@ -170,6 +178,20 @@ impl fmt::Display for Refusal {
 }
 
 impl std::error::Error for Refusal {}
+
+/// What becomes of a sheet's fixed terms: those without variables that are no constants.
+///
+/// Where neither call is refused, a search answers the same with both.
+#[derive(Clone, Copy, Debug, PartialEq, Eq)]
+pub enum Terms {
+    /// They stay as they are written.
+    AsWritten,
+    /// Each outermost one is named: a helper constant stands in its place, equal terms share one, and one clause more for
+    /// each helper, in front of the sheet's, says that it equals its term. Helpers have cells and propositional variables
+    /// after those of all predicates, and are not shown in a case. The limits of a clause are those of the clauses with
+    /// the names put in and of the helpers' own.
+    Named,
+}
 
 /// How many functions, predicates and clauses an accepted sheet has.
 #[derive(Clone, Copy, Debug, PartialEq, Eq)]
@@ -242,10 +264,10 @@ pub struct Operations {
     pub read: fn(&[u8]) -> Answer<Counts>,
     pub judge: fn(&[u8], &[u8]) -> Answer<bool>,
     pub explain: fn(&[u8], &[u8]) -> Answer<Option<FirstFailure>>,
-    pub write: fn(&[u8], u64, &mut [u8]) -> Answer<usize>,
-    pub read_back: fn(&[u8], u64, &[u8], &mut [u8]) -> Answer<usize>,
+    pub write: fn(&[u8], u64, Terms, &mut [u8]) -> Answer<usize>,
+    pub read_back: fn(&[u8], u64, Terms, &[u8], &mut [u8]) -> Answer<usize>,
     pub setting: fn(&[u8], &[u8], &mut [u8]) -> Answer<usize>,
-    pub find: fn(&[u8], u64, u64, &mut [u32], &mut [u8]) -> Answer<Search>,
+    pub find: fn(&[u8], u64, u64, Terms, &mut [u32], &mut [u8]) -> Answer<Search>,
     pub find_plain: fn(&[u8], u64, u64, &mut [u8]) -> Answer<Search>,
     pub from_tptp: fn(&[u8], &mut [u8]) -> Answer<usize>,
     pub from_solver: fn(&[u8], u64, &[u8], &mut [u8]) -> Answer<SolverAnswer>,
@@ -262,7 +284,7 @@ mod tests {
             assert_eq!(Reason::from_number(reason.number()), Some(reason));
         }
         assert_eq!(Reason::from_number(0), None);
-        assert_eq!(Reason::from_number(21), None);
+        assert_eq!(Reason::from_number(22), None);
     }
 
     #[test]

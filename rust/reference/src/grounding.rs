@@ -2,13 +2,17 @@
 
 use crate::flattening::{FlatClause, Shape};
 use crate::problem::Problem;
+use std::ops::Range;
 
 /// Where the propositional variables of each symbol begin, at one size. Variables are counted from 0 here; the texts
 /// count from 1.
 pub struct Numbering {
     pub size: usize,
+    /// The declared ones and, after all predicates, the helpers.
     pub function_base: Vec<usize>,
     pub predicate_base: Vec<usize>,
+    /// The variables of predicates.
+    pub of_predicates: Range<usize>,
     /// V.
     pub variables: usize,
 }
@@ -20,37 +24,42 @@ impl Numbering {
             variables += count;
             variables - count
         };
-        let function_base = problem
-            .functions
-            .iter()
-            .map(|f| base(power(size, f.arity) * size))
-            .collect();
-        let predicate_base = problem.predicates.iter().map(|p| base(power(size, p.arity))).collect();
+        let functions = problem.functions.iter();
+        let mut function_base: Vec<usize> = functions.map(|f| base(power(size, f.arity) * size)).collect();
+        let predicates_start = base(0);
+        let predicates = problem.predicates.iter();
+        let predicate_base = predicates.map(|p| base(power(size, p.arity))).collect();
+        let of_predicates = predicates_start..base(0);
+        function_base.extend((0..problem.helpers).map(|_| base(size)));
         Numbering {
             size,
             function_base,
             predicate_base,
+            of_predicates,
             variables,
         }
     }
 
-    /// The cell values under a setting, or nothing where a function cell has no result or several.
+    /// The values of the declared symbols' cells under a setting, or nothing where a function cell, a helper's too, has no
+    /// result or several.
     pub fn cells(&self, problem: &Problem, yes: impl Fn(usize) -> bool) -> Option<Vec<u8>> {
+        let result = |first: usize| {
+            let mut results = (0..self.size).filter(|d| yes(first + d));
+            let result = results.next()?;
+            results.next().is_none().then_some(result as u8 + 1)
+        };
         let mut cells = Vec::new();
         for (function, base) in problem.functions.iter().zip(&self.function_base) {
             for cell in 0..power(self.size, function.arity) {
-                let first = base + cell * self.size;
-                let mut results = (0..self.size).filter(|d| yes(first + d));
-                let result = results.next()?;
-                if results.next().is_some() {
-                    return None;
-                }
-                cells.push(result as u8 + 1);
+                cells.push(result(base + cell * self.size)?);
             }
         }
         for (predicate, base) in problem.predicates.iter().zip(&self.predicate_base) {
             let count = power(self.size, predicate.arity);
             cells.extend((0..count).map(|cell| yes(base + cell) as u8));
+        }
+        for &helper in &self.function_base[problem.functions.len()..] {
+            result(helper)?;
         }
         Some(cells)
     }
@@ -68,8 +77,8 @@ impl Counted {
         let s = size as u64;
         let mut instances = 0;
         let mut literals = 0;
-        for function in &problem.functions {
-            let cells = s.pow(function.arity as u32);
+        for arity in problem.function_arities() {
+            let cells = s.pow(arity as u32);
             instances += cells * (1 + s * (s - 1) / 2);
             literals += cells * s * s;
         }
@@ -96,8 +105,8 @@ impl Counted {
 pub fn for_each_clause(problem: &Problem, size: usize, mut take: impl FnMut(&[i32])) {
     let numbering = Numbering::new(problem, size);
     let mut clause = Vec::new();
-    for (function, base) in problem.functions.iter().zip(&numbering.function_base) {
-        for cell in 0..power(size, function.arity) {
+    for (arity, base) in problem.function_arities().zip(&numbering.function_base) {
+        for cell in 0..power(size, arity) {
             let first = (base + cell * size + 1) as i32;
             let results = first..first + size as i32;
             clause.clear();

@@ -1,13 +1,15 @@
 //! Nesskettle's specification a second time, in plain Rust.
 //!
-//! Written from the specification, without a look at the proved code, so that both can be compared. One call is an
+//! Written from the specification, without a look at the proved code, so that both can be compared. Two parts are an
 //! exception in part: the author of [`from_solver`] had seen in which order the proved code refuses, though not how it reads
-//! the text. The calls take and answer what the proved library's calls do.
+//! the text; the author of [`Terms::Named`] had read notes on how the proved code is laid out. The calls take and answer what
+//! the proved library's calls do.
 
 mod flattening;
 mod grounding;
 mod interpretation;
 mod lines;
+mod naming;
 mod plain;
 mod problem;
 mod program;
@@ -18,7 +20,7 @@ mod syntax;
 mod tptp;
 pub mod vectors;
 
-pub use nesskettle_answers::{Counts, FirstFailure, Operations, Reason, Refusal, Search, SolverAnswer};
+pub use nesskettle_answers::{Counts, FirstFailure, Operations, Reason, Refusal, Search, SolverAnswer, Terms};
 pub use program::{explainer, program};
 pub use sheet::sheet_of;
 
@@ -51,7 +53,7 @@ pub const OPERATIONS: Operations = Operations {
 
 /// Reads a sheet: its counts.
 pub fn read(sheet: &[u8]) -> Result<Counts, Refusal> {
-    let problem = Problem::read(sheet)?;
+    let problem = Problem::read(sheet, Terms::AsWritten)?;
     Ok(Counts {
         functions: problem.functions.len() as u64,
         predicates: problem.predicates.len() as u64,
@@ -67,14 +69,14 @@ pub fn judge(sheet: &[u8], case: &[u8]) -> Result<bool, Refusal> {
 /// The first clause that is not true in the case, and the first choice of values under which it fails; nothing where the
 /// case is a model of the sheet.
 pub fn explain(sheet: &[u8], case: &[u8]) -> Result<Option<FirstFailure>, Refusal> {
-    let problem = Problem::read(sheet)?;
+    let problem = Problem::read(sheet, Terms::AsWritten)?;
     let interpretation = Interpretation::read(&problem, case)?;
     Ok(interpretation.first_failure(&problem))
 }
 
 /// Writes the sheet's clauses at a size as DIMACS text; the text's length.
-pub fn write(sheet: &[u8], size: u64, out: &mut [u8]) -> Result<usize, Refusal> {
-    let problem = Problem::read(sheet)?;
+pub fn write(sheet: &[u8], size: u64, terms: Terms, out: &mut [u8]) -> Result<usize, Refusal> {
+    let problem = Problem::read(sheet, terms)?;
     let size = checked_size(size)?;
     few_instances(&Counted::new(&problem, size))?;
     let text = grounding::dimacs(&problem, size);
@@ -82,8 +84,8 @@ pub fn write(sheet: &[u8], size: u64, out: &mut [u8]) -> Result<usize, Refusal> 
 }
 
 /// Reads a setting back and writes its case; the case's length.
-pub fn read_back(sheet: &[u8], size: u64, setting: &[u8], out: &mut [u8]) -> Result<usize, Refusal> {
-    let problem = Problem::read(sheet)?;
+pub fn read_back(sheet: &[u8], size: u64, terms: Terms, setting: &[u8], out: &mut [u8]) -> Result<usize, Refusal> {
+    let problem = Problem::read(sheet, terms)?;
     let size = checked_size(size)?;
     let numbering = Numbering::new(&problem, size);
     if setting.len() != numbering.variables || setting.iter().any(|&b| b > 1) {
@@ -96,14 +98,22 @@ pub fn read_back(sheet: &[u8], size: u64, setting: &[u8], out: &mut [u8]) -> Res
 
 /// Writes the setting of a case, which need not be a model; the setting's length.
 pub fn setting(sheet: &[u8], case: &[u8], out: &mut [u8]) -> Result<usize, Refusal> {
-    let problem = Problem::read(sheet)?;
+    let problem = Problem::read(sheet, Terms::AsWritten)?;
     let interpretation = Interpretation::read(&problem, case)?;
     put(&interpretation.setting(&problem), out)
 }
 
 /// Searches the sizes from low to high for the least model at the smallest size.
-pub fn find(sheet: &[u8], low: u64, high: u64, work: &mut [u32], out: &mut [u8]) -> Result<Search, Refusal> {
-    find_within(sheet, low, high, work, out, u64::MAX).map(|search| search.expect("no search makes so many choices"))
+pub fn find(
+    sheet: &[u8],
+    low: u64,
+    high: u64,
+    terms: Terms,
+    work: &mut [u32],
+    out: &mut [u8],
+) -> Result<Search, Refusal> {
+    find_within(sheet, low, high, terms, work, out, u64::MAX)
+        .map(|search| search.expect("no search makes so many choices"))
 }
 
 /// As [`find`], but a search that needs more choices than allowed ends with nothing, and has changed nothing.
@@ -111,11 +121,12 @@ pub fn find_within(
     sheet: &[u8],
     low: u64,
     high: u64,
+    terms: Terms,
     work: &mut [u32],
     out: &mut [u8],
     allowance: u64,
 ) -> Result<Option<Search>, Refusal> {
-    let problem = Problem::read(sheet)?;
+    let problem = Problem::read(sheet, terms)?;
     let top = checked_range(low, high)?;
     let counted = Counted::new(&problem, top);
     few_instances(&counted)?;
@@ -162,7 +173,7 @@ pub fn find_plain_within(
     out: &mut [u8],
     allowance: u64,
 ) -> Result<Option<Search>, Refusal> {
-    let problem = Problem::read(sheet)?;
+    let problem = Problem::read(sheet, Terms::AsWritten)?;
     let top = checked_range(low, high)?;
     if plain::cell_values(&problem, top).len() > MAX_PLAIN_CELLS {
         return Err(refused(Reason::TooManyCells));
@@ -194,7 +205,7 @@ pub fn from_tptp(text: &[u8], out: &mut [u8]) -> Result<usize, Refusal> {
 
 /// Reads a SAT solver's answer to the clauses at a size. A case that is a model is written; none is the solver's claim.
 pub fn from_solver(sheet: &[u8], size: u64, text: &[u8], out: &mut [u8]) -> Result<SolverAnswer, Refusal> {
-    let problem = Problem::read(sheet)?;
+    let problem = Problem::read(sheet, Terms::AsWritten)?;
     let size = checked_size(size)?;
     let numbering = Numbering::new(&problem, size);
     let claim = solver::claim(text, numbering.variables).ok_or(refused(Reason::BadAnswer))?;
@@ -211,16 +222,16 @@ pub fn from_solver(sheet: &[u8], size: u64, text: &[u8], out: &mut [u8]) -> Resu
 }
 
 /// The needed lengths of a search: work numbers and output bytes at the size, for a sheet that is not refused.
-pub fn needed(sheet: &[u8], size: u64) -> Result<(u64, u64), Refusal> {
-    let problem = Problem::read(sheet)?;
+pub fn needed(sheet: &[u8], size: u64, terms: Terms) -> Result<(u64, u64), Refusal> {
+    let problem = Problem::read(sheet, terms)?;
     let size = checked_size(size)?;
     let work = Counted::new(&problem, size).work();
     Ok((work, interpretation::text_length(&problem, size) as u64))
 }
 
 /// The counts I and V of a sheet at a size: instances before dropping, propositional variables.
-pub fn instances_and_variables(sheet: &[u8], size: u64) -> Result<(u64, u64), Refusal> {
-    let problem = Problem::read(sheet)?;
+pub fn instances_and_variables(sheet: &[u8], size: u64, terms: Terms) -> Result<(u64, u64), Refusal> {
+    let problem = Problem::read(sheet, terms)?;
     let counted = Counted::new(&problem, checked_size(size)?);
     Ok((counted.instances, counted.variables))
 }

@@ -2,8 +2,9 @@
 
 use crate::flattening::{self, FlatClause};
 use crate::lines::{Line, Lines};
+use crate::naming::Helpers;
 use crate::syntax::{self, Clause, Symbol, Word};
-use crate::{refused, Reason, Refusal};
+use crate::{refused, Reason, Refusal, Terms};
 
 pub const MAX_BYTES: usize = 16_384;
 pub const MAX_SYMBOLS: usize = 12;
@@ -14,34 +15,49 @@ pub const MAX_WORDS: usize = 64;
 pub const MAX_LITERALS: usize = 16;
 /// After flattening.
 pub const MAX_VARIABLES: usize = 10;
+/// Helper constants where terms are named.
+pub const MAX_HELPERS: usize = 32;
 pub const LETTERS: std::ops::RangeInclusive<u8> = b'A'..=b'H';
 
 /// An accepted sheet.
 pub struct Problem {
+    /// The declared ones. Where a clause has a function behind them, it is a helper constant.
     pub functions: Vec<Symbol>,
     pub predicates: Vec<Symbol>,
-    /// As written.
+    /// How many helper constants there are; none where terms stay as written.
+    pub helpers: usize,
+    /// As written; or the helpers' own, then the sheet's with the names put in.
     pub clauses: Vec<Clause>,
     /// After steps 1 and 2.
     pub flat: Vec<FlatClause>,
 }
 
 impl Problem {
-    pub fn read(sheet: &[u8]) -> Result<Problem, Refusal> {
+    pub fn read(sheet: &[u8], terms: Terms) -> Result<Problem, Refusal> {
         if sheet.len() > MAX_BYTES {
             return Err(refused(Reason::SheetTooLong));
         }
         let mut problem = Problem {
             functions: Vec::new(),
             predicates: Vec::new(),
+            helpers: 0,
             clauses: Vec::new(),
             flat: Vec::new(),
         };
-        problem.read_lines(Lines::new(sheet, Reason::Layout))?;
+        problem.read_lines(Lines::new(sheet, Reason::Layout), terms)?;
+        if problem.helpers > MAX_HELPERS {
+            return Err(refused(Reason::TooManyHelpers));
+        }
         Ok(problem)
     }
 
-    fn read_lines(&mut self, mut lines: Lines) -> Result<(), Refusal> {
+    /// Of the declared functions, then of the helpers.
+    pub fn function_arities(&self) -> impl Iterator<Item = usize> + '_ {
+        let declared = self.functions.iter().map(|f| f.arity);
+        declared.chain(std::iter::repeat_n(0, self.helpers))
+    }
+
+    fn read_lines(&mut self, mut lines: Lines, terms: Terms) -> Result<(), Refusal> {
         let mut first = lines.next();
         first.bytes(b"sheet=1")?;
         first.end()?;
@@ -53,8 +69,13 @@ impl Problem {
             let symbol = self.symbol(lines.next(), b"pred=")?;
             self.predicates.push(symbol);
         }
+        let mut helpers = Helpers::new(self.functions.len());
         for _ in 0..count(lines.next(), b"clauses=", MAX_CLAUSES)? {
-            self.read_clause(lines.next(), b"clause=")?;
+            let (line, key) = (lines.next(), b"clause=");
+            match terms {
+                Terms::AsWritten => self.read_clause(line, key)?,
+                Terms::Named => self.read_named(line, key, &mut helpers)?,
+            }
         }
         lines.end()
     }
@@ -80,31 +101,51 @@ impl Problem {
         })
     }
 
-    /// The words after the key: unknown words, then the grammar, then the limits.
+    /// The clause after the key as it is written. A fault of its limits is told at the word that is over them, or at the
+    /// line's start where only the variables are.
     fn read_clause(&mut self, mut line: Line, key: &[u8]) -> Result<(), Refusal> {
-        line.bytes(key)?;
-        let text = line.rest()?;
-        let pieces = pieces(text);
-        let place = |word: usize| key.len() + pieces.get(word).map_or(text.len(), |(place, _)| *place);
-        let mut words = Vec::new();
-        for (i, (_, piece)) in pieces.iter().enumerate() {
-            let word = self.word(piece);
-            words.push(word.ok_or_else(|| line.refused(Reason::UnknownWord, place(i)))?);
-        }
-        if let Some(word) = syntax::first_misplaced(&words) {
-            return Err(line.refused(Reason::NotAClause, place(word)));
-        }
-        if let Some(word) = first_over_limits(&words) {
-            return Err(line.refused(Reason::ClauseTooLarge, place(word)));
-        }
-        let clause = syntax::clause(&words);
-        let flat = flattening::flatten(&clause);
-        if flat.variables > MAX_VARIABLES {
-            return Err(line.refused(Reason::ClauseTooLarge, 0));
-        }
+        let (words, places) = self.words(&mut line, key)?;
+        let (clause, flat) = within_limits(&words).map_err(|over| {
+            let before = over.map_or(0, |word| places[word]);
+            line.refused(Reason::ClauseTooLarge, before)
+        })?;
         self.clauses.push(clause);
         self.flat.push(flat);
         Ok(())
+    }
+
+    /// The clause after the key with names for its fixed terms, and the own clauses of the helpers that are new with it, which
+    /// stand in front of the sheet's. Limits are those of both, and a fault of them is told at the line's start.
+    fn read_named(&mut self, mut line: Line, key: &[u8], helpers: &mut Helpers) -> Result<(), Refusal> {
+        let (words, _) = self.words(&mut line, key)?;
+        let too_large = |_| line.refused(Reason::ClauseTooLarge, 0);
+        let (clause, flat) = within_limits(&helpers.shorten(&words)).map_err(too_large)?;
+        self.clauses.push(clause);
+        self.flat.push(flat);
+        for helper in self.helpers..helpers.count() {
+            let (clause, flat) = within_limits(&helpers.own_clause(helper)).map_err(too_large)?;
+            self.clauses.insert(helper, clause);
+            self.flat.insert(helper, flat);
+        }
+        self.helpers = helpers.count();
+        Ok(())
+    }
+
+    /// The words after the key, which make up a clause, each with how many bytes of the line stand before it.
+    fn words(&self, line: &mut Line, key: &[u8]) -> Result<(Vec<Word>, Vec<usize>), Refusal> {
+        line.bytes(key)?;
+        let text = line.rest()?;
+        let (mut words, mut places) = (Vec::new(), Vec::new());
+        for (place, piece) in pieces(text) {
+            places.push(key.len() + place);
+            let word = self.word(piece);
+            words.push(word.ok_or_else(|| line.refused(Reason::UnknownWord, key.len() + place))?);
+        }
+        if let Some(word) = syntax::first_misplaced(&words) {
+            let before = places.get(word).copied().unwrap_or(key.len() + text.len());
+            return Err(line.refused(Reason::NotAClause, before));
+        }
+        Ok((words, places))
     }
 
     fn word(&self, word: &[u8]) -> Option<Word> {
@@ -153,6 +194,20 @@ fn pieces(text: &[u8]) -> Vec<(usize, &[u8])> {
         Some((place, piece))
     };
     text.split(|&b| b == b' ').scan(0, placed).collect()
+}
+
+/// The clause that the words make up, and after steps 1 and 2; or the first word over a limit, nothing where only the
+/// variables are.
+fn within_limits(words: &[Word]) -> Result<(Clause, FlatClause), Option<usize>> {
+    if let Some(word) = first_over_limits(words) {
+        return Err(Some(word));
+    }
+    let clause = syntax::clause(words);
+    let flat = flattening::flatten(&clause);
+    if flat.variables > MAX_VARIABLES {
+        return Err(None);
+    }
+    Ok((clause, flat))
 }
 
 /// The 65th word or the 17th sign, whichever comes first.

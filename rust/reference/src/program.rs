@@ -1,6 +1,6 @@
 //! The programs as functions from standard input to standard output.
 
-use crate::{explain, find, Reason, Refusal, Search};
+use crate::{explain, find, Reason, Refusal, Search, Terms};
 
 const WORK: usize = 16_000;
 const OUTPUT: usize = 24_902;
@@ -9,7 +9,8 @@ const OUTPUT: usize = 24_902;
 pub fn program(input: &[u8]) -> Vec<u8> {
     let mut work = vec![0; WORK];
     let mut out = vec![0; OUTPUT];
-    let answer = bounds_and_sheet(input).and_then(|(low, high, sheet)| find(sheet, low, high, &mut work, &mut out));
+    let answer = bounds_and_sheet(input)
+        .and_then(|(low, high, sheet)| find(sheet, low, high, Terms::AsWritten, &mut work, &mut out));
     match answer {
         Ok(Search::Found { length, .. }) => {
             let mut text = b"answer=found\n".to_vec();

@@ -5,6 +5,7 @@
 
 use crate::grounding::{for_each_clause, Numbering};
 use crate::problem::Problem;
+use std::ops::Range;
 
 pub enum Outcome {
     /// The least model's cells.
@@ -50,8 +51,8 @@ enum Ended {
 
 struct Search {
     variables: u32,
-    /// Variables below this one belong to functions: yes comes first.
-    predicates_from: u32,
+    /// The variables of predicates: no comes first. For all others, those of functions, yes does.
+    of_predicates: Range<u32>,
     clauses: Vec<Left>,
     /// The clauses of each literal: from `starts[code]` to `starts[code + 1]` in `occurrences`.
     starts: Vec<u32>,
@@ -100,7 +101,7 @@ impl Search {
         }
         let mut search = Search {
             variables: numbering.variables as u32,
-            predicates_from: numbering.predicate_base.first().copied().unwrap_or(numbering.variables) as u32,
+            of_predicates: numbering.of_predicates.start as u32..numbering.of_predicates.end as u32,
             clauses,
             starts,
             occurrences,
@@ -144,7 +145,7 @@ impl Search {
                 return Ended::Stopped;
             }
             *allowance -= 1;
-            let no_first = self.lowest >= self.predicates_from;
+            let no_first = self.of_predicates.contains(&self.lowest);
             self.untried.push(self.trail.len());
             self.set(2 * self.lowest + no_first as u32);
         }

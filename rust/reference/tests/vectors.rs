@@ -11,7 +11,7 @@ fn the_operations_answer_as_stored() {
             count += 1;
         }
     }
-    assert!(count > 4000, "only {count} vectors");
+    assert!(count > 6000, "only {count} vectors");
 }
 
 #[test]

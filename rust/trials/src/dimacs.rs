@@ -3,7 +3,7 @@
 pub struct Dimacs {
     pub text: Vec<u8>,
     pub variables: usize,
-    clauses: usize,
+    count: usize,
     /// Where the clauses begin.
     body: usize,
 }
@@ -21,7 +21,7 @@ impl Dimacs {
         let number = |text: &str| text.parse().expect("a count is a number");
         Dimacs {
             variables: number(variables),
-            clauses: number(clauses),
+            count: number(clauses),
             body,
             text,
         }
@@ -30,17 +30,24 @@ impl Dimacs {
     /// Is a number of every clause true? A number n is if byte n is 1, and -n if it is 0.
     pub fn satisfied_by(&self, setting: &[u8]) -> bool {
         assert_eq!(setting.len(), self.variables, "one byte for each variable");
-        let is_true = |number: i32| (setting[number.unsigned_abs() as usize - 1] == 1) == (number > 0);
-        let satisfied = |clause: &str| {
+        let is_true = |&number: &i32| (setting[number.unsigned_abs() as usize - 1] == 1) == (number > 0);
+        self.clauses().all(|clause| clause.iter().any(is_true))
+    }
+
+    /// The numbers of each clause.
+    pub fn clauses(&self) -> impl Iterator<Item = Vec<i32>> + '_ {
+        let lines = std::str::from_utf8(&self.text[self.body..])
+            .expect("it is text")
+            .lines();
+        lines.map(|clause| {
             let numbers = clause.split(' ').map(|n| n.parse().expect("a number"));
-            numbers.take_while(|&n| n != 0).any(is_true)
-        };
-        String::from_utf8_lossy(&self.text[self.body..]).lines().all(satisfied)
+            numbers.take_while(|&n| n != 0).collect()
+        })
     }
 
     /// The clauses, and each of these numbers as one more clause.
     pub fn with_units(&self, units: &[i32]) -> Dimacs {
-        let mut text = format!("p cnf {} {}\n", self.variables, self.clauses + units.len()).into_bytes();
+        let mut text = format!("p cnf {} {}\n", self.variables, self.count + units.len()).into_bytes();
         text.extend_from_slice(&self.text[self.body..]);
         for unit in units {
             text.extend_from_slice(format!("{unit} 0\n").as_bytes());

@@ -268,6 +268,32 @@ impl Draft {
         text.into_bytes()
     }
 
+    /// The draft of an accepted sheet.
+    pub fn of_sheet(sheet: &[u8]) -> Draft {
+        let text = String::from_utf8_lossy(sheet);
+        let values = |key: &str| -> Vec<String> {
+            let values = text
+                .lines()
+                .filter_map(|line| line.split_once('=').filter(|(k, _)| *k == key));
+            values.map(|(_, value)| value.to_string()).collect()
+        };
+        let symbols = |key: &str| {
+            let symbol = |value: &String| {
+                let (name, arity) = value.split_once('/').expect("a symbol has an arity");
+                Symbol {
+                    name: name.to_string(),
+                    arity: arity.parse().expect("an arity is a digit"),
+                }
+            };
+            values(key).iter().map(symbol).collect()
+        };
+        Draft {
+            functions: symbols("fun"),
+            predicates: symbols("pred"),
+            clauses: values("clause").iter().map(|clause| words(clause)).collect(),
+        }
+    }
+
     /// The draft with its symbols in order of first appearance in its clauses, those that no clause has left out, and
     /// with the letters of each clause A, B, .. in that order.
     pub fn in_order_of_appearance(&self) -> Draft {
@@ -299,6 +325,13 @@ impl Draft {
         text.into_bytes()
     }
 
+    /// How many propositional variables its symbols have at a size.
+    pub fn variables(&self, size: usize) -> usize {
+        let functions = self.functions.iter().map(|f| size.pow(f.arity as u32 + 1));
+        let predicates = self.predicates.iter().map(|p| size.pow(p.arity as u32));
+        functions.chain(predicates).sum()
+    }
+
     /// The bytes of a random setting in which every function cell has one result.
     pub fn setting(&self, random: &mut Random, size: usize) -> Vec<u8> {
         let mut setting = Vec::new();
@@ -313,6 +346,11 @@ impl Draft {
         }
         setting
     }
+}
+
+/// What spaces part; nothing has no words.
+fn words(clause: &str) -> Vec<String> {
+    clause.split_whitespace().map(str::to_string).collect()
 }
 
 /// The words with the letters A, B, .. in order of first appearance.

@@ -1,6 +1,6 @@
 //! What the C interface must answer where the reference answers this.
 
-use nesskettle::raw::FindAnswer;
+use nesskettle::raw::{FindAnswer, WriteAnswer};
 use nesskettle_reference::{Refusal, Search};
 
 /// The answer of a search, and how many bytes it writes.
@@ -42,6 +42,32 @@ pub fn search(answer: Result<Search, Refusal>) -> (FindAnswer, usize) {
             };
             (none, 0)
         }
+    }
+}
+
+/// The answer of a call that writes a text, and the text.
+pub fn text(answer: Result<usize, Refusal>, output: &[u8]) -> (WriteAnswer, &[u8]) {
+    match answer {
+        Err(refusal) => (
+            WriteAnswer {
+                outcome: 0,
+                reason: refusal.reason.number(),
+                line: refusal.line,
+                column: refusal.column,
+                length: refusal.needed,
+            },
+            &[],
+        ),
+        Ok(n) => (
+            WriteAnswer {
+                outcome: 1,
+                reason: 0,
+                line: 0,
+                column: 0,
+                length: n as u64,
+            },
+            &output[..n],
+        ),
     }
 }
 

@@ -1,10 +1,12 @@
 //! Inputs on which the proved library is tried: generated ones from fixed seeds, damaged ones, and named problems.
 
 pub mod buffers;
+pub mod checks;
 pub mod damage;
 pub mod dimacs;
 pub mod draft;
 pub mod expected;
+pub mod fixed;
 pub mod models;
 pub mod places;
 pub mod problems;

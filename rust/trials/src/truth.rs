@@ -64,6 +64,16 @@ impl<'a> Tables<'a> {
     }
 }
 
+/// Is the case a model of the draft's clauses: does none fail under any choice?
+pub fn is_model(draft: &Draft, case: &[u8]) -> bool {
+    let tables = Tables::new(draft, case);
+    draft.clauses.iter().all(|clause| {
+        let letters = letters(clause);
+        let mut all = (0..choices(&letters, tables.size)).map(|number| choice(&letters, tables.size, number));
+        !all.any(|choice| tables.fails(clause, &choice))
+    })
+}
+
 /// The letters of a clause in order of first appearance.
 pub fn letters(clause: &[String]) -> Vec<char> {
     let mut letters = Vec::new();

@@ -1,5 +1,6 @@
 //! Examples of refused sheets and cases with their lines and columns, on the proved library and on the reference.
 
+use nesskettle_reference::Terms::{AsWritten, Named};
 use nesskettle_reference::{self as reference, sheet_of, Reason, Refusal};
 use nesskettle_trials::places::marked;
 
@@ -17,11 +18,21 @@ fn refused(sheet: &str, reason: Reason) {
         let shown = sheet.escape_ascii();
         assert_eq!((o.read)(sheet), Err(refusal), "{}: read {shown}", o.name);
         assert_eq!((o.judge)(sheet, b"x"), Err(refusal), "{}: judge {shown}", o.name);
-        assert_eq!((o.write)(sheet, 0, &mut []), Err(refusal), "{}: write {shown}", o.name);
-        let back = (o.read_back)(sheet, 0, b"x", &mut []);
-        assert_eq!(back, Err(refusal), "{}: read back {shown}", o.name);
-        let found = (o.find)(sheet, 0, 0, &mut [], &mut []);
-        assert_eq!(found, Err(refusal), "{}: find {shown}", o.name);
+        // where terms are named, a clause that is too large as written may be taken
+        let all = [AsWritten, Named];
+        let ways = if reason == Reason::ClauseTooLarge {
+            &all[..1]
+        } else {
+            &all
+        };
+        for &terms in ways {
+            let written = (o.write)(sheet, 0, terms, &mut []);
+            assert_eq!(written, Err(refusal), "{}: write {shown}", o.name);
+            let back = (o.read_back)(sheet, 0, terms, b"x", &mut []);
+            assert_eq!(back, Err(refusal), "{}: read back {shown}", o.name);
+            let found = (o.find)(sheet, 0, 0, terms, &mut [], &mut []);
+            assert_eq!(found, Err(refusal), "{}: find {shown}", o.name);
+        }
     }
 }
 
@@ -312,11 +323,20 @@ fn no_line_and_no_column() {
     let many = sheet_of(&[], &["q/3"], &["+ q A B C + q D E F"; 4]);
     for o in [nesskettle::OPERATIONS, reference::OPERATIONS] {
         unplaced((o.read)(&[b'x'; 16_385]), Reason::SheetTooLong);
-        unplaced((o.write)(&sheet, 9, &mut []), Reason::BadSize);
-        unplaced((o.write)(&many, 8, &mut []), Reason::TooManyInstances);
-        unplaced((o.find)(&sheet, 1, 1, &mut [], &mut []), Reason::WorkTooShort);
-        unplaced((o.write)(&sheet, 2, &mut []), Reason::OutputTooShort);
-        unplaced((o.read_back)(&sheet, 2, &[2; 4], &mut []), Reason::BadSetting);
-        unplaced((o.read_back)(&sheet, 2, &[1; 4], &mut []), Reason::NotOneResult);
+        unplaced((o.write)(&sheet, 9, AsWritten, &mut []), Reason::BadSize);
+        unplaced((o.write)(&many, 8, AsWritten, &mut []), Reason::TooManyInstances);
+        unplaced(
+            (o.find)(&sheet, 1, 1, AsWritten, &mut [], &mut []),
+            Reason::WorkTooShort,
+        );
+        unplaced((o.write)(&sheet, 2, AsWritten, &mut []), Reason::OutputTooShort);
+        unplaced(
+            (o.read_back)(&sheet, 2, AsWritten, &[2; 4], &mut []),
+            Reason::BadSetting,
+        );
+        unplaced(
+            (o.read_back)(&sheet, 2, AsWritten, &[1; 4], &mut []),
+            Reason::NotOneResult,
+        );
     }
 }

@@ -3,9 +3,10 @@
 //! Inputs are generated from fixed seeds. Each test also counts what came out, so that a generator that no longer reaches
 //! a result or a refusal fails.
 
-use nesskettle::raw::{self, ExplainAnswer, JudgeAnswer, ReadAnswer, WriteAnswer};
-use nesskettle_reference::{self as reference, Refusal};
+use nesskettle::raw::{self, ExplainAnswer, JudgeAnswer, ReadAnswer};
+use nesskettle_reference::{self as reference, Terms};
 use nesskettle_trials::buffers::{length_around, Lent};
+use nesskettle_trials::checks::{check_find_within, check_read_back, check_write, text, AS_WRITTEN};
 use nesskettle_trials::damage::damaged;
 use nesskettle_trials::draft::{long_sheet, Draft, Style, BROAD, LIMITS, LONG_CLAUSES, SMALL};
 use nesskettle_trials::expected;
@@ -17,10 +18,6 @@ use nesskettle_trials::tally::Tally;
 
 /// Sizes that no call takes, those that a narrower number would take among them.
 const BAD_SIZES: [u64; 6] = [0, 9, 10, 258, (1 << 32) + 2, u64::MAX];
-
-fn text(bytes: &[u8]) -> String {
-    String::from_utf8_lossy(bytes).into_owned()
-}
 
 /// What the column of a refused sheet points at.
 const IN_SHEETS: [&str; 15] = [
@@ -159,54 +156,9 @@ fn check_explain(tally: &mut Tally, sheet: &[u8], case: &[u8]) {
     tally.add(&outcome, answer.reason);
 }
 
-fn check_write(tally: &mut Tally, sheet: &[u8], size: u64, output_length: usize) {
-    let mut should = vec![0; output_length];
-    let (expected, front) = expected_text(reference::write(sheet, size, &mut should), &should);
-    let lent = sheet.to_vec();
-    let mut output = Lent::bytes(output_length);
-    let out = output.lend();
-    let answer = unsafe { raw::nk_write(lent.as_ptr(), lent.len(), size, out.as_mut_ptr(), out.len()) };
-    let call = || format!("write, size {size}, output {output_length}\n{}", text(sheet));
-    assert_eq!(answer, expected, "{}", call());
-    assert!(lent == sheet && output.holds(front), "lent bytes: {}", call());
-    tally.add("written", answer.reason);
-}
-
-fn check_read_back(tally: &mut Tally, sheet: &[u8], size: u64, setting: &[u8], output_length: usize) {
-    let mut should = vec![0; output_length];
-    let (expected, front) = expected_text(reference::read_back(sheet, size, setting, &mut should), &should);
-    let (lent, lent_setting) = (sheet.to_vec(), setting.to_vec());
-    let mut output = Lent::bytes(output_length);
-    let out = output.lend();
-    let answer = unsafe {
-        raw::nk_read_back(
-            lent.as_ptr(),
-            lent.len(),
-            size,
-            lent_setting.as_ptr(),
-            lent_setting.len(),
-            out.as_mut_ptr(),
-            out.len(),
-        )
-    };
-    let call = || {
-        format!(
-            "read back, size {size}, setting {setting:?}, output {output_length}\n{}",
-            text(sheet)
-        )
-    };
-    assert_eq!(answer, expected, "{}", call());
-    assert!(
-        lent == sheet && lent_setting == setting && output.holds(front),
-        "lent bytes: {}",
-        call()
-    );
-    tally.add("written", answer.reason);
-}
-
 fn check_setting(tally: &mut Tally, sheet: &[u8], case: &[u8], output_length: usize) {
     let mut should = vec![0; output_length];
-    let (expected, front) = expected_text(reference::setting(sheet, case, &mut should), &should);
+    let (expected, front) = expected::text(reference::setting(sheet, case, &mut should), &should);
     let (lent, lent_case) = (sheet.to_vec(), case.to_vec());
     let mut output = Lent::bytes(output_length);
     let out = output.lend();
@@ -230,82 +182,16 @@ fn check_setting(tally: &mut Tally, sheet: &[u8], case: &[u8], output_length: us
     tally.add(if front.is_empty() { "no byte" } else { "written" }, answer.reason);
 }
 
-/// The answer of a call that writes a text, and the text.
-fn expected_text(answer: Result<usize, Refusal>, output: &[u8]) -> (WriteAnswer, &[u8]) {
-    match answer {
-        Err(refusal) => (
-            WriteAnswer {
-                outcome: 0,
-                reason: refusal.reason.number(),
-                line: refusal.line,
-                column: refusal.column,
-                length: refusal.needed,
-            },
-            &[],
-        ),
-        Ok(n) => (
-            WriteAnswer {
-                outcome: 1,
-                reason: 0,
-                line: 0,
-                column: 0,
-                length: n as u64,
-            },
-            &output[..n],
-        ),
-    }
-}
-
 fn check_find(tally: &mut Tally, sheet: &[u8], low: u64, high: u64, work_length: usize, output_length: usize) {
-    check_find_within(tally, sheet, (low, high), work_length, output_length, CHOICES)
-}
-
-fn check_find_within(
-    tally: &mut Tally,
-    sheet: &[u8],
-    (low, high): (u64, u64),
-    work_length: usize,
-    output_length: usize,
-    choices: u64,
-) {
-    let mut should = vec![0; output_length];
-    let mut scratch = vec![0; work_length];
-    let within = reference::find_within(sheet, low, high, &mut scratch, &mut should, choices);
-    let Some(search) = within.transpose() else {
-        return tally.add("left out", 0);
-    };
-    let zeros = if search.is_ok() { work_length } else { 0 };
-    let (expected, front) = expected::search(search);
-    let lent = sheet.to_vec();
-    let mut work = Lent::numbers(work_length);
-    let mut output = Lent::bytes(output_length);
-    let (numbers, out) = (work.lend(), output.lend());
-    let answer = unsafe {
-        raw::nk_find(
-            lent.as_ptr(),
-            lent.len(),
-            low,
-            high,
-            numbers.as_mut_ptr(),
-            numbers.len(),
-            out.as_mut_ptr(),
-            out.len(),
-        )
-    };
-    let call = || {
-        format!(
-            "find, {low} to {high}, work {work_length}, output {output_length}\n{}",
-            text(sheet)
-        )
-    };
-    assert_eq!(answer, expected, "{}", call());
-    assert!(
-        lent == sheet && output.holds(&should[..front]),
-        "lent bytes: {}",
-        call()
-    );
-    assert!(work.holds(&vec![0; zeros]), "lent numbers: {}", call());
-    tally.add(expected::outcome(&answer), answer.reason);
+    check_find_within(
+        tally,
+        sheet,
+        (low, high),
+        AS_WRITTEN,
+        work_length,
+        output_length,
+        CHOICES,
+    )
 }
 
 /// A draft in one of the styles.
@@ -330,7 +216,9 @@ fn size_of(random: &mut Random, sheet: &[u8], instances: u64) -> u64 {
         return *random.pick(&BAD_SIZES);
     }
     let mut size = random.between(1, 8).min(random.between(1, 8)) as u64;
-    while size > 1 && reference::instances_and_variables(sheet, size).is_ok_and(|(i, _)| i > instances) {
+    while size > 1
+        && reference::instances_and_variables(sheet, size, Terms::AsWritten).is_ok_and(|(i, _)| i > instances)
+    {
         size -= 1;
     }
     size
@@ -492,9 +380,10 @@ fn clauses_are_written_alike() {
         let draft = draft(&mut random, &[SMALL, BROAD, LONG_CLAUSES]);
         let sheet = sheet_of(&mut random, &draft, 10);
         let size = size_of(&mut random, &sheet, 2_000);
-        let needed = reference::write(&sheet, size, &mut []).map_or_else(|refusal| refusal.needed, |_| 0);
+        let needed =
+            reference::write(&sheet, size, Terms::AsWritten, &mut []).map_or_else(|refusal| refusal.needed, |_| 0);
         let length = length_around(&mut random, needed);
-        check_write(&mut tally, &sheet, size, length);
+        check_write(&mut tally, &sheet, size, AS_WRITTEN, length);
     }
     tally.covers(50, &["written", "2", "8", "11"]);
 }
@@ -507,12 +396,12 @@ fn many_clauses_are_written_alike() {
         let draft = Draft::around_clause_limits(&mut random);
         let sheet = draft.sheet();
         let size = random.between(1, 8) as u64;
-        let needed = match reference::write(&sheet, size, &mut []) {
+        let needed = match reference::write(&sheet, size, Terms::AsWritten, &mut []) {
             Err(refusal) if refusal.needed < 2_000_000 => refusal.needed,
             _ => 0,
         };
         let length = length_around(&mut random, needed);
-        check_write(&mut tally, &sheet, size, length);
+        check_write(&mut tally, &sheet, size, AS_WRITTEN, length);
     }
     tally.covers(50, &["written", "7", "9", "11"]);
 }
@@ -521,13 +410,15 @@ fn many_clauses_are_written_alike() {
 #[test]
 fn a_million_instances_are_taken() {
     let mut tally = Tally::default();
-    let needed = reference::write(MILLION, 8, &mut []).expect_err("no room").needed as usize;
-    check_write(&mut tally, MILLION, 8, needed);
-    check_write(&mut tally, MILLION, 8, needed - 1);
-    let (work, output) = reference::needed(MILLION, 8).expect("it is a sheet");
+    let needed = reference::write(MILLION, 8, Terms::AsWritten, &mut [])
+        .expect_err("no room")
+        .needed as usize;
+    check_write(&mut tally, MILLION, 8, AS_WRITTEN, needed);
+    check_write(&mut tally, MILLION, 8, AS_WRITTEN, needed - 1);
+    let (work, output) = reference::needed(MILLION, 8, Terms::AsWritten).expect("it is a sheet");
     check_find(&mut tally, MILLION, 8, 8, work as usize, output as usize);
     let more = text(MILLION).replace("clauses=15", "clauses=16") + "clause=\n";
-    check_write(&mut tally, more.as_bytes(), 8, needed + 10);
+    check_write(&mut tally, more.as_bytes(), 8, AS_WRITTEN, needed + 10);
     check_find(&mut tally, more.as_bytes(), 8, 8, work as usize + 2, output as usize);
     tally.covers(1, &["written", "found", "11", "9"]);
 }
@@ -545,9 +436,9 @@ fn settings_are_read_back_alike() {
         if random.once_in(3) {
             damage_setting(&mut random, &mut setting);
         }
-        let needed = reference::needed(&sheet, size).map_or(20, |(_, output)| output);
+        let needed = reference::needed(&sheet, size, Terms::AsWritten).map_or(20, |(_, output)| output);
         let length = length_around(&mut random, needed);
-        check_read_back(&mut tally, &sheet, size, &setting, length);
+        check_read_back(&mut tally, &sheet, size, AS_WRITTEN, &setting, length);
     }
     tally.covers(50, &["written", "2", "8", "11", "13", "14"]);
 }
@@ -596,7 +487,7 @@ fn models_are_found_alike() {
         let sheet = sheet_of(&mut random, &draft, 20);
         let high = size_of(&mut random, &sheet, 3_000);
         let low = bound_below(&mut random, high);
-        let (work, output) = reference::needed(&sheet, high).unwrap_or((20, 20));
+        let (work, output) = reference::needed(&sheet, high, Terms::AsWritten).unwrap_or((20, 20));
         let work = length_around(&mut random, work.min(1_000_000));
         let output = length_around(&mut random, output);
         check_find(&mut tally, &sheet, low, high, work, output);
@@ -613,7 +504,7 @@ fn models_of_long_clauses_are_found_alike() {
         let sheet = draft.sheet();
         let high = random.between(1, 8) as u64;
         let low = bound_below(&mut random, high);
-        let (work, output) = reference::needed(&sheet, high).unwrap_or((20, 20));
+        let (work, output) = reference::needed(&sheet, high, Terms::AsWritten).unwrap_or((20, 20));
         let work = length_around(&mut random, work.min(500_000));
         check_find(&mut tally, &sheet, low, high, work, output as usize);
     }
@@ -625,10 +516,10 @@ fn models_of_named_problems_are_found_alike() {
     let mut tally = Tally::default();
     for problem in problems::ALL {
         for high in 1..=8 {
-            let (work, output) = reference::needed(problem.sheet, high).expect("it is a sheet");
+            let (work, output) = reference::needed(problem.sheet, high, Terms::AsWritten).expect("it is a sheet");
             if work < 2_000_000 {
                 let (work, output) = (work as usize, output as usize);
-                check_find_within(&mut tally, problem.sheet, (1, high), work, output, 50_000);
+                check_find_within(&mut tally, problem.sheet, (1, high), AS_WRITTEN, work, output, 50_000);
             }
         }
     }

@@ -1,5 +1,6 @@
 //! The specification's examples, executed on the proved library.
 
+use nesskettle::Terms::{self, AsWritten, Named};
 use nesskettle::{find, find_plain, from_solver, judge, read, read_back, setting, write};
 use nesskettle::{Counts, Reason, Refusal, Search, SolverAnswer};
 use nesskettle_reference::sheet_of;
@@ -25,14 +26,22 @@ fn text_of(mut call: impl FnMut(&mut [u8]) -> Result<usize, Refusal>) -> Result<
 }
 
 fn clauses_at(sheet: &[u8], size: u64) -> String {
-    text_of(|output| write(sheet, size, output)).expect("it is written")
+    clauses_of(sheet, size, AsWritten)
+}
+
+fn clauses_of(sheet: &[u8], size: u64, terms: Terms) -> String {
+    text_of(|output| write(sheet, size, terms, output)).expect("it is written")
 }
 
 /// The least model from low to high, or the settled mark.
 fn found(sheet: &[u8], low: u64, high: u64) -> Result<String, bool> {
+    found_of(sheet, low, high, AsWritten)
+}
+
+fn found_of(sheet: &[u8], low: u64, high: u64, terms: Terms) -> Result<String, bool> {
     let mut work = vec![7; 2_000_000];
     let mut output = vec![0; 25_000];
-    model_or_mark(find(sheet, low, high, &mut work, &mut output), &output)
+    model_or_mark(find(sheet, low, high, terms, &mut work, &mut output), &output)
 }
 
 /// The same by the plain search.
@@ -65,7 +74,7 @@ fn two_constants() {
     );
     assert_eq!(found(sheet, 1, 1), Err(false));
     assert_eq!(found(sheet, 1, 3).as_deref(), Ok("case=1\nsize=2\na=1\nb=2\n"));
-    let back = |setting: &[u8]| text_of(|output| read_back(sheet, 2, setting, output));
+    let back = |setting: &[u8]| text_of(|output| read_back(sheet, 2, AsWritten, setting, output));
     assert_eq!(back(&[0, 1, 1, 0]).as_deref(), Ok("case=1\nsize=2\na=2\nb=1\n"));
     assert_eq!(back(&[1, 1, 0, 0]), refused(Reason::NotOneResult, NO_PLACE));
 }
@@ -245,19 +254,134 @@ fn limits_of_the_plain_search() {
     assert_eq!(output[14..], *table.as_bytes());
 }
 
+/// Two helpers, numbered after the predicate; their clauses stand in front.
+#[test]
+fn named_terms() {
+    let sheet = sheet_of(&["a/0", "b/0", "f/2"], &["p/2"], &["+ p f a b f b a"]);
+    // at size 1 a is 1, b is 2, f is 3, p is 4, f a b is 5 and f b a is 6
+    assert_eq!(
+        clauses_of(&sheet, 1, Named),
+        "p cnf 6 8\n1 0\n2 0\n3 0\n5 0\n6 0\n-1 -2 -3 5 0\n-2 -1 -3 6 0\n-5 -6 4 0\n"
+    );
+    assert!(clauses_of(&sheet, 2, Named).starts_with("p cnf 20 "));
+    let least = "case=1\nsize=2\na=1\nb=1\nf=1 1 1 1\np=1 0 0 0\n";
+    assert_eq!(found_of(&sheet, 2, 2, Named).as_deref(), Ok(least));
+    assert_eq!(found(&sheet, 2, 2).as_deref(), Ok(least));
+    // helpers have cells in settings, but none in cases, and a value that need not be their term's
+    let declared = [1, 0, 1, 0, 1, 0, 1, 0, 1, 0, 1, 0, 1, 0, 0, 0];
+    let back = |helpers: &[u8]| {
+        let setting = [&declared[..], helpers].concat();
+        text_of(|output| read_back(&sheet, 2, Named, &setting, output))
+    };
+    assert_eq!(back(&[1, 0, 1, 0]).as_deref(), Ok(least));
+    assert_eq!(back(&[1, 0, 0, 1]).as_deref(), Ok(least));
+    assert_eq!(back(&[1, 0, 1, 1]), refused(Reason::NotOneResult, NO_PLACE));
+    assert_eq!(back(&[0, 0, 1, 0]), refused(Reason::NotOneResult, NO_PLACE));
+    assert_eq!(back(&[1, 0, 2, 0]), refused(Reason::BadSetting, NO_PLACE));
+    assert_eq!(back(&[]), refused(Reason::BadSetting, NO_PLACE));
+}
+
+/// Which terms are named, at size 1: a is 1, f is 2, g is 3, p is 4, r is 5, and helpers come after these.
+#[test]
+fn outermost_terms_are_named_and_shared() {
+    let clauses = |clauses: &[&str]| {
+        let sheet = sheet_of(&["a/0", "f/1", "g/2"], &["p/1", "r/2"], clauses);
+        let text = clauses_of(&sheet, 1, Named);
+        let (_, instances) = text.split_once("3 0\n").expect("the cells of g");
+        let helpers = text.lines().next().map(|header| header.starts_with("p cnf 5 "));
+        assert_eq!(helpers, Some(!instances.contains('6')), "{text}");
+        instances.to_string()
+    };
+    // constants and terms with variables are not named
+    assert_eq!(clauses(&["+ p a - p f A"]), "-1 -2 4 -4 0\n");
+    // equal terms share a name in a clause and over clauses
+    assert_eq!(
+        clauses(&["+ r f a f a", "- p f a"]),
+        "6 0\n-1 -2 6 0\n-6 5 0\n-6 -4 0\n"
+    );
+    // inner terms have no name of their own there, also where another clause names them
+    assert_eq!(
+        clauses(&["+ p f f a", "- p f a"]),
+        "6 0\n7 0\n-1 -2 -2 6 0\n-1 -2 7 0\n-6 4 0\n-7 -4 0\n"
+    );
+    // a term with a variable keeps its place, and its fixed arguments are named
+    assert_eq!(clauses(&["+ p g A f a"]), "6 0\n-1 -2 6 0\n-6 -3 4 0\n");
+    // the left side of an equality too
+    assert_eq!(clauses(&["+ = f a A"]), "6 0\n-1 -2 6 0\n6 0\n");
+}
+
+/// Limit 7 is that of the clauses with the names put in and of the helpers' own; its column is 1.
+#[test]
+fn limits_with_named_terms() {
+    let sheet = |clauses: &[&str]| sheet_of(&["a/0", "b/0", "f/1"], &["p/1", "r/2"], clauses);
+    let deep = |times: usize, constant: &str| "f ".repeat(times) + constant;
+    let mut room = vec![0; 100_000];
+    let mut at_one = |clause: &str, terms: Terms| write(&sheet(&["+ p a", clause]), 1, terms, &mut room).map(|_| ());
+    let too_large = refused(Reason::ClauseTooLarge, (11, 1));
+    // eight and eight variables as written, two with the names put in
+    let both = format!("+ r {} {}", deep(7, "a"), deep(7, "b"));
+    assert_eq!(at_one(&both, AsWritten), too_large);
+    assert_eq!(at_one(&both, Named), Ok(()));
+    // ten variables as written, and eleven in the helper's own clause
+    let ten = format!("+ = {} a", deep(10, "a"));
+    assert_eq!(at_one(&ten, AsWritten), Ok(()));
+    assert_eq!(at_one(&ten, Named), too_large);
+    assert_eq!(at_one(&format!("+ p {}", deep(9, "a")), Named), Ok(()));
+    assert_eq!(at_one(&format!("+ p {}", deep(10, "a")), Named), too_large);
+    // 112 words as written, 48 with the names put in
+    let words = ["+ p f f f f a"; 16].join(" ") + " ";
+    assert_eq!(
+        at_one(words.trim_end(), AsWritten),
+        refused(Reason::ClauseTooLarge, (11, 136))
+    );
+    assert_eq!(at_one(words.trim_end(), Named), Ok(()));
+    // a 17th literal is told at the line's start
+    assert_eq!(at_one(&(words + "+ p a"), Named), too_large);
+}
+
+/// 32 terms are named, 33 are refused: after the sheet's numbers and before 8.
+#[test]
+fn limits_of_helpers() {
+    let constants: Vec<String> = (0..11).map(|i| format!("c{i}/0")).collect();
+    let functions: Vec<&str> = constants.iter().map(String::as_str).chain(["g/2"]).collect();
+    let sheet = |count: usize, last: &str| {
+        let clauses: Vec<String> = (0..count).map(|i| format!("+ p g c{} c{}", i / 6, i % 6)).collect();
+        let clauses: Vec<&str> = clauses.iter().map(String::as_str).chain([last]).collect();
+        sheet_of(&functions, &["p/1"], &clauses)
+    };
+    let mut room = vec![0; 10_000];
+    let mut reason = |sheet: &[u8], size: u64| write(sheet, size, Named, &mut room).map_err(|refusal| refusal.reason);
+    assert!(reason(&sheet(32, ""), 1).is_ok());
+    // a name that is known is no new one
+    assert!(reason(&sheet(32, "- p g c0 c0"), 1).is_ok());
+    assert_eq!(reason(&sheet(32, ""), 9), Err(Reason::BadSize));
+    assert_eq!(reason(&sheet(33, ""), 9), Err(Reason::TooManyHelpers));
+    assert_eq!(reason(&sheet(33, "+ p"), 9), Err(Reason::NotAClause));
+    assert_eq!(
+        write(&sheet(33, ""), 9, AsWritten, &mut []),
+        refused(Reason::BadSize, NO_PLACE)
+    );
+}
+
 #[test]
 fn limits() {
     let wide = |count: usize| sheet_of(&[], &["q/3"], &vec!["+ q A B C + q D E F"; count]);
     let mut room = vec![0; 20_000_000];
-    assert!(write(&wide(3), 8, &mut room).is_ok());
+    assert!(write(&wide(3), 8, AsWritten, &mut room).is_ok());
     assert_eq!(
-        write(&wide(4), 8, &mut room),
+        write(&wide(4), 8, AsWritten, &mut room),
         refused(Reason::TooManyInstances, NO_PLACE)
     );
     let nothing = sheet_of(&[], &[], &[]);
-    assert_eq!(write(&nothing, 8, &mut room), Ok(10));
-    assert_eq!(write(&nothing, 0, &mut room), refused(Reason::BadSize, NO_PLACE));
-    assert_eq!(write(&nothing, 9, &mut room), refused(Reason::BadSize, NO_PLACE));
+    assert_eq!(write(&nothing, 8, AsWritten, &mut room), Ok(10));
+    assert_eq!(
+        write(&nothing, 0, AsWritten, &mut room),
+        refused(Reason::BadSize, NO_PLACE)
+    );
+    assert_eq!(
+        write(&nothing, 9, AsWritten, &mut room),
+        refused(Reason::BadSize, NO_PLACE)
+    );
     let literals = |count: usize| sheet_of(&[], &["p/0"], &[&vec!["+ p"; count].join(" ")]);
     assert!(read(&literals(16)).is_ok());
     assert_eq!(read(&literals(17)), refused(Reason::ClauseTooLarge, (6, 72)));

@@ -1,7 +1,7 @@
 //! What a setting means, tried on generated cases and settings: setting and case lead to each other, and a setting
 //! satisfies the clauses that Write leaves exactly if its case is a model.
 
-use nesskettle_reference::{self as reference, sheet_of, Operations, Reason, Refusal};
+use nesskettle_reference::{self as reference, sheet_of, Operations, Reason, Refusal, Terms};
 use nesskettle_trials::dimacs::Dimacs;
 use nesskettle_trials::draft::{Draft, Style, BROAD, SMALL};
 use nesskettle_trials::models::small_model;
@@ -44,7 +44,7 @@ fn the_setting_of_a_case_is_read_back_as_the_case() {
             let (draft, size) = draft_and_size(&mut random, &[SMALL, BROAD]);
             let (sheet, case) = (draft.sheet(), draft.case(&mut random, size));
             let setting = setting_of(&operations, &sheet, &case);
-            let again = left(|output| (operations.read_back)(&sheet, size as u64, &setting, output));
+            let again = left(|output| (operations.read_back)(&sheet, size as u64, Terms::AsWritten, &setting, output));
             assert_eq!(again, Ok(case));
         }
     }
@@ -63,7 +63,7 @@ fn a_setting_is_that_of_the_case_that_is_read_back() {
                 let at = random.below(setting.len());
                 setting[at] = random.below(3) as u8;
             }
-            match left(|output| (operations.read_back)(&sheet, size as u64, &setting, output)) {
+            match left(|output| (operations.read_back)(&sheet, size as u64, Terms::AsWritten, &setting, output)) {
                 Ok(case) => {
                     assert_eq!(setting_of(&operations, &sheet, &case), setting);
                     tally.add("read back", 0);
@@ -78,7 +78,7 @@ fn a_setting_is_that_of_the_case_that_is_read_back() {
 /// The setting of the case satisfies what Write leaves exactly if Judge says yes.
 fn check_satisfied(operations: &Operations, tally: &mut Tally, sheet: &[u8], case: &[u8]) {
     let size = u64::from(case[12] - b'0');
-    let clauses = match left(|output| (operations.write)(sheet, size, output)) {
+    let clauses = match left(|output| (operations.write)(sheet, size, Terms::AsWritten, output)) {
         Ok(text) => Dimacs::new(text),
         Err(refusal) => return tally.add("", refusal.reason.number()),
     };
@@ -119,13 +119,13 @@ fn every_setting_of_small_sheets() {
     for (operations, sheet) in BOTH.iter().flat_map(|o| sheets.iter().map(move |sheet| (o, sheet))) {
         let mut models = 0;
         let mut satisfying = 0;
-        let (_, variables) = reference::instances_and_variables(sheet, 2).expect("it is a sheet");
-        let clauses = left(|output| (operations.write)(sheet, 2, output)).expect("it is written");
+        let (_, variables) = reference::instances_and_variables(sheet, 2, Terms::AsWritten).expect("it is a sheet");
+        let clauses = left(|output| (operations.write)(sheet, 2, Terms::AsWritten, output)).expect("it is written");
         let clauses = Dimacs::new(clauses);
         for number in 0..1 << variables {
             let setting: Vec<u8> = (0..variables).map(|n| (number >> n & 1) as u8).collect();
             satisfying += usize::from(clauses.satisfied_by(&setting));
-            match left(|output| (operations.read_back)(sheet, 2, &setting, output)) {
+            match left(|output| (operations.read_back)(sheet, 2, Terms::AsWritten, &setting, output)) {
                 Ok(case) => {
                     assert_eq!(setting_of(operations, sheet, &case), setting);
                     models += usize::from((operations.judge)(sheet, &case) == Ok(true));

@@ -1,6 +1,6 @@
 //! What settled means, tried on generated sheets: where none is settled, no larger size has a model either.
 
-use nesskettle_reference::{self as reference, Operations, Search};
+use nesskettle_reference::{self as reference, Operations, Search, Terms};
 use nesskettle_trials::draft::{Draft, SMALL};
 use nesskettle_trials::models::CHOICES;
 use nesskettle_trials::random::Random;
@@ -22,15 +22,15 @@ fn sheet_of_constants(random: &mut Random) -> (Vec<u8>, u64) {
 
 /// The search, if the reference makes it with few choices.
 fn find(operations: &Operations, sheet: &[u8], low: u64, high: u64) -> Option<Search> {
-    let (instances, _) = reference::instances_and_variables(sheet, high).ok()?;
-    let (work, output) = reference::needed(sheet, high).ok()?;
+    let (instances, _) = reference::instances_and_variables(sheet, high, Terms::AsWritten).ok()?;
+    let (work, output) = reference::needed(sheet, high, Terms::AsWritten).ok()?;
     if instances > INSTANCES {
         return None;
     }
     let (mut work, mut output) = (vec![0; work as usize], vec![0; output as usize]);
-    let within = reference::find_within(sheet, low, high, &mut work, &mut output, CHOICES);
+    let within = reference::find_within(sheet, low, high, Terms::AsWritten, &mut work, &mut output, CHOICES);
     within.expect("the room is enough")?;
-    (operations.find)(sheet, low, high, &mut work, &mut output).ok()
+    (operations.find)(sheet, low, high, Terms::AsWritten, &mut work, &mut output).ok()
 }
 
 #[test]

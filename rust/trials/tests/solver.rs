@@ -4,7 +4,7 @@
 //! test counts what came out, so that a generator that no longer reaches a result or a refusal fails.
 
 use nesskettle::raw::{self, WriteAnswer};
-use nesskettle_reference::{self as reference, sheet_of, Operations, Reason, Refusal, SolverAnswer};
+use nesskettle_reference::{self as reference, sheet_of, Operations, Reason, Refusal, SolverAnswer, Terms};
 use nesskettle_trials::buffers::{length_around, Lent};
 use nesskettle_trials::damage::{damaged, damaged_bytes};
 use nesskettle_trials::draft::{Draft, BROAD, SMALL};
@@ -156,7 +156,7 @@ fn answers_are_read_alike() {
             }
             _ => stating(&mut random, &setting),
         };
-        let needed = reference::needed(&sheet, size).map_or(20, |(_, output)| output);
+        let needed = reference::needed(&sheet, size, Terms::AsWritten).map_or(20, |(_, output)| output);
         let length = length_around(&mut random, needed);
         check(&mut tally, &sheet, size, &text, length);
     }
@@ -234,7 +234,8 @@ fn every_model_is_taken_in_any_layout() {
         for _ in 0..5_000 {
             let (sheet, size, setting) = sheet_and_model(&mut random);
             let mut case = vec![0; 10_000];
-            let length = (operations.read_back)(&sheet, size, &setting, &mut case).expect("it has a case");
+            let length =
+                (operations.read_back)(&sheet, size, Terms::AsWritten, &setting, &mut case).expect("it has a case");
             let text = stating(&mut random, &setting);
             let spare = random.below(3);
             let (answer, output) = answered(&operations, (&sheet, size), &text, length + spare);

@@ -1,6 +1,7 @@
 //! Every call does with the stack that the top README promises, also on the deepest terms that a clause of 64 words has, with
-//! the most cells, and on TPTP terms of any depth: 192 kB, and 256 kB for From solver.
+//! the most cells, and on TPTP terms of any depth: 192 kB, and 256 kB for From solver and Find plain.
 
+use nesskettle::Terms::{AsWritten, Named};
 use nesskettle::{explain, find, find_plain, from_solver, from_tptp, judge, read, read_back, setting, write};
 use nesskettle::{FirstFailure, Reason, Search, SolverAnswer};
 use nesskettle_reference::sheet_of;
@@ -9,8 +10,9 @@ use nesskettle_trials::random::Random;
 use nesskettle_trials::solver::stating;
 
 const STACK: usize = 192 * 1024;
-/// From solver has a mark for each of up to 55,296 propositional variables on its stack.
-const STACK_OF_FROM_SOLVER: usize = 256 * 1024;
+/// From solver has a mark for each of up to 55,296 propositional variables on its stack, and Find plain is one call deeper for
+/// each of up to 64 cells.
+const LARGE_STACK: usize = 256 * 1024;
 
 /// A clause of one predicate at `depth` functions, one inside the other.
 fn nested(depth: usize) -> Vec<u8> {
@@ -41,16 +43,20 @@ fn the_deepest_terms_are_refused() {
             setting(&sheet, b"", &mut output).unwrap_err().reason,
             Reason::ClauseTooLarge
         );
+        for terms in [AsWritten, Named] {
+            assert_eq!(
+                write(&sheet, 2, terms, &mut output).unwrap_err().reason,
+                Reason::ClauseTooLarge
+            );
+        }
         assert_eq!(
-            write(&sheet, 2, &mut output).unwrap_err().reason,
+            read_back(&sheet, 2, AsWritten, b"", &mut output).unwrap_err().reason,
             Reason::ClauseTooLarge
         );
         assert_eq!(
-            read_back(&sheet, 2, b"", &mut output).unwrap_err().reason,
-            Reason::ClauseTooLarge
-        );
-        assert_eq!(
-            find(&sheet, 1, 2, &mut work, &mut output).unwrap_err().reason,
+            find(&sheet, 1, 2, AsWritten, &mut work, &mut output)
+                .unwrap_err()
+                .reason,
             Reason::ClauseTooLarge
         );
         assert_eq!(
@@ -59,7 +65,7 @@ fn the_deepest_terms_are_refused() {
         );
     });
     let sheet = nested(61);
-    on_a_stack(STACK_OF_FROM_SOLVER, move || {
+    on_a_stack(LARGE_STACK, move || {
         let answer = from_solver(&sheet, 2, b"", &mut []);
         assert_eq!(answer.unwrap_err().reason, Reason::ClauseTooLarge);
     });
@@ -75,15 +81,57 @@ fn the_deepest_terms_are_taken() {
         assert_eq!(judge(&sheet, case), Ok(false));
         assert_eq!(explain(&sheet, case), Ok(Some(FirstFailure::new(1, [('A', 2)]))));
         assert_eq!(setting(&sheet, case, &mut output), Ok(6));
-        assert!(write(&sheet, 2, &mut output).is_ok());
-        assert!(read_back(&sheet, 1, &[1, 1], &mut output).is_ok());
-        assert!(find(&sheet, 1, 2, &mut work, &mut output).is_ok());
+        assert!(write(&sheet, 2, AsWritten, &mut output).is_ok());
+        assert!(read_back(&sheet, 1, AsWritten, &[1, 1], &mut output).is_ok());
+        assert!(find(&sheet, 1, 2, AsWritten, &mut work, &mut output).is_ok());
         assert!(find_plain(&sheet, 1, 2, &mut output).is_ok());
     });
     let sheet = nested(9);
-    on_a_stack(STACK_OF_FROM_SOLVER, move || {
+    on_a_stack(LARGE_STACK, move || {
         let answer = from_solver(&sheet, 1, b"s SATISFIABLE\nv 1 2 0\n", &mut [0; 100]);
         assert!(answer.is_ok());
+    });
+}
+
+/// Lines of thousands of words with named terms: taken, and over a limit in the last of them.
+#[test]
+fn long_lines_are_taken_with_named_terms() {
+    let thrice = |term: &str| format!("h {term} {term} {term}");
+    let thirteen = thrice(&thrice("a"));
+    // 61 words
+    let large = |last: &str| format!("h {} {thirteen} {last}", thrice(&thirteen));
+    let literal = format!(
+        "+ q {} {} {}",
+        large("f f f h a a a"),
+        large("g f a h a b a"),
+        large("g g a a g a b")
+    );
+    let line = vec![literal; 12].join(" ");
+    let deepest = format!("+ p {}a", "f ".repeat(9));
+    let sheet = move |last: &str| {
+        let functions = ["a/0", "b/0", "f/1", "g/2", "h/3"];
+        sheet_of(&functions, &["p/1", "q/3"], &[&line, &deepest, last])
+    };
+    let many = format!("+ p {}a", "f ".repeat(4_000));
+    on_a_small_stack(move || {
+        let mut output = vec![0; 1_000_000];
+        let mut work = vec![0; 1_000_000];
+        let taken = sheet("- p f a");
+        assert!(taken.len() > 4_000);
+        assert!(write(&taken, 2, Named, &mut output).is_ok());
+        assert!(read_back(&taken, 1, Named, &[1; 12], &mut output).is_ok());
+        assert!(find(&taken, 1, 2, Named, &mut work, &mut output).is_ok());
+        let refused = sheet(&many);
+        let reason = Reason::ClauseTooLarge;
+        assert_eq!(write(&refused, 2, Named, &mut output).unwrap_err().reason, reason);
+        assert_eq!(
+            read_back(&refused, 1, Named, b"", &mut output).unwrap_err().reason,
+            reason
+        );
+        assert_eq!(
+            find(&refused, 1, 2, Named, &mut work, &mut output).unwrap_err().reason,
+            reason
+        );
     });
 }
 
@@ -95,9 +143,12 @@ fn the_most_cells_are_taken() {
         let (mut bytes, mut again) = (vec![0; 60_000], vec![0; 60_000]);
         assert_eq!(judge(&sheet, &case), Ok(true));
         assert_eq!(setting(&sheet, &case, &mut bytes), Ok(55_296));
-        assert_eq!(read_back(&sheet, 8, &bytes[..55_296], &mut again), Ok(case.len()));
+        assert_eq!(
+            read_back(&sheet, 8, AsWritten, &bytes[..55_296], &mut again),
+            Ok(case.len())
+        );
         assert_eq!(again[..case.len()], case);
-        on_a_stack(STACK_OF_FROM_SOLVER, move || {
+        on_a_stack(LARGE_STACK, move || {
             let text = stating(&mut Random::new(10), &bytes[..55_296]);
             let length = case.len();
             assert_eq!(
@@ -116,7 +167,7 @@ fn the_most_cells_of_a_plain_search_are_filled() {
     let many = "- p A - p f B - q C - r D - s E - t f F";
     let predicates = ["p/1", "q/1", "r/1", "s/1", "t/1", "u/1", "v/1"];
     let sheet = sheet_of(&["f/1"], &predicates, &[&deep, many]);
-    on_a_small_stack(move || {
+    on_a_stack(LARGE_STACK, move || {
         let mut output = [0; 158];
         let found = Search::Found { size: 8, length: 158 };
         assert_eq!(find_plain(&sheet, 8, 8, &mut output), Ok(found));

@@ -7,8 +7,9 @@ use lib.ListN.{length, getD, take}
 use Rattle.theory.specs.PropClauses.{clausePart}
 use Rattle.syntax.specs.Signatures.{signatureIn}
 use Rattle.problem.specs.Problems.{problemIn}
+use Rattle.problem.proofs.Counted.{clause-count}
 use Rattle.counts.specs.Totals.{TotalOf}
-use Rattle.counts.proofs.Adding.{none-total, one-clause, all-clauses, clause-count}
+use Rattle.counts.proofs.Adding.{none-total, one-clause, all-clauses}
 use borrow.Author.Needs.{needs}
 use Rattle.counts.proofs.all_clause_counts.Statement.{statement}
 use Rattle.counts.proofs.all_clause_counts.Tie as tie

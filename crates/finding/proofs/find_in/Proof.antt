@@ -1,13 +1,13 @@
 -- `find_in` meets its contract: the first check that fails refuses.
 use Prim.Native.Nat.{_≤_}
-use mathlib.Core.Path.{_≡_, ap, _∙_}
+use mathlib.Core.Path.{_≡_, refl, ap, _∙_}
 use native.Mathlib.Omega.{arith}
 use lib.ListN.{length}
 use Rattle.theory.specs.PropClauses.{instanceCount, workNeeded}
 use Rattle.theory.specs.Refusals.{unplaced, needing}
 use Rattle.theory.specs.CaseText.{caseLength}
 use Rattle.theory.specs.Operations.{maxInstances}
-use Rattle.theory.proofs.Parsing.{readProblem-bytes}
+use Rattle.naming.specs.NamedProblem.{shownSymbols}
 use Rattle.problem.specs.Problems.{problemIn}
 use Rattle.finding.specs.Ending.{foundIn, foundWithin}
 use Rattle.finding.proofs.Endings.{ends-as, ends-refused}
@@ -19,7 +19,7 @@ use Rattle.finding.proofs.find_in.Reads as reads
 use Rattle.finding.proofs.find_in.Lts as lts
 use Rattle.answers.proofs.at_line.Reads as at-line-reads
 use Rattle.answers.proofs.needing.Reads as needing-reads
-use Rattle.cases.proofs.writing.case_length.Reads as case-length-reads
+use Rattle.finding.proofs.shown_length.Reads as shown-length-reads
 use Rattle.counts.proofs.counts_at.Reads as counts-at-reads
 use Rattle.finding.proofs.sizes.search_sizes.Reads as search-sizes-reads
 use Rattle.finding.proofs.work_needed.Reads as work-needed-reads
@@ -61,11 +61,11 @@ work-needed-requires c κs =
     (k .ensures .1 .1 .0, k .ensures .1 .1 .1, c .before .numbering-of .ensures (s .args .sheet .now) .small)
 
 -- src/lib.rt:70:9
-case-length-requires : tie.Need-case-length-requires
-case-length-requires c κs =
+shown-length-requires : tie.Need-shown-length-requires
+shown-length-requires c κs =
     let s = c .before .before .before .before .before .before .before .before .before .before in
     let a = s .args in
-    (s .pre .within, (a .sheet .now, (s .pre .accepted .readable, readProblem-bytes (a .sheet .now) (problemIn (a .sheet .now) (a .p)) (s .pre .read))))
+    (s .pre .within, (a .sheet .now, (s .pre .accepted .readable, s .pre .bytes)))
 
 -- src/lib.rt:72:36
 needing-requires : tie.Need-needing-requires
@@ -107,9 +107,9 @@ returns-3 c =
     let whole : w .result ≡ workNeeded (a .high .0) (q .symbols) (q .clauses) =
     work-is (a .sheet .now) (a .p) (a .high .0) (n .result .count) (k .result .instances) (k .result .literals) (w .result) (n .ensures (a .sheet .now) .count) (k .ensures .0) (k .ensures .1 .0) (w .ensures) in
     let enough : workNeeded (a .high .0) (q .symbols) (q .clauses) ≤ W = omega (arith, whole, c .before .before .if2 .left) in
-    let m = c .before .before .before .case-length in
-    let case : m .result ≡ caseLength (a .high .0) (q .symbols) = length-is (a .sheet .now) (a .p) (a .high .0) (m .result) (m .ensures (a .sheet .now) (s .pre .accepted .readable)) in
-    ends-refused (foundIn q (a .low .0) (a .high .0)) (c .needing2 .result) (needing 11 (caseLength (a .high .0) (q .symbols))) (a .work .now) (a .output .now)
+    let m = c .before .before .before .shown-length in
+    let case : m .result ≡ caseLength (a .high .0) (shownSymbols (q .symbols)) = length-is (a .sheet .now) (a .p) (a .high .0) (m .result) _ (s .pre .shows) refl (m .ensures (a .sheet .now) (s .pre .accepted .readable)) in
+    ends-refused (foundIn q (a .low .0) (a .high .0)) (c .needing2 .result) (needing 11 (caseLength (a .high .0) (shownSymbols (q .symbols)))) (a .work .now) (a .output .now)
     (refused-11 q (a .low .0) (a .high .0) W R few enough (omega (arith, case, c .before .if3 .taken))) (c .needing2 .ensures ∙ ap (needing 11) case)
 
 -- src/lib.rt:77:5
@@ -127,8 +127,8 @@ search-sizes-requires c κs =
     let whole : w .result ≡ workNeeded (a .high .0) (q .symbols) (q .clauses) =
     work-is (a .sheet .now) (a .p) (a .high .0) (n .result .count) (k .result .instances) (k .result .literals) (w .result) (n .ensures (a .sheet .now) .count) (k .ensures .0) (k .ensures .1 .0) (w .ensures) in
     let enough : workNeeded (a .high .0) (q .symbols) (q .clauses) ≤ W = omega (arith, whole, c .before .before .before .if2 .left) in
-    let m = c .before .before .before .before .case-length in
-    let case : m .result ≡ caseLength (a .high .0) (q .symbols) = length-is (a .sheet .now) (a .p) (a .high .0) (m .result) (m .ensures (a .sheet .now) (s .pre .accepted .readable)) in
+    let m = c .before .before .before .before .shown-length in
+    let case : m .result ≡ caseLength (a .high .0) (shownSymbols (q .symbols)) = length-is (a .sheet .now) (a .p) (a .high .0) (m .result) _ (s .pre .shows) refl (m .ensures (a .sheet .now) (s .pre .accepted .readable)) in
     all-sizes (a .sheet .now) (a .p) (a .low .0) (a .high .0) W R (s .pre) few enough (omega (arith, case, c .before .before .if3 .left))
 
 -- src/lib.rt:52:1
@@ -154,8 +154,8 @@ returns-4 c =
     let whole : w .result ≡ workNeeded (a .high .0) (q .symbols) (q .clauses) =
     work-is (a .sheet .now) (a .p) (a .high .0) (n .result .count) (k .result .instances) (k .result .literals) (w .result) (n .ensures (a .sheet .now) .count) (k .ensures .0) (k .ensures .1 .0) (w .ensures) in
     let enough : workNeeded (a .high .0) (q .symbols) (q .clauses) ≤ W = omega (arith, whole, c .before .before .before .before .before .before .before .before .if2 .left) in
-    let m = c .before .before .before .before .before .before .before .before .before .case-length in
-    let case : m .result ≡ caseLength (a .high .0) (q .symbols) = length-is (a .sheet .now) (a .p) (a .high .0) (m .result) (m .ensures (a .sheet .now) (s .pre .accepted .readable)) in
+    let m = c .before .before .before .before .before .before .before .before .before .shown-length in
+    let case : m .result ≡ caseLength (a .high .0) (shownSymbols (q .symbols)) = length-is (a .sheet .now) (a .p) (a .high .0) (m .result) _ (s .pre .shows) refl (m .ensures (a .sheet .now) (s .pre .accepted .readable)) in
     let t = c .before .before .before .before .search-sizes in
     ends-as (foundIn q (a .low .0) (a .high .0)) (t .result) (a .work .now) (t .last .1 .1 .1 .1 .0) (a .output .now) (t .last .1 .1 .1 .1 .1 .0) (foundWithin q (a .low .0) (a .high .0))
     (searches q (a .low .0) (a .high .0) W R few enough (omega (arith, case, c .before .before .before .before .before .before .before .if3 .left))) (t .ensures)
@@ -170,7 +170,7 @@ find-in-spec =
     numbering-of-requires
     cast-work-needed
     work-needed-requires
-    case-length-requires
+    shown-length-requires
     needing-requires
     returns-2
     needing-requires-2

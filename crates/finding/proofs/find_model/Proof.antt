@@ -4,10 +4,11 @@ use mathlib.Core.Path.{_≡_, refl, sym, ap, _∙_}
 use native.Mathlib.Omega.{arith}
 use lib.ListN.{length}
 use Rattle.theory.specs.Refusals.{unplaced}
-use Rattle.theory.specs.Operations.{findResult}
+use Rattle.theory.specs.Problem.{Problem}
+use Rattle.naming.specs.NamedOperations.{modeProblem, findResultIn}
 use Rattle.answers.specs.Answers.{refusalIn}
 use Rattle.problem.specs.Problems.{problemIn}
-use Rattle.problem.proofs.SheetRead.{sheet-accepted, sheet-placed, sheet-refused}
+use Rattle.problem.proofs.ModeRead.{read-shows, mode-accepted, mode-refused}
 use Rattle.finding.specs.Ending.{foundIn}
 use Rattle.finding.proofs.Ranges.{range-bounds, range-taken, range-refused}
 use Rattle.finding.proofs.Endings.{ends-as, ends-refused}
@@ -16,20 +17,21 @@ use borrow.Author.Needs.{needs}
 use Rattle.finding.proofs.find_model.Statement.{statement}
 use Rattle.finding.proofs.find_model.Tie as tie
 
-read-problem-requires : tie.Need-read-problem-requires
-read-problem-requires c κs = search needs
+read-in-requires : tie.Need-read-in-requires
+read-in-requires c κs = search needs
 
-sheet-refusal-requires : tie.Need-sheet-refusal-requires
-sheet-refusal-requires c κs =
-    let r = c .before .before .read-problem in
-    sheet-refused (c .before .before .before .before .before .before .args .sheet .now) (r .result) (r .ensures .0) (c .if1 .taken)
+refusal-in-requires : tie.Need-refusal-in-requires
+refusal-in-requires c κs =
+    let a = c .before .before .before .before .before .before .args in
+    let r = c .before .before .read-in in
+    mode-refused (a .sheet .now) (a .named) (r .result) (r .ensures .0) (c .if1 .taken)
 
 returns : tie.Need-returns
 returns c =
     let a = c .before .before .before .before .before .before .before .args in
-    let q = c .sheet-refusal .result in
-    ends-refused (findResult (a .sheet .now) (a .low) (a .high)) q (refusalIn q) (a .work .now) (a .output .now)
-    (result-refused (a .sheet .now) (a .low) (a .high) (length (a .work .now)) (length (a .output .now)) (refusalIn q) (c .sheet-refusal .ensures)) refl
+    let q = c .refusal-in .result in
+    ends-refused (findResultIn (a .named) (a .sheet .now) (a .low) (a .high)) q (refusalIn q) (a .work .now) (a .output .now)
+    (result-refused (a .sheet .now) (a .low) (a .high) (length (a .work .now)) (length (a .output .now)) (a .named) (refusalIn q) (c .refusal-in .ensures)) refl
 
 checked-range-requires : tie.Need-checked-range-requires
 checked-range-requires c κs = search needs
@@ -46,14 +48,16 @@ enum-known-least c = search needs
 find-in-requires : tie.Need-find-in-requires
 find-in-requires c κs =
     let a = c .before .before .before .before .before .before .before .before .before .before .before .before .before .args in
-    let r = c .before .before .before .before .before .before .before .before .before .read-problem in
+    let r = c .before .before .before .before .before .before .before .before .before .read-in in
     let ok = c .before .before .before .before .before .before .before .if1 .left in
     let g = c .before .before .before .least .given in
     let t = range-taken (a .low) (a .high) (g .0 .0) (g .0 .1 .0) (sym (c .before .before .before .before .before .checked-range .ensures) ∙ g .1) in
     let h = range-bounds (a .low) (a .high) (t .0) in
+    let q = mode-accepted (a .sheet .now) (a .named) (r .result) (r .ensures .0) ok in
     record {
       accepted = r .ensures .1 ok;
-      read = sheet-accepted (a .sheet .now) (r .result) (r .ensures .0) ok;
+      bytes = q .bytes;
+      shows = read-shows (a .named) (a .sheet .now) (r .result .problem) q;
       positive = omega (arith, t .1, h .0);
       ordered = omega (arith, t .1, t .2, h .2);
       within = omega (arith, t .2, h .1);
@@ -62,13 +66,13 @@ find-in-requires c κs =
 returns-2 : tie.Need-returns-2
 returns-2 c =
     let a = c .before .before .before .before .before .before .before .before .before .before .before .args in
-    let r = c .before .before .before .before .before .before .before .read-problem in
+    let r = c .before .before .before .before .before .before .before .read-in in
     let W = length (a .work .now) in
     let R = length (a .output .now) in
-    let q = problemIn (a .sheet .now) (r .result .problem) in
+    let q = mode-accepted (a .sheet .now) (a .named) (r .result) (r .ensures .0) (c .before .before .before .before .before .if1 .left) in
     let no = range-refused (a .low) (a .high) (sym (c .before .before .before .checked-range .ensures) ∙ c .before .enum-told .given .1) in
-    ends-refused (findResult (a .sheet .now) (a .low) (a .high)) (c .at-line .result) (unplaced 8) (a .work .now) (a .output .now)
-    (result-8 (a .sheet .now) (a .low) (a .high) W R q (sheet-placed (a .sheet .now) (r .result) (r .ensures .0) (c .before .before .before .before .before .if1 .left)) no) (c .at-line .ensures)
+    ends-refused (findResultIn (a .named) (a .sheet .now) (a .low) (a .high)) (c .at-line .result) (unplaced 8) (a .work .now) (a .output .now)
+    (result-8 (a .sheet .now) (a .low) (a .high) W R (q .problem) (a .named) (q .placed) no) (c .at-line .ensures)
 
 same-length : tie.Need-same-length
 same-length c = search needs
@@ -79,24 +83,25 @@ same-length-2 c = search needs
 returns-3 : tie.Need-returns-3
 returns-3 c =
     let a = c .before .before .before .before .before .before .before .before .before .before .before .before .before .before .before .before .before .before .args in
-    let r = c .before .before .before .before .before .before .before .before .before .before .before .before .before .before .read-problem in
+    let r = c .before .before .before .before .before .before .before .before .before .before .before .before .before .before .read-in in
     let f = c .before .before .before .before .find-in in
     let W = length (a .work .now) in
     let R = length (a .output .now) in
     let q = problemIn (a .sheet .now) (r .result .problem) in
     let g = c .before .before .before .before .before .before .before .before .least .given in
     let t = range-taken (a .low) (a .high) (g .0 .0) (g .0 .1 .0) (sym (c .before .before .before .before .before .before .before .before .before .before .checked-range .ensures) ∙ g .1) in
-    let same : foundIn q (a .low) (a .high) W R ≡ foundIn q (g .0 .0 .0) (g .0 .1 .0 .0) W R =
-    ap (λ (n : ℕ). foundIn q n (a .high) W R) (sym (t .1)) ∙ ap (λ (n : ℕ). foundIn q (g .0 .0 .0) n W R) (sym (t .2)) in
-    ends-as (findResult (a .sheet .now) (a .low) (a .high)) (f .result) (a .work .now) (f .last .1 .1 .1 .1 .0) (a .output .now) (f .last .1 .1 .1 .1 .1 .0) (foundIn q (g .0 .0 .0) (g .0 .1 .0 .0))
-    (result-read (a .sheet .now) (a .low) (a .high) W R q (sheet-placed (a .sheet .now) (r .result) (r .ensures .0) (c .before .before .before .before .before .before .before .before .before .before .before .before .if1 .left)) (t .0) ∙ same) (f .ensures)
+    let k = mode-accepted (a .sheet .now) (a .named) (r .result) (r .ensures .0) (c .before .before .before .before .before .before .before .before .before .before .before .before .if1 .left) in
+    let same : foundIn (modeProblem (a .named) (k .problem)) (a .low) (a .high) W R ≡ foundIn q (g .0 .0 .0) (g .0 .1 .0 .0) W R =
+    ap (λ (q : Problem). foundIn q (a .low) (a .high) W R) (sym (k .is)) ∙ ap (λ (n : ℕ). foundIn q n (a .high) W R) (sym (t .1)) ∙ ap (λ (n : ℕ). foundIn q (g .0 .0 .0) n W R) (sym (t .2)) in
+    ends-as (findResultIn (a .named) (a .sheet .now) (a .low) (a .high)) (f .result) (a .work .now) (f .last .1 .1 .1 .1 .0) (a .output .now) (f .last .1 .1 .1 .1 .1 .0) (foundIn q (g .0 .0 .0) (g .0 .1 .0 .0))
+    (result-read (a .sheet .now) (a .low) (a .high) W R (k .problem) (a .named) (k .placed) (k .declared) (t .0) ∙ same) (f .ensures)
 
 pub find-model-spec : {M : Type 1} → statement M
 find-model-spec =
     tie.close
     (tie.spec
-    read-problem-requires
-    sheet-refusal-requires
+    read-in-requires
+    refusal-in-requires
     returns
     checked-range-requires
     enum-told

@@ -9,9 +9,8 @@ use Rattle.theory.specs.CaseText.{caseLength}
 use Rattle.theory.specs.PlainSearch.{maxPlainCells}
 use Rattle.theory.proofs.Parsing.{readProblem-bytes}
 use Rattle.problem.specs.Problems.{problemIn}
-use Rattle.finding.proofs.Refusing.{length-is}
 use Rattle.plain.specs.Ending.{foundWithin, foundIn}
-use Rattle.plain.proofs.Models.{cells-is, all-sizes}
+use Rattle.plain.proofs.Models.{cells-is, all-sizes, length-is}
 use Rattle.plain.proofs.Endings.{ends-as, ends-refused, refused-20, refused-11, searches}
 use borrow.Author.Needs.{needs}
 use Rattle.plain.proofs.find_in.Statement.{statement}

@@ -4,10 +4,11 @@ use mathlib.Core.Path.{_≡_, refl, sym, ap, _∙_}
 use Prim.Native.Nat.{ℕ}
 use lib.ListN.{length}
 use Rattle.theory.specs.Refusals.{unplaced}
-use Rattle.theory.specs.Operations.{writtenText}
+use Rattle.theory.specs.Problem.{Problem}
+use Rattle.naming.specs.NamedOperations.{writtenTextIn}
 use Rattle.syntax.proofs.Sizes.{checked-size, refused-size, size-within}
 use Rattle.problem.specs.Problems.{problemIn}
-use Rattle.problem.proofs.SheetRead.{sheet-placed, sheet-refused}
+use Rattle.problem.proofs.ModeRead.{mode-accepted, mode-refused}
 use Rattle.writing.specs.Texts.{textAt}
 use Rattle.answers.specs.Answers.{refusalIn}
 use Rattle.answers.proofs.Answering.{refuses, answers-as}
@@ -15,21 +16,22 @@ use Rattle.writing.proofs.Refusing.{sheet-refusal, size-refusal, sized-
 use Rattle.writing.proofs.write_clauses.Statement.{statement}
 use Rattle.writing.proofs.write_clauses.Tie as tie
 
-read-problem-requires : tie.Need-read-problem-requires
-read-problem-requires c κs = search needs
+read-in-requires : tie.Need-read-in-requires
+read-in-requires c κs = search needs
 
-sheet-refusal-requires : tie.Need-sheet-refusal-requires
-sheet-refusal-requires c κs =
-    let r = c .before .before .read-problem in
-    sheet-refused (c .before .before .before .before .before .args .sheet .now) (r .result) (r .ensures .0) (c .if1 .taken)
+refusal-in-requires : tie.Need-refusal-in-requires
+refusal-in-requires c κs =
+    let a = c .before .before .before .before .before .args in
+    let r = c .before .before .read-in in
+    mode-refused (a .sheet .now) (a .named) (r .result) (r .ensures .0) (c .if1 .taken)
 
 returns : tie.Need-returns
 returns c =
     let z = c .before .before .before .before .before .before in
     let sheet = z .args .sheet .now in
     let room = length (z .args .output .now) in
-    let q = c .sheet-refusal .result in
-    refuses (writtenText sheet (z .args .size) room) (refusalIn q) q (z .args .output .now) (sheet-refusal sheet (z .args .size) room (refusalIn q) (c .sheet-refusal .ensures)) refl
+    let q = c .refusal-in .result in
+    refuses (writtenTextIn (z .args .named) sheet (z .args .size) room) (refusalIn q) q (z .args .output .now) (sheet-refusal sheet (z .args .size) room (z .args .named) (refusalIn q) (c .refusal-in .ensures)) refl
 
 checked-requires : tie.Need-checked-requires
 checked-requires c κs = search needs
@@ -49,18 +51,18 @@ write-at-requires c κs =
     let s = c .before .before .s .given in
     let k = checked-size (z .args .size) (s .0 .0) (sym (c .before .before .before .before .checked .ensures) ∙ s .1) in
     let w = size-within (z .args .size) (k .0) in
-    record { accepted = c .before .before .before .before .before .before .before .before .read-problem .ensures .1 (c .before .before .before .before .before .before .if1 .left); positive = rw (k .1) (w .0); within = rw (k .1) (w .1) }
+    record { accepted = c .before .before .before .before .before .before .before .before .read-in .ensures .1 (c .before .before .before .before .before .before .if1 .left); positive = rw (k .1) (w .0); within = rw (k .1) (w .1) }
 
 returns-2 : tie.Need-returns-2
 returns-2 c =
     let z = c .before .before .before .before .before .before .before .before .before .before in
     let sheet = z .args .sheet .now in
     let room = length (z .args .output .now) in
-    let r = c .before .before .before .before .before .before .before .read-problem in
+    let r = c .before .before .before .before .before .before .before .read-in in
     let no = refused-size (z .args .size) (sym (c .before .before .before .checked .ensures) ∙ c .before .enum-told .given .1) in
-    refuses (writtenText sheet (z .args .size) room) (unplaced 8) (c .at-line .result) (z .args .output .now)
-    (size-refusal sheet (z .args .size) room (problemIn sheet (r .result .problem)) (sheet-placed sheet (r .result) (r .ensures .0) (c .before .before .before .before .before .if1 .left)) no)
-    (c .at-line .ensures)
+    let q = mode-accepted sheet (z .args .named) (r .result) (r .ensures .0) (c .before .before .before .before .before .if1 .left) in
+    refuses (writtenTextIn (z .args .named) sheet (z .args .size) room) (unplaced 8) (c .at-line .result) (z .args .output .now)
+    (size-refusal sheet (z .args .size) room (z .args .named) (q .problem) (q .placed) no) (c .at-line .ensures)
 
 same-length : tie.Need-same-length
 same-length c = search needs
@@ -70,21 +72,22 @@ returns-3 c =
     let z = c .before .before .before .before .before .before .before .before .before .before .before .before .before .before in
     let sheet = z .args .sheet .now in
     let room = length (z .args .output .now) in
-    let r = c .before .before .before .before .before .before .before .before .before .before .before .read-problem in
+    let r = c .before .before .before .before .before .before .before .before .before .before .before .read-in in
     let p = problemIn sheet (r .result .problem) in
     let s = c .before .before .before .before .before .s .given in
     let w = c .before .before .write-at in
     let k = checked-size (z .args .size) (s .0 .0) (sym (c .before .before .before .before .before .before .before .checked .ensures) ∙ s .1) in
-    let t = sized-text sheet (z .args .size) room p (sheet-placed sheet (r .result) (r .ensures .0) (c .before .before .before .before .before .before .before .before .before .if1 .left)) (k .0) in
-    let u : writtenText sheet (z .args .size) room ≡ textAt p (s .0 .0 .0) room = t ∙ ap (λ (n : ℕ). textAt p n room) (sym (k .1)) in
-    answers-as (writtenText sheet (z .args .size) room) (textAt p (s .0 .0 .0) room) (w .result) (z .args .output .now) _ u (w .ensures)
+    let q = mode-accepted sheet (z .args .named) (r .result) (r .ensures .0) (c .before .before .before .before .before .before .before .before .before .if1 .left) in
+    let t = sized-text sheet (z .args .size) room (z .args .named) (q .problem) (q .placed) (k .0) in
+    let u : writtenTextIn (z .args .named) sheet (z .args .size) room ≡ textAt p (s .0 .0 .0) room = t ∙ ap (λ (q : Problem). textAt q (z .args .size) room) (sym (q .is)) ∙ ap (λ (n : ℕ). textAt p n room) (sym (k .1)) in
+    answers-as (writtenTextIn (z .args .named) sheet (z .args .size) room) (textAt p (s .0 .0 .0) room) (w .result) (z .args .output .now) _ u (w .ensures)
 
 pub write-clauses-spec : {M : Type 1} → statement M
 write-clauses-spec =
     tie.close
     (tie.spec
-    read-problem-requires
-    sheet-refusal-requires
+    read-in-requires
+    refusal-in-requires
     returns
     checked-requires
     enum-told

@@ -3,10 +3,13 @@
 use crate::options::Sheet;
 use crate::report::{Failure, File};
 use crate::room::{Engine, Room};
-use crate::{print, read_sheet, szs, tables, NO, YES};
+use crate::{named, print, read_sheet, szs, tables, NO, YES};
 use nesskettle::{Reason, Refusal, Search};
 use std::io::IsTerminal;
 use std::time::Instant;
+
+/// The largest size.
+const LARGEST: u64 = 8;
 
 /// How an outcome is printed.
 #[derive(Clone, Copy, Debug, PartialEq, Eq)]
@@ -50,9 +53,13 @@ pub fn find(sheet: &Sheet, low: u64, high: u64, engine: Engine, layout: Layout) 
 /// The sheet, what the search came to, and the room in which a case stands.
 fn search(sheet: File, low: u64, high: u64, engine: Engine) -> Result<(File, Search, Room), Failure> {
     let room = Room::new(engine, &sheet.bytes, low, high);
-    let mut room = room.map_err(|r| match r.reason {
-        Reason::TooManyCells => sheet.refused(r).with(&fewer_cells(&sheet.bytes, low, high)),
-        _ => sheet.refused(r),
+    let mut room = room.map_err(|r| match (engine, r.reason) {
+        (Engine::Clauses(terms), _) => named::refused(&sheet, r, terms, |other| {
+            let highest = highest(Engine::Clauses(other), &sheet.bytes, low, high)?;
+            Some(if highest < high { up_to(highest) } else { String::new() })
+        }),
+        (Engine::Plain, Reason::TooManyCells) => sheet.refused(r).with(&fewer_cells(&sheet.bytes, low, high)),
+        (Engine::Plain, _) => sheet.refused(r),
     })?;
     let search = if std::io::stderr().is_terminal() {
         find_by_size
@@ -63,13 +70,22 @@ fn search(sheet: File, low: u64, high: u64, engine: Engine) -> Result<(File, Sea
     Ok((sheet, search, room))
 }
 
-/// What to do about too many cells. The library is asked which high it takes.
+/// What to do about too many cells.
 fn fewer_cells(sheet: &[u8], low: u64, high: u64) -> String {
-    let is_taken = |&high: &u64| Room::new(Engine::Plain, sheet, low, high).is_ok();
-    match (low..high).rev().find(is_taken) {
-        Some(high) => format!("--plain takes this sheet up to --high {high}"),
+    match highest(Engine::Plain, sheet, low, high) {
+        Some(high) => format!("--plain takes this sheet{}", up_to(high)),
         None => format!("--plain does not take this sheet at size {low}"),
     }
+}
+
+/// The highest size up to which the search is taken, at most `high`. The library is asked.
+fn highest(engine: Engine, sheet: &[u8], low: u64, high: u64) -> Option<u64> {
+    let is_taken = |&high: &u64| Room::new(engine, sheet, low, high).is_ok();
+    (low..=high.min(LARGEST)).rev().find(is_taken)
+}
+
+fn up_to(high: u64) -> String {
+    format!(" up to --high {high}")
 }
 
 /// The search size by size, told on standard error. A size's model is the whole search's answer where all sizes before

@@ -5,6 +5,7 @@
 mod explain;
 mod find;
 mod from_solver;
+mod named;
 mod options;
 mod report;
 mod room;
@@ -14,6 +15,7 @@ mod szs;
 mod tables;
 mod values;
 
+use nesskettle::Terms;
 use options::{Command, Sheet};
 use report::{Failure, File};
 use std::io::Write;
@@ -45,13 +47,14 @@ fn run(command: Command) -> Result<u8, Failure> {
         Command::Check { sheet } => check(&read_sheet(&sheet)?),
         Command::Judge { sheet, case } => judge(&read_sheet(&sheet)?, &File::read(&case)?),
         Command::Explain { sheet, case } => explain::explain(&read_sheet(&sheet)?, &File::read(&case)?),
-        Command::Clauses { sheet, size } => clauses(&read_sheet(&sheet)?, size),
+        Command::Clauses { sheet, size, terms } => clauses(&read_sheet(&sheet)?, size, terms),
         Command::ReadBack {
             sheet,
             size,
+            terms,
             setting,
             tables,
-        } => read_back(&read_sheet(&sheet)?, size, &File::read(&setting)?, tables),
+        } => read_back(&read_sheet(&sheet)?, size, terms, &File::read(&setting)?, tables),
         Command::FromSolver {
             sheet,
             size,
@@ -108,15 +111,18 @@ fn judge(sheet: &File, case: &File) -> Result<u8, Failure> {
     Ok(if yes { YES } else { NO })
 }
 
-fn clauses(sheet: &File, size: u64) -> Result<u8, Failure> {
-    let text = room::text(|output| nesskettle::write(&sheet.bytes, size, output)).map_err(|r| sheet.refused(r))?;
-    print(&text)
+fn clauses(sheet: &File, size: u64, terms: Terms) -> Result<u8, Failure> {
+    let written = |terms: Terms, output: &mut [u8]| nesskettle::write(&sheet.bytes, size, terms, output);
+    let taken = |terms: Terms| named::without_limit(written(terms, &mut []));
+    let text = room::text(|output| written(terms, output));
+    print(&text.map_err(|r| named::refused(sheet, r, terms, taken))?)
 }
 
-fn read_back(sheet: &File, size: u64, setting: &File, tables: bool) -> Result<u8, Failure> {
+fn read_back(sheet: &File, size: u64, terms: Terms, setting: &File, tables: bool) -> Result<u8, Failure> {
     let setting = setting.digits()?;
-    let read = |output: &mut [u8]| nesskettle::read_back(&sheet.bytes, size, &setting, output);
-    let case = room::text(read).map_err(|r| sheet.refused(r))?;
+    let read = |terms: Terms, output: &mut [u8]| nesskettle::read_back(&sheet.bytes, size, terms, &setting, output);
+    let taken = |terms: Terms| named::without_limit(read(terms, &mut []));
+    let case = room::text(|output| read(terms, output)).map_err(|r| named::refused(sheet, r, terms, taken))?;
     print_case(sheet, &case, tables)
 }
 

@@ -3,11 +3,12 @@
 use crate::find::Layout;
 use crate::report::Failure;
 use crate::room::Engine;
+use nesskettle::Terms;
 
 pub const HELP: &str = "\
 nesskettle: a finite model finder. Every answer is the proved library's.
 
-  nesskettle find SHEET [--low N] [--high N] [--plain] [--tables or --szs]
+  nesskettle find SHEET [--low N] [--high N] [--named or --plain] [--tables or --szs]
       the least model at the smallest size from low to high (1 and 8 if not given):
       prints answer=found and the case, or answer=none and settled=yes (there is no
       model of any size) or settled=no (none of the sizes that were searched)
@@ -17,9 +18,9 @@ nesskettle: a finite model finder. Every answer is the proved library's.
       why is the case no model? prints answer=no, the first clause that fails, its
       letters with the first choice of values under which it does, and what its
       terms and literals come to; or answer=yes
-  nesskettle clauses SHEET --size N
+  nesskettle clauses SHEET --size N [--named]
       prints the sheet's clauses at a size, as DIMACS text for a SAT solver
-  nesskettle read-back SHEET --size N SETTING [--tables]
+  nesskettle read-back SHEET --size N SETTING [--named] [--tables]
       prints the case that a setting of the propositional variables stands for
   nesskettle setting SHEET CASE
       the other way: prints the setting of a case, as read-back takes it, with a line
@@ -58,12 +59,25 @@ feed. Lines that begin with c are passed over.
 ones, and three arguments make one table for each first argument. A predicate's
 table has 1 where it holds and . where it does not.
 
+--named is for sheets with deep terms on constants, which soon have over 10
+variables once flattened (refusal 7). Each term without variables that is no
+constant and stands inside no other such term gets a constant of its own, a helper;
+equal terms share one. The helper stands in the clauses instead, and a clause + =
+HELPER TERM for each comes in front. Limits of a clause are then those of the
+clauses with the names put in and of the helpers' own; at most 32 terms are named
+(refusal 21). find answers what it answers without --named where both are taken,
+and no case shows a helper. clauses prints the clauses with the helpers, whose
+variables come last, after all predicates, and a SETTING for read-back --named has
+their digits. The other commands, --plain, and a TPTP file when it is read into a
+sheet take terms as they are written.
+
 --plain searches as one would on a whiteboard: it fills the cells of the tables in
 order, the least value first, and looks at the clauses once all are filled. Where
 both take a sheet, it answers what find answers without it. It goes together with
-every other option of find; other commands do not search and take no --plain. A
-case of size --high may have at most 64 cells (refusal 20), and time grows with the
-number of cases: at size N a cell of a function has N values, one of a predicate 2.
+every other option of find but --named; other commands do not search and take no
+--plain. A case of size --high may have at most 64 cells (refusal 20), and time
+grows with the number of cases: at size N a cell of a function has N values, one of
+a predicate 2.
 
 None is settled where low is 1, no function takes an argument, and high is at
 least the number of constants.
@@ -71,7 +85,7 @@ least the number of constants.
 --szs prints what TPTP's tools print. `% SZS status`, then Satisfiable, and the
 model as a finite interpretation (fi_domain, fi_functors, fi_predicates) in which
 \"1\", \"2\", .. are the elements; Unsatisfiable where none is settled; else GaveUp,
-also where a limit is in the way (refusals 9, 17 and 20). A file that is not taken
+also where a limit is in the way (refusals 9, 17, 20, 21). A file that is not taken
 for another reason is InputError, a wrong --low or --high UsageError; the words
 stand on standard error as always.
 
@@ -115,10 +129,12 @@ pub enum Command {
     Clauses {
         sheet: Sheet,
         size: u64,
+        terms: Terms,
     },
     ReadBack {
         sheet: Sheet,
         size: u64,
+        terms: Terms,
         setting: String,
         tables: bool,
     },
@@ -178,19 +194,23 @@ pub fn parse(arguments: impl Iterator<Item = String>) -> Result<Command, Failure
         }
         "clauses" => {
             let size = rest.size()?;
+            let terms = rest.terms();
             let [sheet] = rest.files("SHEET")?;
             Ok(Command::Clauses {
                 sheet: sheet_in(sheet),
                 size,
+                terms,
             })
         }
         "read-back" => {
             let size = rest.size()?;
+            let terms = rest.terms();
             let tables = rest.flag("--tables");
             let [sheet, setting] = rest.files("SHEET SETTING")?;
             Ok(Command::ReadBack {
                 sheet: sheet_in(sheet),
                 size,
+                terms,
                 setting,
                 tables,
             })
@@ -209,7 +229,7 @@ pub fn parse(arguments: impl Iterator<Item = String>) -> Result<Command, Failure
         "find" => {
             let low = rest.number("--low")?.unwrap_or(1);
             let high = rest.number("--high")?.unwrap_or(8);
-            let engine = rest.engine();
+            let engine = rest.engine()?;
             let layout = rest.layout()?;
             let [sheet] = rest.files("SHEET")?;
             Ok(Command::Find {
@@ -254,12 +274,21 @@ impl Rest {
         self.number("--size")?.ok_or(wrong("--size N is needed"))
     }
 
-    /// Takes the flag of the plain search out.
-    fn engine(&mut self) -> Engine {
-        if self.flag("--plain") {
-            Engine::Plain
+    /// Takes the flag of named terms out.
+    fn terms(&mut self) -> Terms {
+        if self.flag("--named") {
+            Terms::Named
         } else {
-            Engine::Clauses
+            Terms::AsWritten
+        }
+    }
+
+    /// Takes the flags of a search out.
+    fn engine(&mut self) -> Result<Engine, Failure> {
+        match (self.flag("--plain"), self.terms()) {
+            (false, terms) => Ok(Engine::Clauses(terms)),
+            (true, Terms::AsWritten) => Ok(Engine::Plain),
+            (true, Terms::Named) => Err(wrong("--plain and --named are not for one search")),
         }
     }
 

@@ -25,7 +25,9 @@ pub fn none(path: &str, low: u64, high: u64, settled: bool) -> String {
 pub fn failed(path: &str, failure: &Failure) -> String {
     match failure.reason {
         Some(Reason::BadSize) => status("UsageError", path),
-        Some(Reason::TooManyInstances | Reason::BeyondSheets | Reason::TooManyCells) => status("GaveUp", path),
+        Some(Reason::TooManyInstances | Reason::BeyondSheets | Reason::TooManyCells | Reason::TooManyHelpers) => {
+            status("GaveUp", path)
+        }
         _ => status("InputError", path),
     }
 }

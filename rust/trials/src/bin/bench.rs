@@ -9,8 +9,12 @@ use nesskettle_trials::draft::Draft;
 use nesskettle_trials::problems::{sheet, GROUP_CASE, MILLION};
 use nesskettle_trials::random::Random;
 use nesskettle_trials::solver::stating;
+use reference::Terms::{self, AsWritten, Named};
 use reference::{sheet_of, Operations, Search, SolverAnswer};
 use std::time::Duration;
+
+/// Terms that are refused as written.
+const COUNTER: &[u8] = include_bytes!("../../../../examples/counter.sheet");
 
 /// How many times each measurement is taken where the command line does not say.
 const RUNS: usize = 5;
@@ -25,6 +29,7 @@ fn main() {
     read_back(&bench);
     find(&bench);
     find_plain(&bench);
+    named(&bench);
     from_tptp(&bench);
 }
 
@@ -134,16 +139,18 @@ fn judge(bench: &Bench) {
 }
 
 fn write(bench: &Bench) {
-    write_row(bench, "write, group at size 4", sheet("group"), 4, 100);
-    write_row(bench, "write, lattice at size 6", sheet("lattice"), 6, 3);
-    write_row(bench, "write, 1,000,000 instances", MILLION, 8, 1);
+    write_row(bench, "write, group at size 4", sheet("group"), 4, AsWritten, 100);
+    write_row(bench, "write, lattice at size 6", sheet("lattice"), 6, AsWritten, 3);
+    write_row(bench, "write, 1,000,000 instances", MILLION, 8, AsWritten, 1);
 }
 
-fn write_row(bench: &Bench, name: &str, sheet: &[u8], size: u64, times: u32) {
-    let length = reference::write(sheet, size, &mut []).expect_err("no room").needed as usize;
+fn write_row(bench: &Bench, name: &str, sheet: &[u8], size: u64, terms: Terms, times: u32) {
+    let length = reference::write(sheet, size, terms, &mut [])
+        .expect_err("no room")
+        .needed as usize;
     let mut output = vec![0; length];
     bench.row(name, times, Some((length as f64 / 1e6, "MB")), |o| {
-        assert_eq!((o.write)(sheet, size, &mut output), Ok(length));
+        assert_eq!((o.write)(sheet, size, terms, &mut output), Ok(length));
     });
 }
 
@@ -156,7 +163,7 @@ fn read_back(bench: &Bench) {
     let amount = Some((setting.len() as f64 / 1e6, "million variables"));
     let mut length = 0;
     bench.row("read back, 24 tables of 512 at size 8", 20, amount, |o| {
-        length = (o.read_back)(&sheet, 8, &setting, &mut case).expect("it is a setting")
+        length = (o.read_back)(&sheet, 8, AsWritten, &setting, &mut case).expect("it is a setting")
     });
     let mut output = vec![0; setting.len()];
     bench.row("setting, 24 tables of 512 at size 8", 20, amount, |o| {
@@ -188,20 +195,55 @@ fn find(bench: &Bench) {
         ("lattice", 4, 1),
         ("lattice", 5, 1),
     ] {
-        let sheet = sheet(name);
-        let (work, output) = reference::needed(sheet, size).expect("it is a sheet");
-        let mut work = vec![0; work as usize];
-        let mut output = vec![0; output as usize];
-        let expected = reference::find(sheet, size, size, &mut work, &mut output);
-        let outcome = if matches!(expected, Ok(Search::Found { .. })) {
-            "found"
-        } else {
-            "none"
-        };
-        bench.row(&format!("find, {name} at size {size}, {outcome}"), times, None, |o| {
-            assert_eq!((o.find)(sheet, size, size, &mut work, &mut output), expected);
-        });
+        find_row(bench, name, sheet(name), size, AsWritten, times);
     }
+}
+
+fn find_row(bench: &Bench, name: &str, sheet: &[u8], size: u64, terms: Terms, times: u32) {
+    let (work, output) = reference::needed(sheet, size, terms).expect("it is a sheet");
+    let mut work = vec![0; work as usize];
+    let mut output = vec![0; output as usize];
+    let expected = reference::find(sheet, size, size, terms, &mut work, &mut output);
+    let outcome = if matches!(expected, Ok(Search::Found { .. })) {
+        "found"
+    } else {
+        "none"
+    };
+    let call = if terms == Named { "find named" } else { "find" };
+    bench.row(&format!("{call}, {name} at size {size}, {outcome}"), times, None, |o| {
+        assert_eq!((o.find)(sheet, size, size, terms, &mut work, &mut output), expected);
+    });
+}
+
+/// Named terms: sheets that have none of them, as in the rows above; the example that is refused as written; and both ways
+/// on the same sheet of fixed terms.
+fn named(bench: &Bench) {
+    write_row(bench, "write named, group at size 4", sheet("group"), 4, Named, 100);
+    find_row(bench, "group", sheet("group"), 5, Named, 1);
+    find_row(bench, "steiner", sheet("steiner"), 7, Named, 20);
+    write_row(bench, "write named, counter at size 4", COUNTER, 4, Named, 10);
+    find_row(bench, "counter", COUNTER, 3, Named, 20);
+    find_row(bench, "counter", COUNTER, 5, Named, 1);
+    // ten variables as written, five and five in the helpers' own clauses
+    let clause = "+ r s s s s y s s s s z";
+    let steps = sheet_of(&["y/0", "z/0", "s/1"], &["r/2"], &[clause, "- r A A"]);
+    write_row(bench, "write, four steps twice at size 3", &steps, 3, AsWritten, 3);
+    write_row(bench, "write named, four steps twice at size 3", &steps, 3, Named, 100);
+    find_row(bench, "four steps twice", &steps, 3, AsWritten, 3);
+    find_row(bench, "four steps twice", &steps, 3, Named, 100);
+    let words = long_line();
+    let name = format!("write named, a line of {:.1} kB at size 1", words.len() as f64 / 1e3);
+    write_row(bench, &name, &words, 1, Named, 100);
+}
+
+/// Twelve literals of three terms of 61 words each.
+fn long_line() -> Vec<u8> {
+    let thrice = |term: &str| format!("h {term} {term} {term}");
+    let thirteen = thrice(&thrice("a"));
+    let large = |last: &str| format!("h {} {thirteen} {last}", thrice(&thirteen));
+    let terms = [large("f f f h a a a"), large("f f f h a a b"), large("f f f h a b a")];
+    let line = vec![format!("+ q {}", terms.join(" ")); 12].join(" ");
+    sheet_of(&["a/0", "b/0", "f/1", "h/3"], &["q/3"], &[&line])
 }
 
 /// Both searches on the same small sheets that have no model: one makes clauses, the other tries so many cases.
@@ -212,12 +254,12 @@ fn find_plain(bench: &Bench) {
         ("pigeonhole", 6, 279_936),
     ] {
         let sheet = sheet(name);
-        let (work, output) = reference::needed(sheet, size).expect("it is a sheet");
+        let (work, output) = reference::needed(sheet, size, AsWritten).expect("it is a sheet");
         let mut work = vec![0; work as usize];
         let mut output = vec![0; output as usize];
         let none = Ok(Search::None { settled: false });
         bench.row(&format!("find, {name} at size {size}, none"), 10, None, |o| {
-            assert_eq!((o.find)(sheet, size, size, &mut work, &mut output), none);
+            assert_eq!((o.find)(sheet, size, size, AsWritten, &mut work, &mut output), none);
         });
         let amount = Some((cases as f64 / 1e3, "thousand cases"));
         bench.row(&format!("find plain, {name} at size {size}, none"), 1, amount, |o| {

@@ -1,15 +1,14 @@
 -- `read_tables` meets its contract: the lines of the symbols before i are read.
 use borrow.Author.Needs.{needs}
 use Prim.Native.Nat.{_-_, _<_}
-use mathlib.Core.Path.{_≡_, refl, ap, _∙_}
+use mathlib.Core.Path.{_≡_, refl, _∙_}
 use native.Mathlib.Omega.{arith}
 use lib.ListN.{length, getD}
-use Rattle.theory.specs.Syntax.{Symbol}
 use Rattle.syntax.specs.Signatures.{symbolIn, signatureIn}
 use Rattle.clauses.proofs.Held.{blank, arity-at, count-signatureIn, symbolAt-signatureIn, name-within}
 use Rattle.interpretation.proofs.Ranks.{power-within}
-use Rattle.interpretation.proofs.Tabling.{base-within, limited-small}
-use Rattle.cases.proofs.TablesRead.{TablesRead, none-read, table-fault, table-read, bytes-after, case-ends, room-left}
+use Rattle.interpretation.proofs.Tabling.{base-within, limited-small, table-limited}
+use Rattle.cases.proofs.TablesRead.{TablesRead, none-read, table-fault, table-read, bytes-after, case-ends}
 use Rattle.cases.proofs.reading.read_tables.Statement.{statement}
 use Rattle.cases.proofs.reading.read_tables.Tie as tie
 
@@ -38,7 +37,6 @@ read-table-requires c κs =
     let l = c .before .before .before .loop in
     let r = s .pre .1 .0 in
     let here : l .i < a .t4 .count = c .before .before .loop-test .taken in
-    let n = count-signatureIn (a .t4) (r .limited) (a .sheet .now) in
     record {
       within = l .inv .0 .within;
       named = name-within (a .sheet .now) (a .t4) r (l .i) here;
@@ -48,8 +46,8 @@ read-table-requires c κs =
       room =
           omega (
             arith,
-            room-left (l .inv .0) (s .pre .1 .1 .1 .0) (limited-small (a .sheet .now) (a .t4) (r .limited)) (getD (a .t4 .symbols) (l .i) blank .arity) (omega (arith, n))
-                (ap (λ (f : Symbol). f .arity) (symbolAt-signatureIn (a .t4) (r .limited) (a .sheet .now) (l .i) here)),
+            l .inv .0 .based,
+            table-limited (a .sheet .now) (a .t4) (r .limited) (a .size .0) (s .pre .1 .1 .1 .0) (l .i) here,
             l .inv .1,
             s .pre .1 .1 .1 .1,
           );

@@ -1,7 +1,9 @@
 -- `word_of` looks for a fixed word, then for a name.
 use mathlib.Core.Path.{sym, _∙_}
+use native.Mathlib.Omega.{arith}
 use Rattle.syntax.specs.Signatures.{signatureIn}
 use Rattle.clauses.proofs.Held.{count-signatureIn}
+use Rattle.clauses.proofs.Fixed.{fixed-below}
 use Rattle.clauses.proofs.OneWord.{word-empty, word-fixed, word-named, word-unknown}
 use borrow.Author.Needs.{needs}
 use Rattle.clauses.proofs.words.word_of.Statement.{statement}
@@ -16,14 +18,17 @@ is-fixed-word-requires c κs = search needs
 shared-slice-read-t9 : tie.Need-shared-slice-read-t9
 shared-slice-read-t9 c = search needs
 
+add-t10 : tie.Need-add-t10
+add-t10 c = omega (arith, fixed-below (c .before .before .before .before .before .before .args .word .now) (sym (c .before .before .is-fixed-word .ensures) ∙ c .before .if2 .taken))
+
 returns-2 : tie.Need-returns-2
 returns-2 c = let z = c .before .before .before .before .before .before in let g = signatureIn (z .args .sheet .now) (z .args .signature) in let w = z .args .word .now in word-fixed g w (sym (c .before .before .is-fixed-word .ensures) ∙ c .before .if2 .taken)
 
 find-name-requires : tie.Need-find-name-requires
 find-name-requires c κs = search needs
 
-cast-t10 : tie.Need-cast-t10
-cast-t10 c = search needs
+cast-t11 : tie.Need-cast-t11
+cast-t11 c = search needs
 
 returns-3 : tie.Need-returns-3
 returns-3 c = let z = c .before .before .before .before .before .before .before .before in let g = signatureIn (z .args .sheet .now) (z .args .signature) in let w = z .args .word .now in word-named g w (z .args .signature .count) (c .before .before .find-name .result) (count-signatureIn _ (z .pre .limited) _) (c .before .before .before .before .before .if1 .left) (sym (c .before .before .before .before .is-fixed-word .ensures) ∙ c .before .before .before .if2 .left) (c .before .before .find-name .ensures) (z .pre .limited .count) (c .if3 .taken)
@@ -38,8 +43,9 @@ word-of-spec =
     returns
     is-fixed-word-requires
     shared-slice-read-t9
+    add-t10
     returns-2
     find-name-requires
-    cast-t10
+    cast-t11
     returns-3
     returns-4)

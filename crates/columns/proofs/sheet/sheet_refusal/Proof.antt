@@ -1,5 +1,6 @@
 -- `sheet_refusal` puts the column to the refusal.
 use mathlib.Core.Path.{sym, ap, _∙_}
+use mathlib.Core.Bool.{false, false≢true}
 use borrow.Author.Needs.{needs}
 use Rattle.theory.specs.Refusals.{refused}
 use Rattle.columns.proofs.SheetRefused.{refused-placed}
@@ -7,7 +8,7 @@ use Rattle.columns.proofs.sheet.sheet_refusal.Statement.{statement}
 use Rattle.columns.proofs.sheet.sheet_refusal.Tie as tie
 
 sheet-column-requires : tie.Need-sheet-column-requires
-sheet-column-requires c κs = search needs
+sheet-column-requires c κs = record { named = false; refusal = c .before .pre; other = λ e. absurd (false≢true e) }
 
 at-place-requires : tie.Need-at-place-requires
 at-place-requires c κs = search needs

@@ -12,7 +12,7 @@ use Rattle.declaring.proofs.symbols.insert.Tie as tie
 
 abbrev Inv-loop : tie.InvT-loop
 Inv-loop at signature₀ moved₀ i₀ signature moved i =
-    (i ≤ signature₀ .count) × (signature .count ≡ signature₀ .count) × (length (signature .symbols) ≡ 24)
+    (i ≤ signature₀ .count) × (signature .count ≡ signature₀ .count) × (length (signature .symbols) ≡ 56)
     × (insertAt i moved (heldIn signature) ≡ insertAt at moved₀ (heldIn signature₀))
 
 abbrev μ-loop : tie.MeasureT-loop

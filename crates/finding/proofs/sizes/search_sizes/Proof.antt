@@ -2,7 +2,7 @@
 use borrow.Author.Needs.{needs}
 use Prim.Native.Nat.{ℕ, suc, _+_, _-_, _≤_}
 use mathlib.Core.Path.{_≡_, refl, sym, ap, _∙_, subst}
-use mathlib.Core.Bool.{Bool}
+use mathlib.Core.Bool.{Bool, true}
 use native.Mathlib.Omega.{arith}
 use lib.ListN.{length, take, replicate}
 use Rattle.theory.specs.Valuation.{settingOf}
@@ -64,6 +64,7 @@ search-size-requires c κs =
 
 -- src/sizes.rt:41:13
 put-found-requires : tie.Need-put-found-requires Inv-loop μ-loop
+unfolding problemIn
 put-found-requires c κs =
     let s = c .before .before .before .before .before .before .before .before .before .before .before .before .before in
     let a = s .args in
@@ -74,11 +75,9 @@ put-found-requires c κs =
     let t = c .before .before .before .before .before .search-size in (
       subst (Searchable (a .sheet .now) (a .p) (l .size .0)) (sym (t .kept .1 .1 .1 .1 .0 ∙ l .inv .2)) (size-searchable (a .sheet .now) (a .p) (a .low .0) (a .high .0) W R (s .pre) (l .size .0) (l .inv .0) (l .inv .1)),
       (
-        n .ensures (a .sheet .now),
-        (
-          t .ensures ∙ ap (λ (b : Bool). searchAnswer b (take (n .result .count) (t .last .1 .1 .1 .1 .0))) (c .before .before .if1 .taken),
-          omega (arith, size-case (a .sheet .now) (a .p) (a .low .0) (a .high .0) W R (s .pre) (l .size .0) (l .inv .0) (l .inv .1), l .inv .4),
-        ),
+        t .ensures ∙ ap (λ (b : Bool). searchAnswer b (take (n .result .count) (t .last .1 .1 .1 .1 .0))) (c .before .before .if1 .taken)
+            ∙ ap (λ (k : ℕ). searchAnswer true (take k (t .last .1 .1 .1 .1 .0))) (n .ensures (a .sheet .now) .count),
+        omega (arith, size-case (a .sheet .now) (a .p) (a .low .0) (a .high .0) W R (s .pre) (l .size .0) (l .inv .0) (l .inv .1), l .inv .4),
       ),
     )
 
@@ -105,7 +104,7 @@ returns c =
     let h = size-searchable (a .sheet .now) (a .p) (a .low .0) (a .high .0) W R (s .pre) (l .size .0) (l .inv .0) (l .inv .1) in
     let least = found-at (l .size .0) q (h .positive) (clauses-over (a .sheet .now) (a .p) (l .size .0) W h) (settingOf (take (n .result .count) (t .last .1 .1 .1 .1 .0)))
     (t .ensures ∙ ap (λ (b : Bool). searchAnswer b (take (n .result .count) (t .last .1 .1 .1 .1 .0))) (c .before .before .before .before .before .before .before .if1 .taken)) .least in
-    ends-whole q (a .low .0) (a .high .0) (l .size .0) _ (f .result) (a .work .now) (t .last .1 .1 .1 .1 .0) (f .last .1 .1 .1 .1 .0) (a .output .now) (l .output) (f .last .1 .1 .1 .1 .1 .0)
+    ends-whole q (a .low .0) (a .high .0) (l .size .0) _ (f .result) (a .work .now) (t .last .1 .1 .1 .1 .0) (f .last .1 .1 .1 .0) (a .output .now) (l .output) (f .last .1 .1 .1 .1 .0)
     least (l .inv .5 ∙ remaining-found q (a .high .0) (l .size .0) _ (l .inv .1) least) (t .kept .1 .1 .1 .1 .0 ∙ l .inv .2) (l .inv .3) (f .ensures)
 
 -- src/sizes.rt:44:13

@@ -3,6 +3,7 @@ use native.Mathlib.Omega.{arith}
 use mathlib.Core.Path.{refl}
 use mathlib.Core.List.{[], _∷_}
 use Rattle.theory.specs.Grammar.{sign, equals}
+use Rattle.syntax.specs.Codes.{equalsCode}
 use Rattle.importing.proofs.Coding.{fixed-code, begun-bounded, begun-more, begun-wider, continues-none, continues-both}
 use borrow.Author.Needs.{needs}
 use Rattle.importing.proofs.words.with_marks.Statement.{statement}
@@ -24,7 +25,7 @@ with-sign-requires-2 : tie.Need-with-sign-requires-2
 with-sign-requires-2 c κs = let z = c .before .before .before in (z .pre .0, begun-wider _ _ 65 66 (omega arith) (z .pre .1))
 
 with-code-requires : tie.Need-with-code-requires
-with-code-requires c κs = let z = c .before .before .before .before in (z .pre .0, (fixed-code (z .args .signature .count) 61 refl, begun-bounded _ _ 66 (omega arith) (begun-more _ _ _ 65 66 (sign _ ∷ []) (z .pre .1) (c .with-sign2 .ensures) (omega arith))))
+with-code-requires c κs = let z = c .before .before .before .before in (z .pre .0, (fixed-code (z .args .signature .count) equalsCode refl, begun-bounded _ _ 66 (omega arith) (begun-more _ _ _ 65 66 (sign _ ∷ []) (z .pre .1) (c .with-sign2 .ensures) (omega arith))))
 
 returns : tie.Need-returns
 returns c = rw (c .enum-told .given .1) (continues-none _ _)

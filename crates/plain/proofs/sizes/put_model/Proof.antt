@@ -1,8 +1,6 @@
 -- `put_model` meets its contract.
 use lib.ListN.{length}
-use Rattle.finding.proofs.Refusing.{length-is}
-use Rattle.finding.proofs.WritingFound.{case-room}
-use Rattle.plain.proofs.Models.{cells-held, cells-writable, model-written}
+use Rattle.plain.proofs.Models.{cells-held, cells-writable, model-written, length-is, case-room}
 use borrow.Author.Needs.{needs}
 use Rattle.plain.proofs.sizes.put_model.Statement.{statement}
 use Rattle.plain.proofs.sizes.put_model.Tie as tie

@@ -29,13 +29,13 @@ returns : tie.Need-returns
 returns c =
     let z = c .before .before .before .before .before in
     let a = z .args in
-    clause-unkeyed (a .sheet .now) (a .at) (signatureIn (a .sheet .now) (a .signature)) (rw (c .enum-told .given .1) at (c .before .before .key-line .ensures))
+    clause-unkeyed (a .named) (a .sheet .now) (a .at) (signatureIn (a .sheet .now) (a .signature)) (rw (c .enum-told .given .1) at (c .before .before .key-line .ensures))
 
 returns-2 : tie.Need-returns-2
 returns-2 c =
     let z = c .before .before .before .before .before .before .before in
     let a = z .args in
-    clause-keyed (a .sheet .now) (a .at) (signatureIn (a .sheet .now) (a .signature)) _ _ (c .clause-at .result) (rw (c .before .before .from .given .1) at (c .before .before .before .before .key-line .ensures)) (c .clause-at .ensures)
+    clause-keyed (a .named) (a .sheet .now) (a .at) (signatureIn (a .sheet .now) (a .signature)) _ _ (c .clause-at .result) (rw (c .before .before .from .given .1) at (c .before .before .before .before .key-line .ensures)) (c .clause-at .ensures)
 
 pub clause-line-spec : {M : Type 1} → statement M
 clause-line-spec =

@@ -32,21 +32,21 @@ lines-from-requires c κs =
     let z = c .before .before .before .before .before .before in
     let a = z .args in
     let g = signatureIn (a .sheet .now) (a .signature) in
-    let h : CountWithin (length (a .sheet .now)) 64 (Read _ _) = rw (c .before .n .given .1) at (c .before .before .before .count-line .ensures .within) in (record { within = h .1; readable = z .pre .readable; line = omega (arith, z .pre .line); counted = z .pre .counted }, h .0)
+    let h : CountWithin (length (a .sheet .now)) 64 (Read _ _) = rw (c .before .n .given .1) at (c .before .before .before .count-line .ensures .within) in (record { within = h .1; readable = z .pre .readable; few = z .pre .few; line = omega (arith, z .pre .line); counted = z .pre .counted }, h .0)
 
 returns : tie.Need-returns
 returns c =
     let z = c .before .before .before .before .before .before .before in
     let a = z .args in
     let g = signatureIn (a .sheet .now) (a .signature) in
-    clauses-uncounted (a .sheet .now) (a .at) (a .line) g (c .refused .result) _ (rw (c .before .before .fault .given .1) at (c .before .before .before .before .count-line .ensures)) (c .refused .ensures .0) (c .refused .ensures .1)
+    clauses-uncounted (a .named) (a .sheet .now) (a .at) (a .line) g (c .refused .result) _ (rw (c .before .before .fault .given .1) at (c .before .before .before .before .count-line .ensures)) (c .refused .ensures .0) (c .refused .ensures .1)
 
 returns-2 : tie.Need-returns-2
 returns-2 c =
     let z = c .before .before .before .before .before .before .before in
     let a = z .args in
     let g = signatureIn (a .sheet .now) (a .signature) in
-    clauses-counted (a .sheet .now) (a .at) (a .line) g (c .lines-from .result) _ _ (rw (c .before .before .n .given .1) at (c .before .before .before .before .count-line .ensures)) (c .lines-from .ensures)
+    clauses-counted (a .named) (a .sheet .now) (a .at) (a .line) g (c .lines-from .result) _ _ (rw (c .before .before .n .given .1) at (c .before .before .before .before .count-line .ensures)) (c .lines-from .ensures)
 
 pub clauses-from-spec : {M : Type 1} → statement M
 clauses-from-spec =

@@ -38,7 +38,7 @@ returns c =
     let m = c .before .before .before .read-section in
     let none : signatureIn (a .sheet .now) (c .before .before .before .before .empty .result) ≡ [] = signatureIn-none (a .sheet .now) (c .before .before .before .before .empty .result) (c .before .before .before .before .empty .ensures) in
     let s : SectionRead (a .sheet .now) _ _ (sectionFrom (bytes "funs=") (bytes "fun=") function [] 2 (drop (a .at) (a .sheet .now))) (m .result) = rw none at (m .ensures) in
-    section-refused (a .sheet .now) _ _ _ _ (m .result) (c .refused .result) s (c .before .if1 .taken) (c .refused .ensures .0) (c .refused .ensures .1)
+    section-refused (a .named) (a .sheet .now) _ _ _ _ (m .result) (c .refused .result) s (c .before .if1 .taken) (c .refused .ensures .0) (c .refused .ensures .1)
 
 predicates-from-requires : tie.Need-predicates-from-requires
 predicates-from-requires c κs =
@@ -49,7 +49,7 @@ predicates-from-requires c κs =
     let s : SectionRead (a .sheet .now) _ _ (sectionFrom (bytes "funs=") (bytes "fun=") function [] 2 (drop (a .at) (a .sheet .now))) (m .result) = rw none at (m .ensures) in
     let g = signatureIn (a .sheet .now) (m .result .signature) in
     let n : length (functions g) ≡ length g = functions-added (bytes "funs=") (bytes "fun=") 2 (drop (a .at) (a .sheet .now)) _ (section-answer (a .sheet .now) _ _ _ (m .result) s (c .before .if1 .left)) in (
-      record { within = s .next; readable = s .readable; line = s .line; counted = sym (n ∙ count-signatureIn (m .result .signature) (s .readable .limited) (a .sheet .now)) },
+      record { within = s .next; readable = s .readable; few = omega (arith, s .count, c .before .before .before .before .empty .ensures); line = s .line; counted = sym (n ∙ count-signatureIn (m .result .signature) (s .readable .limited) (a .sheet .now)) },
       omega (arith, s .count, c .before .before .before .before .empty .ensures),
     )
 
@@ -61,7 +61,7 @@ returns-2 c =
     let m = c .before .before .before .before .read-section in
     let none : signatureIn (a .sheet .now) (c .before .before .before .before .before .empty .result) ≡ [] = signatureIn-none (a .sheet .now) (c .before .before .before .before .before .empty .result) (c .before .before .before .before .before .empty .ensures) in
     let s : SectionRead (a .sheet .now) _ _ (sectionFrom (bytes "funs=") (bytes "fun=") function [] 2 (drop (a .at) (a .sheet .now))) (m .result) = rw none at (m .ensures) in
-    section-read (a .sheet .now) _ _ _ _ (m .result) (c .predicates-from .result) s (c .before .before .if1 .left) (c .predicates-from .ensures)
+    section-read (a .named) (a .sheet .now) _ _ _ _ (m .result) (c .predicates-from .result) s (c .before .before .if1 .left) (c .predicates-from .ensures)
 
 pub functions-from-spec : {M : Type 1} → statement M
 functions-from-spec =

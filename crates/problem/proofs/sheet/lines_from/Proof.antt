@@ -1,26 +1,29 @@
 -- `lines_from` reads one clause line after the other.
 use borrow.Author.Needs.{needs}
 use Prim.Native.Nat.{_-_}
+use mathlib.Core.Path.{sym, subst}
 use native.Mathlib.Omega.{arith}
+use lib.ListN.{drop}
 use Rattle.syntax.specs.Signatures.{signatureIn}
+use Rattle.problem.specs.Stages.{ProblemRead, clauseLinesFrom}
 use Rattle.problem.proofs.ClauseTaking.{Taken, begins, turn, faults, bytes-left, all-taken}
 use Rattle.problem.proofs.sheet.lines_from.Statement.{statement}
 use Rattle.problem.proofs.sheet.lines_from.Tie as tie
 
 abbrev Inv-loop : tie.InvT-loop
-Inv-loop sheet at line signature functions n starts₀ next₀ i₀ starts next i = Taken sheet at line n (signatureIn sheet signature) starts next i
+Inv-loop sheet at line signature functions n named starts₀ next₀ i₀ starts next i = Taken named sheet at line n (signatureIn sheet signature) starts next i
 
 abbrev μ-loop : tie.MeasureT-loop
-μ-loop sheet at line signature functions n starts₀ next₀ i₀ starts next i = n - i
+μ-loop sheet at line signature functions n named starts₀ next₀ i₀ starts next i = n - i
 
 loop-holds : tie.Need-loop-holds Inv-loop μ-loop
 loop-holds c =
     let z = c .before in
     let a = z .args in
-    begins (a .sheet .now) (a .at) (a .line) (a .n) (signatureIn (a .sheet .now) (a .signature)) (z .pre .0 .within)
+    begins (a .named) (a .sheet .now) (a .at) (a .line) (a .n) (signatureIn (a .sheet .now) (a .signature)) (z .pre .0 .within)
 
 clause-line-requires : tie.Need-clause-line-requires Inv-loop μ-loop
-clause-line-requires c κs = (c .before .loop .inv .inside, c .before .before .before .pre .0 .readable)
+clause-line-requires c κs = let p = c .before .before .before .pre .0 in (c .before .loop .inv .inside, (p .readable, p .few))
 
 enum-known-fault : tie.Need-enum-known-fault Inv-loop μ-loop
 enum-known-fault c = search needs
@@ -36,7 +39,7 @@ returns c =
     let z = c .before .before .before .before .before .before .before .before in
     let a = z .args in
     let l = c .before .before .before .before .before .before .loop in
-    faults (a .sheet .now) (a .at) (a .line) (a .n) (signatureIn (a .sheet .now) (a .signature)) (l .starts) (l .next) (l .i) (l .inv) (c .before .before .before .before .before .loop-test .taken) _ (c .refused .result) (rw (c .before .before .fault .given .1) at (c .before .before .before .before .clause-line .ensures)) (c .refused .ensures .0) (c .refused .ensures .1)
+    faults (a .named) (a .sheet .now) (a .at) (a .line) (a .n) (signatureIn (a .sheet .now) (a .signature)) (l .starts) (l .next) (l .i) (l .inv) (c .before .before .before .before .before .loop-test .taken) _ (c .refused .result) (rw (c .before .before .fault .given .1) at (c .before .before .before .before .clause-line .ensures)) (c .refused .ensures .0) (c .refused .ensures .1)
 
 enum-known-from : tie.Need-enum-known-from Inv-loop μ-loop
 enum-known-from c = search needs
@@ -58,7 +61,7 @@ loop-again c =
     let z = c .before .before .before .before .before .before .before in
     let a = z .args in
     let l = c .before .before .before .before .before .loop in
-    turn (a .sheet .now) (a .at) (a .line) (a .n) (signatureIn (a .sheet .now) (a .signature)) (l .starts) (l .next) (l .i) (l .inv) (c .before .before .before .before .loop-test .taken) (z .pre .1) _ _ (rw (c .before .from .given .1) at (c .before .before .before .clause-line .ensures))
+    turn (a .named) (a .sheet .now) (a .at) (a .line) (a .n) (signatureIn (a .sheet .now) (a .signature)) (l .starts) (l .next) (l .i) (l .inv) (c .before .before .before .before .loop-test .taken) (z .pre .1) _ _ (rw (c .before .from .given .1) at (c .before .before .before .clause-line .ensures))
 
 add-refused-2 : tie.Need-add-refused-2 Inv-loop μ-loop
 add-refused-2 c = omega (arith, c .before .before .before .before .pre .0 .line, c .before .before .before .before .pre .1)
@@ -71,14 +74,22 @@ returns-2 c =
     let z = c .before .before .before .before .before in
     let a = z .args in
     let l = c .before .before .before .loop in
-    bytes-left (a .sheet .now) (a .at) (a .line) (a .n) (signatureIn (a .sheet .now) (a .signature)) (l .starts) (l .next) (l .i) (l .inv) (c .before .before .loop-test .left) (c .refused2 .result) (c .before .if1 .taken) (c .refused2 .ensures .0) (c .refused2 .ensures .1)
+    bytes-left (a .named) (a .sheet .now) (a .at) (a .line) (a .n) (signatureIn (a .sheet .now) (a .signature)) (l .starts) (l .next) (l .i) (l .inv) (c .before .before .loop-test .left) (c .refused2 .result) (c .before .if1 .taken) (c .refused2 .ensures .0) (c .refused2 .ensures .1)
+
+none-requires : tie.Need-none-requires Inv-loop μ-loop
+none-requires c κs = search needs
+
+accepted-requires : tie.Need-accepted-requires Inv-loop μ-loop
+accepted-requires c κs = search needs
 
 returns-3 : tie.Need-returns-3 Inv-loop μ-loop
 returns-3 c =
-    let z = c .before .before .before .before in
+    let z = c .before .before .before .before .before .before in
     let a = z .args in
-    let l = c .before .before .loop in
-    all-taken (a .sheet .now) (a .at) (a .line) (a .n) (a .signature) (a .functions) (l .starts) (l .next) (l .i) (l .inv) (c .before .loop-test .left) (z .pre .1) (c .if1 .left) (z .pre .0 .readable) (z .pre .0 .counted)
+    let l = c .before .before .before .before .loop in
+    let n = c .before .none in
+    subst (ProblemRead (a .named) (a .sheet .now) (clauseLinesFrom (a .named) (a .n) (signatureIn (a .sheet .now) (a .signature)) (a .line) (drop (a .at) (a .sheet .now)))) (sym (c .accepted .ensures))
+    (all-taken (a .named) (a .sheet .now) (a .at) (a .line) (a .n) (a .signature) (a .functions) (l .starts) (l .next) (l .i) (l .inv) (c .before .before .before .loop-test .left) (z .pre .1) (c .before .before .if1 .left) (z .pre .0 .readable) (z .pre .0 .few) (z .pre .0 .counted) (n .result) (n .ensures .0) (n .ensures .1))
 
 pub lines-from-spec : {M : Type 1} → statement M
 lines-from-spec =
@@ -101,4 +112,6 @@ lines-from-spec =
     add-refused-2
     refused-requires-2
     returns-2
+    none-requires
+    accepted-requires
     returns-3)

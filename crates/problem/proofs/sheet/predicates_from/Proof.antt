@@ -30,7 +30,7 @@ returns c =
     let z = c .before .before .before .before .before .before .before in
     let a = z .args in
     let g = signatureIn (a .sheet .now) (a .before) in
-    section-refused (a .sheet .now) _ _ (sectionFrom (bytes "preds=") (bytes "pred=") predicate g (a .line) (drop (a .at) (a .sheet .now))) _ (c .before .before .before .read-section .result) (c .refused .result) (c .before .before .before .read-section .ensures) (c .before .if1 .taken) (c .refused .ensures .0) (c .refused .ensures .1)
+    section-refused (a .named) (a .sheet .now) _ _ (sectionFrom (bytes "preds=") (bytes "pred=") predicate g (a .line) (drop (a .at) (a .sheet .now))) _ (c .before .before .before .read-section .result) (c .refused .result) (c .before .before .before .read-section .ensures) (c .before .if1 .taken) (c .refused .ensures .0) (c .refused .ensures .1)
 
 clauses-from-requires : tie.Need-clauses-from-requires
 clauses-from-requires c κs =
@@ -39,7 +39,7 @@ clauses-from-requires c κs =
     let g = signatureIn (a .sheet .now) (a .before) in
     let s = c .before .before .before .read-section .ensures in
     let e = section-answer (a .sheet .now) _ _ (sectionFrom (bytes "preds=") (bytes "pred=") predicate g (a .line) (drop (a .at) (a .sheet .now))) (c .before .before .before .read-section .result) s (c .before .if1 .left) in
-    record { within = s .next; readable = s .readable; line = omega (arith, s .line, z .pre .0 .line); counted = z .pre .0 .counted ∙ ap length (sym (predicates-added _ _ g _ _ _ e)) }
+    record { within = s .next; readable = s .readable; few = omega (arith, s .count, z .pre .1); line = omega (arith, s .line, z .pre .0 .line); counted = z .pre .0 .counted ∙ ap length (sym (predicates-added _ _ g _ _ _ e)) }
 
 returns-2 : tie.Need-returns-2
 unfolding predicatesFrom
@@ -47,7 +47,7 @@ returns-2 c =
     let z = c .before .before .before .before .before .before .before .before in
     let a = z .args in
     let g = signatureIn (a .sheet .now) (a .before) in
-    section-read (a .sheet .now) _ _ (sectionFrom (bytes "preds=") (bytes "pred=") predicate g (a .line) (drop (a .at) (a .sheet .now))) _ (c .before .before .before .before .read-section .result) (c .clauses-from .result) (c .before .before .before .before .read-section .ensures) (c .before .before .if1 .left) (c .clauses-from .ensures)
+    section-read (a .named) (a .sheet .now) _ _ (sectionFrom (bytes "preds=") (bytes "pred=") predicate g (a .line) (drop (a .at) (a .sheet .now))) _ (c .before .before .before .before .read-section .result) (c .clauses-from .result) (c .before .before .before .before .read-section .ensures) (c .before .before .if1 .left) (c .clauses-from .ensures)
 
 pub predicates-from-spec : {M : Type 1} → statement M
 predicates-from-spec =

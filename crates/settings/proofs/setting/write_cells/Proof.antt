@@ -11,7 +11,7 @@ use Rattle.theory.specs.Refusals.{needing}
 use Rattle.answers.specs.Answers.{refusalIn}
 use Rattle.answers.proofs.Answering.{refuses, writes}
 use Rattle.syntax.specs.Signatures.{signatureIn}
-use Rattle.interpretation.proofs.Tabling.{limited-small, cellCount-small}
+use Rattle.interpretation.proofs.Tabling.{cells-limited}
 use Rattle.settings.proofs.Blocks.{length-valuation}
 use Rattle.settings.proofs.Answered.{no-room, bytes-said}
 use Rattle.settings.proofs.setting.write_cells.Statement.{statement}
@@ -52,7 +52,7 @@ returns-2 c =
     λ sheet.
     let g = signatureIn sheet (a .signature) in
     let v : n .result .count ≡ propCount (a .size .0) g = n .ensures sheet .count in
-    let held : cellCount (a .size .0) g ≤ length (a .cells .now) = omega (arith, cellCount-small g (a .size .0) (s .pre .1 .0) (limited-small sheet (a .signature) (s .pre .0)), s .pre .1 .1) in
+    let held : cellCount (a .size .0) g ≤ length (a .cells .now) = omega (arith, cells-limited sheet (a .signature) (s .pre .0) (a .size .0) (s .pre .1 .0), s .pre .1 .1) in
     writes _ (valuationOf (a .size .0) g (a .cells .now)) (n .result .count) (a .output .now) (p .last .0)
     (bytes-said (a .size .0) g (a .cells .now) (length (a .output .now)) (omega (arith, c .before .before .before .before .if1 .left, v))) (v ∙ sym (length-valuation (a .size .0) g (a .cells .now) held))
     (p .ensures sheet)

@@ -2,6 +2,7 @@
 use Prim.Native.Nat.{_-_}
 use mathlib.Core.Path.{sym}
 use Rattle.syntax.proofs.Places.{assign-placed}
+use Rattle.syntax.specs.Codes.{letterCode}
 use borrow.Author.Needs.{needs}
 use Rattle.truth.proofs.values.variable_value.Statement.{statement}
 use Rattle.truth.proofs.values.variable_value.Tie as tie
@@ -24,7 +25,7 @@ shared-slice-read-t6 c = search needs
 returns : tie.Need-returns
 returns c I xs p l e =
     let a = c .before .before .args in
-    sym (assign-placed xs _ p (a .letter - 65) l e (a .choice .now))
+    sym (assign-placed xs _ p (a .letter - letterCode) l e (a .choice .now))
 
 pub variable-value-spec : {M : Type 1} → statement M
 variable-value-spec =

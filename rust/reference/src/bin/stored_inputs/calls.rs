@@ -1,6 +1,6 @@
 //! The inputs of a call, and how they are stored.
 
-use nesskettle_reference::needed;
+use nesskettle_reference::{needed, Terms};
 
 #[derive(Clone, Default)]
 pub struct Call {
@@ -93,9 +93,14 @@ pub fn importing(clauses: impl AsRef<[u8]>, output: u64) -> Call {
     }
 }
 
-/// A search with just the work and output that it needs.
+/// A search with just the work and output that it needs, of terms as written.
 pub fn searching(sheet: impl AsRef<[u8]>, low: u64, high: u64) -> Call {
-    let (work, output) = needed(sheet.as_ref(), high).expect("the sheet is taken");
+    searching_of(sheet, low, high, Terms::AsWritten)
+}
+
+/// As [`searching`], with terms taken as said.
+pub fn searching_of(sheet: impl AsRef<[u8]>, low: u64, high: u64, terms: Terms) -> Call {
+    let (work, output) = needed(sheet.as_ref(), high, terms).expect("the sheet is taken");
     finding(sheet, low, high, work, output)
 }
 

@@ -52,7 +52,7 @@ fn judged() -> Vec<Call> {
 }
 
 /// Refusals 1 to 7.
-fn one_of_each() -> Vec<Vec<u8>> {
+pub fn one_of_each() -> Vec<Vec<u8>> {
     vec![
         full(16_385),
         damage("preds=2", "preds=02"),

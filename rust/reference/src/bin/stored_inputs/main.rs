@@ -9,11 +9,12 @@
 mod calls;
 mod damaged;
 mod examples;
+mod named;
 
 use calls::Call;
-use nesskettle_reference::vectors::{self, patterned_bytes, patterned_numbers};
+use nesskettle_reference::vectors::{self, patterned_bytes, patterned_numbers, Vector};
 use nesskettle_reference::{explain, find, find_plain, from_solver, from_tptp, judge, read, read_back, setting, write};
-use nesskettle_reference::{FirstFailure, Refusal, Search, SolverAnswer, OPERATIONS};
+use nesskettle_reference::{FirstFailure, Refusal, Search, SolverAnswer, Terms, OPERATIONS};
 use std::path::Path;
 use std::{fs, io};
 
@@ -26,7 +27,7 @@ const MOST_STORED: usize = 100;
 const MOST_SHEET: usize = 700;
 
 /// The files of inputs, in the order in which the program takes them.
-const OPERATIONS_IN_ORDER: [&str; 10] = [
+const OPERATIONS_IN_ORDER: [&str; 13] = [
     "read",
     "judge",
     "write",
@@ -37,14 +38,22 @@ const OPERATIONS_IN_ORDER: [&str; 10] = [
     "setting",
     "from_solver",
     "find_plain",
+    "write_named",
+    "read_back_named",
+    "find_named",
 ];
+
+/// What the name of an operation with named terms ends in.
+const NAMED: &str = "_named";
 
 fn main() -> io::Result<()> {
     let folder = Path::new(env!("CARGO_MANIFEST_DIR")).join("../../crates/vectors");
     let mut printed = Vec::new();
     for operation in OPERATIONS_IN_ORDER {
-        let mut inputs = examples::of(operation);
-        inputs.extend(damaged::of(operation));
+        let mut inputs = match operation.strip_suffix(NAMED) {
+            Some(operation) => named::of(operation),
+            None => [examples::of(operation), damaged::of(operation)].concat(),
+        };
         inputs.extend(stored(operation));
         let mut data = Vec::new();
         for (number, call) in (1..).zip(&inputs) {
@@ -64,38 +73,45 @@ fn main() -> io::Result<()> {
 /// Some of the stored vectors that the program has room for, evenly spread over them.
 fn stored(operation: &str) -> Vec<Call> {
     let vectors = vectors::stored().into_iter();
-    let calls = vectors
-        .filter(|v| v.operation.replace('-', "_") == operation)
-        .filter_map(|v| {
-            let number = |key: &str| if v.inputs.has(key) { v.inputs.number(key) } else { 0 };
-            let bytes = |key: &str| {
-                if v.inputs.has(key) {
-                    v.inputs.bytes(key).to_vec()
-                } else {
-                    Vec::new()
-                }
-            };
-            // TPTP clauses stand where a sheet does, a solver's answer beside one
-            let (clauses, answer) = if v.inputs.has("sheet") {
-                (Vec::new(), bytes("text"))
+    let calls = vectors.filter(|v| is_of(v, operation)).filter_map(|v| {
+        let number = |key: &str| if v.inputs.has(key) { v.inputs.number(key) } else { 0 };
+        let bytes = |key: &str| {
+            if v.inputs.has(key) {
+                v.inputs.bytes(key).to_vec()
             } else {
-                (bytes("text"), Vec::new())
-            };
-            let call = Call {
-                sheet: [bytes("sheet"), clauses].concat(),
-                beside: [bytes("case"), bytes("setting"), answer].concat(),
-                low: number("low") + number("size"),
-                high: number("high"),
-                work: number("work"),
-                output: number("output"),
-            };
-            let fits = call.sheet.len() <= MOST_SHEET && call.work <= MOST_WORK && call.output <= MOST_OUTPUT;
-            fits.then(|| vectors::run(&OPERATIONS, &v).expect("the answer is as stored"))?;
-            Some(call)
-        });
+                Vec::new()
+            }
+        };
+        // TPTP clauses stand where a sheet does, a solver's answer beside one
+        let (clauses, answer) = if v.inputs.has("sheet") {
+            (Vec::new(), bytes("text"))
+        } else {
+            (bytes("text"), Vec::new())
+        };
+        let call = Call {
+            sheet: [bytes("sheet"), clauses].concat(),
+            beside: [bytes("case"), bytes("setting"), answer].concat(),
+            low: number("low") + number("size"),
+            high: number("high"),
+            work: number("work"),
+            output: number("output"),
+        };
+        let fits = call.sheet.len() <= MOST_SHEET && call.work <= MOST_WORK && call.output <= MOST_OUTPUT;
+        fits.then(|| vectors::run(&OPERATIONS, &v).expect("the answer is as stored"))?;
+        Some(call)
+    });
     let calls: Vec<Call> = calls.collect();
     let step = calls.len().div_ceil(MOST_STORED);
     calls.into_iter().step_by(step).collect()
+}
+
+/// Is it a vector of this operation? Those that say how terms are taken, and take them as written, are of none here.
+fn is_of(vector: &Vector, operation: &str) -> bool {
+    let name = vector.operation.replace('-', "_");
+    match operation.strip_suffix(NAMED) {
+        Some(operation) => name == operation && vector.terms() == Terms::Named,
+        None => name == operation && !vector.inputs.has("named"),
+    }
 }
 
 /// What is printed of a call after its number.
@@ -103,6 +119,10 @@ fn answer(operation: &str, call: &Call) -> Vec<u8> {
     let mut work = patterned_numbers(call.work);
     let mut output = patterned_bytes(call.output);
     let (sheet, beside) = (&call.sheet[..], &call.beside[..]);
+    let (operation, terms) = match operation.strip_suffix(NAMED) {
+        Some(operation) => (operation, Terms::Named),
+        None => (operation, Terms::AsWritten),
+    };
     let told = match operation {
         "read" => {
             let told =
@@ -111,12 +131,12 @@ fn answer(operation: &str, call: &Call) -> Vec<u8> {
         }
         "judge" => return line(judge(sheet, beside).map_or_else(refusal, |yes| format!(" {}", yes_no(yes)))),
         "explain" => return line(explain(sheet, beside).map_or_else(refusal, explained)),
-        "write" => write(sheet, call.low, &mut output).map(written),
-        "read_back" => read_back(sheet, call.low, beside, &mut output).map(written),
+        "write" => write(sheet, call.low, terms, &mut output).map(written),
+        "read_back" => read_back(sheet, call.low, terms, beside, &mut output).map(written),
         "setting" => setting(sheet, beside, &mut output).map(written),
         "from_tptp" => from_tptp(sheet, &mut output).map(written),
         "from_solver" => from_solver(sheet, call.low, beside, &mut output).map(solved),
-        "find" => find(sheet, call.low, call.high, &mut work, &mut output).map(found),
+        "find" => find(sheet, call.low, call.high, terms, &mut work, &mut output).map(found),
         "find_plain" => find_plain(sheet, call.low, call.high, &mut output).map(found),
         other => panic!("no operation {other}"),
     };

@@ -10,30 +10,44 @@
 //!
 //! for each sheet that the smallest size found is cvc5's, and that cvc5 finds no model at all where none is settled; and
 //! for each TPTP text that what Find says of the sheet left is what cvc5 says of the text: whether there is a model, and
-//! its smallest size. Last the pipe from the written clauses through cadical to a case, with the command.
+//! its smallest size.
+//!
+//! The same of sheets with named terms, those among them that are refused as they are written too: solvers on the clauses
+//! that Write leaves, Find, Read back, leastness, cvc5 on the sheet's own clauses; and where terms as written are taken as
+//! well, both texts are satisfied by equally many settings.
+//!
+//! Last the pipes from the written clauses through cadical to a case, with the command.
 
 mod pipe;
 mod sheet;
 mod solvers;
 
+use nesskettle::Terms::{self, AsWritten, Named};
 use nesskettle::{Reason, Search, SolverAnswer};
 use nesskettle_trials::dimacs::Dimacs;
 use nesskettle_trials::draft::{Draft, BROAD, SMALL};
+use nesskettle_trials::fixed;
 use nesskettle_trials::problems;
 use nesskettle_trials::random::Random;
 use nesskettle_trials::solver::stating;
 use nesskettle_trials::tptp::clauses::{statements, KNOWN};
 use nesskettle_trials::tptp::layout;
+use nesskettle_trials::truth::is_model;
 use sheet::Sheet;
 use solvers::{Outcome, Smallest, Solver, Solvers, Told};
 use std::process::ExitCode;
 
-/// How many sheets are generated, and how many TPTP texts.
+/// How many sheets are generated, how many TPTP texts, and how many sheets with named terms.
 const GENERATED: usize = 500;
 const GENERATED_TPTP: usize = 500;
+const GENERATED_NAMED: usize = 250;
 /// The largest size of a generated sheet, and of a named problem.
 const TOP: u64 = 4;
 const NAMED_TOP: u64 = 6;
+/// That of a generated sheet with named terms.
+const NAMED_TERMS_TOP: u64 = 3;
+/// The largest number of settings that are counted.
+const COUNTED: usize = 500;
 /// Sizes with more instances are left out, and so are searches with more choices.
 const INSTANCES: u64 = 50_000;
 const CHOICES: u64 = 20_000;
@@ -46,18 +60,21 @@ fn main() -> ExitCode {
         undecided: 0,
         settled: 0,
         incomplete: 0,
+        named: 0,
+        named_alone: 0,
+        counted: 0,
         smallest: [0; 9],
     };
     for problem in problems::ALL {
-        trial.sheet(problem.sheet, NAMED_TOP);
+        trial.sheet(problem.sheet, NAMED_TOP, AsWritten);
     }
     for example in EXAMPLES {
-        trial.sheet(example.as_bytes(), TOP);
+        trial.sheet(example.as_bytes(), TOP, AsWritten);
     }
     let mut random = Random::new(8);
     for round in 0..GENERATED {
         let style = if round % 4 == 0 { BROAD } else { SMALL };
-        trial.sheet(&Draft::random(&mut random, style).sheet(), TOP);
+        trial.sheet(&Draft::random(&mut random, style).sheet(), TOP, AsWritten);
     }
     for example in TPTP_EXAMPLES {
         trial.tptp(example);
@@ -67,6 +84,17 @@ fn main() -> ExitCode {
         let draft = Draft::random(&mut random, style);
         let statements = statements(&mut random, &draft, KNOWN);
         trial.tptp(&layout::free(&mut random, &statements));
+    }
+    trial.sheet(COUNTER, TOP, Named);
+    for problem in problems::ALL {
+        trial.sheet(problem.sheet, TOP, Named);
+    }
+    for round in 0..GENERATED_NAMED {
+        let mut sheet = fixed::ordinary(&mut random).sheet();
+        while round % 4 == 0 && (!is_taken(&sheet, Named) || is_taken(&sheet, AsWritten)) {
+            sheet = fixed::ordinary(&mut random).sheet();
+        }
+        trial.sheet(&sheet, NAMED_TERMS_TOP, Named);
     }
     for (holds, what) in pipe::checks() {
         trial.note(holds, &what);
@@ -79,6 +107,10 @@ fn main() -> ExitCode {
         trial.settled
     );
     println!("minisat left variables out of {} answers", trial.incomplete);
+    println!(
+        "with named terms: {} sheets, {} of them not as written; {} pairs of texts with equally many settings",
+        trial.named, trial.named_alone, trial.counted
+    );
     println!("cvc5 left {} sheets and texts undecided in its time", trial.undecided);
     println!("{} passed, {} failed", trial.passed, trial.failed);
     ExitCode::from((trial.failed > 0) as u8)
@@ -96,6 +128,9 @@ const EXAMPLES: [&str; 8] = [
     "sheet=1\nfuns=0\npreds=2\npred=p/0\npred=q/1\nclauses=1\nclause=+ p\n",
 ];
 
+/// Terms that are refused as written.
+const COUNTER: &[u8] = include_bytes!("../../../../../examples/counter.sheet");
+
 /// The clinic's rules.
 const TPTP_EXAMPLES: [&[u8]; 2] = [
     include_bytes!("../../../../../examples/both-eyes.p"),
@@ -110,27 +145,35 @@ struct Trial {
     settled: usize,
     /// How many answers left variables out.
     incomplete: usize,
+    /// How many sheets are taken with named terms, how many of them not as written, and how many pairs of texts are counted.
+    named: usize,
+    named_alone: usize,
+    counted: usize,
     /// How many sheets and texts have their smallest model at each size; at 0 those that have none.
     smallest: [usize; 9],
 }
 
 impl Trial {
     /// All checks of one sheet at the sizes up to `top`. A sheet that is refused is left out.
-    fn sheet(&mut self, bytes: &[u8], top: u64) {
-        if nesskettle::read(bytes).is_err() {
+    fn sheet(&mut self, bytes: &[u8], top: u64, terms: Terms) {
+        if !is_taken(bytes, terms) {
             return;
+        }
+        if terms == Named {
+            self.named += 1;
+            self.named_alone += usize::from(!is_taken(bytes, AsWritten));
         }
         let sheet = Sheet::new(bytes);
         let mut smallest = None;
         let mut searched = 0;
-        for size in (1..=top).take_while(|&size| manageable(bytes, size)) {
+        for size in (1..=top).take_while(|&size| manageable(bytes, size, terms)) {
             searched = size;
-            let found = self.size(&sheet, size);
+            let found = self.size(&sheet, size, terms);
             if found && smallest.is_none() {
                 smallest = Some(size);
             }
         }
-        self.smallest_size(&sheet, &sheet.tptp(), searched, smallest);
+        self.smallest_size(&sheet, &sheet.tptp(), searched, smallest, terms);
     }
 
     /// The checks of one TPTP text, which cvc5 reads by itself. A text that is refused is left out.
@@ -140,27 +183,32 @@ impl Trial {
             return;
         }
         let sheet = Sheet::new(&text(|output| nesskettle::from_tptp(tptp, output)));
-        let sizes = (1..=TOP).take_while(|&size| manageable(&sheet.bytes, size));
+        let sizes = (1..=TOP).take_while(|&size| manageable(&sheet.bytes, size, AsWritten));
         let searched = sizes.last().unwrap_or(0);
-        let smallest = (1..=searched).find(|&size| find(&sheet.bytes, size, size).is_ok());
-        self.smallest_size(&sheet, tptp, searched, smallest);
+        let smallest = (1..=searched).find(|&size| find(&sheet.bytes, size, size, AsWritten).is_ok());
+        self.smallest_size(&sheet, tptp, searched, smallest, AsWritten);
     }
 
     /// The checks at one size; whether a model was found.
-    fn size(&mut self, sheet: &Sheet, size: u64) -> bool {
-        let dimacs = Dimacs::new(text(|output| nesskettle::write(&sheet.bytes, size, output)));
-        let found = find(&sheet.bytes, size, size);
+    fn size(&mut self, sheet: &Sheet, size: u64, terms: Terms) -> bool {
+        let dimacs = Dimacs::new(text(|output| nesskettle::write(&sheet.bytes, size, terms, output)));
+        let found = find(&sheet.bytes, size, size, terms);
         for solver in Solver::ALL {
             let told = self.solvers.run(solver, &dimacs);
             let satisfiable = matches!(told.outcome, Outcome::Satisfiable(_));
             let decided = !matches!(told.outcome, Outcome::Undecided);
             self.check(decided && satisfiable == found.is_ok(), sheet, size, solver.name());
-            let is_read = self.reads_answer(sheet, size, &dimacs, &told);
-            self.check(is_read, sheet, size, &format!("{}'s own answer", solver.name()));
+            if terms == AsWritten {
+                let is_read = self.reads_answer(sheet, size, &dimacs, &told);
+                self.check(is_read, sheet, size, &format!("{}'s own answer", solver.name()));
+            }
             if let Outcome::Satisfiable(numbers) = told.outcome {
-                let is_model = self.reads_back_as_model(sheet, size, &dimacs.setting(&numbers));
+                let is_model = reads_back_as_model(sheet, size, &dimacs.setting(&numbers), terms);
                 self.check(is_model, sheet, size, &format!("{}'s assignment", solver.name()));
             }
+        }
+        if terms == Named {
+            self.equally_many(sheet, size, &dimacs);
         }
         if let Ok(case) = &found {
             let is_least = self.is_least(sheet, size as usize, &dimacs, case);
@@ -169,10 +217,18 @@ impl Trial {
         found.is_ok()
     }
 
-    fn reads_back_as_model(&self, sheet: &Sheet, size: u64, setting: &[u8]) -> bool {
-        let case = text(|output| nesskettle::read_back(&sheet.bytes, size, setting, output));
-        let again = text(|output| nesskettle::setting(&sheet.bytes, &case, output));
-        nesskettle::judge(&sheet.bytes, &case) == Ok(true) && again == setting
+    /// As many settings satisfy the clauses with named terms as satisfy those of terms as written, where these are taken.
+    fn equally_many(&mut self, sheet: &Sheet, size: u64, named: &Dimacs) {
+        if !manageable(&sheet.bytes, size, AsWritten) {
+            return;
+        }
+        let written = Dimacs::new(text(|output| nesskettle::write(&sheet.bytes, size, AsWritten, output)));
+        let Some(count) = self.solvers.count(&written, COUNTED) else {
+            return;
+        };
+        self.counted += 1;
+        let same = self.solvers.count(named, COUNTED) == Some(count);
+        self.check(same, sheet, size, &format!("{count} settings of terms as written"));
     }
 
     /// The solver's own answer is the case of its assignment, or a claim that there is none.
@@ -187,7 +243,7 @@ impl Trial {
             Outcome::Satisfiable(numbers) => numbers,
         };
         let setting = dimacs.setting(numbers);
-        let case = text(|output| nesskettle::read_back(&sheet.bytes, size, &setting, output));
+        let case = text(|output| nesskettle::read_back(&sheet.bytes, size, AsWritten, &setting, output));
         let is_case = |answer: &[u8]| {
             let mut output = vec![0; case.len()];
             let length = case.len();
@@ -224,12 +280,12 @@ impl Trial {
     }
 
     /// cvc5's smallest model of the TPTP text against the sizes of the sheet that were searched, from 1 on.
-    fn smallest_size(&mut self, sheet: &Sheet, tptp: &[u8], searched: u64, smallest: Option<u64>) {
+    fn smallest_size(&mut self, sheet: &Sheet, tptp: &[u8], searched: u64, smallest: Option<u64>, terms: Terms) {
         self.smallest[smallest.unwrap_or(0) as usize] += 1;
         if searched == 0 {
             return;
         }
-        let whole = find(&sheet.bytes, 1, searched);
+        let whole = find(&sheet.bytes, 1, searched, terms);
         self.check(
             whole.as_ref().ok().map(|case| sheet::size(case)) == smallest,
             sheet,
@@ -268,13 +324,32 @@ impl Trial {
     }
 }
 
+/// The setting is read back as a model of the sheet as it was handed in; of terms as written Judge says so, and the setting
+/// is that of the case.
+fn reads_back_as_model(sheet: &Sheet, size: u64, setting: &[u8], terms: Terms) -> bool {
+    let case = text(|output| nesskettle::read_back(&sheet.bytes, size, terms, setting, output));
+    match terms {
+        Named => is_model(&Draft::of_sheet(&sheet.bytes), &case),
+        AsWritten => {
+            let again = text(|output| nesskettle::setting(&sheet.bytes, &case, output));
+            nesskettle::judge(&sheet.bytes, &case) == Ok(true) && again == setting
+        }
+    }
+}
+
+/// Is it a sheet, with terms taken so?
+fn is_taken(sheet: &[u8], terms: Terms) -> bool {
+    let refusal = nesskettle::write(sheet, 1, terms, &mut []).expect_err("no text is empty");
+    refusal.reason == Reason::OutputTooShort
+}
+
 /// Is the sheet small enough at this size? The reference says, so that no check waits for a long search.
-fn manageable(sheet: &[u8], size: u64) -> bool {
-    let few = nesskettle_reference::instances_and_variables(sheet, size).is_ok_and(|(i, _)| i <= INSTANCES);
+fn manageable(sheet: &[u8], size: u64, terms: Terms) -> bool {
+    let few = nesskettle_reference::instances_and_variables(sheet, size, terms).is_ok_and(|(i, _)| i <= INSTANCES);
     let quick = || {
-        let (work, output) = nesskettle_reference::needed(sheet, size).expect("the sheet is accepted");
+        let (work, output) = nesskettle_reference::needed(sheet, size, terms).expect("the sheet is accepted");
         let (mut work, mut output) = (vec![0; work as usize], vec![0; output as usize]);
-        let search = nesskettle_reference::find_within(sheet, size, size, &mut work, &mut output, CHOICES);
+        let search = nesskettle_reference::find_within(sheet, size, size, terms, &mut work, &mut output, CHOICES);
         search.expect("the room is enough").is_some()
     };
     few && quick()
@@ -300,10 +375,10 @@ fn text(mut call: impl FnMut(&mut [u8]) -> Result<usize, nesskettle::Refusal>) -
 struct Settled(bool);
 
 /// The found case, if there is one.
-fn find(sheet: &[u8], low: u64, high: u64) -> Result<Vec<u8>, Settled> {
+fn find(sheet: &[u8], low: u64, high: u64, terms: Terms) -> Result<Vec<u8>, Settled> {
     let (mut work, mut output) = (Vec::new(), Vec::new());
     loop {
-        match nesskettle::find(sheet, low, high, &mut work, &mut output) {
+        match nesskettle::find(sheet, low, high, terms, &mut work, &mut output) {
             Ok(Search::Found { length, .. }) => return Ok(output[..length].to_vec()),
             Ok(Search::None { settled }) => return Err(Settled(settled)),
             Err(refusal) if refusal.reason == Reason::WorkTooShort => work = vec![0; refusal.needed as usize],

@@ -78,6 +78,18 @@ impl Solvers {
         Told { outcome, answer }
     }
 
+    /// How many settings satisfy the clauses, told by picosat; nothing where there are more than `most`.
+    pub fn count(&self, dimacs: &Dimacs, most: usize) -> Option<usize> {
+        let file = self.folder.join("clauses.cnf");
+        std::fs::write(&file, &dimacs.text).expect("the clauses can be written");
+        // picosat stops by itself where it has no more
+        let pipe = format!("picosat --all \"$0\" | grep '^s' | head -n {}", most + 1);
+        let output = output(Command::new("sh").args(["-c", &pipe]).arg(&file));
+        let told = String::from_utf8_lossy(&output.stdout).into_owned();
+        let count = told.lines().filter(|line| *line == "s SATISFIABLE").count();
+        (count <= most).then_some(count)
+    }
+
     /// minisat writes its answer into a file, in a layout of its own.
     fn minisat(&self, file: &Path) -> (Output, Vec<u8>) {
         let result = self.folder.join("result");

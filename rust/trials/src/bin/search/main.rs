@@ -7,6 +7,7 @@
 
 mod plain;
 
+use nesskettle::Terms::AsWritten;
 use nesskettle_reference as reference;
 use nesskettle_trials::problems::sheet;
 use plain::Plain;
@@ -45,13 +46,13 @@ fn row(name: &str, size: u64, runs: usize, file: &Path) {
     let sheet = sheet(name);
     let text = clauses(sheet, size);
     std::fs::write(file, &text).expect("the clauses can be written");
-    let (work, output) = reference::needed(sheet, size).expect("it is a sheet");
+    let (work, output) = reference::needed(sheet, size, AsWritten).expect("it is a sheet");
     let (mut work, mut output) = (vec![0; work as usize], vec![0; output as usize]);
     let first = first_values(sheet, size, &text);
     let (mut library, mut plain, mut propagations) = (f64::MAX, f64::MAX, 0);
     for _ in 0..runs {
         let start = Instant::now();
-        let answer = nesskettle::find(sheet, size, size, &mut work, &mut output).expect("it is searched");
+        let answer = nesskettle::find(sheet, size, size, AsWritten, &mut work, &mut output).expect("it is searched");
         library = library.min(start.elapsed().as_secs_f64());
         let start = Instant::now();
         let mut search = Plain::new(&text, first.clone());
@@ -80,9 +81,11 @@ fn speed(propagations: u64, seconds: f64) -> String {
 }
 
 fn clauses(sheet: &[u8], size: u64) -> Vec<u8> {
-    let length = nesskettle::write(sheet, size, &mut []).expect_err("no room").needed as usize;
+    let length = nesskettle::write(sheet, size, AsWritten, &mut [])
+        .expect_err("no room")
+        .needed as usize;
     let mut text = vec![0; length];
-    nesskettle::write(sheet, size, &mut text).expect("there is room");
+    nesskettle::write(sheet, size, AsWritten, &mut text).expect("there is room");
     text
 }
 

@@ -11,7 +11,7 @@ use Rattle.syntax.proofs.signature.Signature.arities.Statement.{stateme
 use Rattle.syntax.proofs.signature.Signature.arities.Tie as tie
 
 abbrev Inv-loop : tie.InvT-loop
-Inv-loop self arities₀ i₀ arities i = (i ≤ self .count) × (length arities ≡ 24) × (take i arities ≡ aritiesOf (take i (self .symbols)))
+Inv-loop self arities₀ i₀ arities i = (i ≤ self .count) × (length arities ≡ 56) × (take i arities ≡ aritiesOf (take i (self .symbols)))
 
 abbrev μ-loop : tie.MeasureT-loop
 μ-loop self arities₀ i₀ arities i = self .count - i
@@ -38,7 +38,7 @@ loop-again : tie.Need-loop-again Inv-loop μ-loop
 loop-again c =
     let a = c .before .before .args in
     let l = c .before .loop in
-    let n : length (a .t1 .symbols) ≡ 24 = simp length-map at (c .before .before .good .0 .1 .1 .0 .1 .0 .1) in
+    let n : length (a .t1 .symbols) ≡ 56 = simp length-map at (c .before .before .good .0 .1 .1 .0 .1 .0 .1) in
     (omega arith, simp length-set (l .inv .1), rw add-one (aritiesOf-more (a .t1 .symbols) (l .arities) (l .i) (omega arith) (omega arith) (l .inv .2)))
 
 returns : tie.Need-returns Inv-loop μ-loop

@@ -20,7 +20,7 @@ add-self c = search needs
 returns : tie.Need-returns
 returns c =
     let a = c .args in
-    let n : length (a .t1 .symbols) ≡ 24 = simp length-map at (c .good .0 .1 .1 .0 .1 .0 .1) in
+    let n : length (a .t1 .symbols) ≡ 56 = simp length-map at (c .good .0 .1 .1 .0 .1 .0 .1) in
     (refl, rw add-one (take-suc-set (a .t1 .symbols) (a .t1 .count) (a .symbol) (omega arith)))
 
 pub with-spec : {M : Type 1} → statement M

@@ -1,0 +1,15 @@
+pub mod Examples
+pub mod Renamed
+pub mod NamedTerms
+pub mod Limits
+pub mod SheetHead
+pub mod Reading
+pub mod NamedFaults
+pub mod Helpers
+pub mod ShortClauses
+pub mod Places
+pub mod Naming
+pub mod Settled
+pub mod Finding
+pub mod ReadingBack
+pub mod FindsLeast

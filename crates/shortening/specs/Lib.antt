@@ -1,0 +1,9 @@
+pub mod Opening
+pub mod Spans
+pub mod FixedEnds
+pub mod Left
+pub mod Tables
+pub mod ShortLines
+pub mod HelperWords
+pub mod Measured
+pub mod Asked

@@ -1,0 +1,127 @@
+//! The calls that take terms as written or named, each on the library and on the reference: the same answer, and every lent
+//! byte and number the same.
+
+use crate::buffers::Lent;
+use crate::expected;
+use crate::tally::Tally;
+use nesskettle::raw;
+use nesskettle_reference::{self as reference, Terms};
+
+/// The C interface's number for terms as they are written; every other number names them.
+pub const AS_WRITTEN: u32 = 0;
+
+/// What the number says.
+pub fn terms(named: u32) -> Terms {
+    match named {
+        AS_WRITTEN => Terms::AsWritten,
+        _ => Terms::Named,
+    }
+}
+
+pub fn check_write(tally: &mut Tally, sheet: &[u8], size: u64, named: u32, output_length: usize) {
+    let mut should = vec![0; output_length];
+    let (expected, front) = expected::text(reference::write(sheet, size, terms(named), &mut should), &should);
+    let lent = sheet.to_vec();
+    let mut output = Lent::bytes(output_length);
+    let out = output.lend();
+    // SAFETY: pointers and lengths are slices', and what is lent for writing is lent to this call alone; so below.
+    let answer = unsafe { raw::nk_write(lent.as_ptr(), lent.len(), size, named, out.as_mut_ptr(), out.len()) };
+    let call = || {
+        format!(
+            "write, size {size}, named {named}, output {output_length}\n{}",
+            text(sheet)
+        )
+    };
+    assert_eq!(answer, expected, "{}", call());
+    assert!(lent == sheet && output.holds(front), "lent bytes: {}", call());
+    tally.add("written", answer.reason);
+}
+
+pub fn check_read_back(tally: &mut Tally, sheet: &[u8], size: u64, named: u32, setting: &[u8], output_length: usize) {
+    let mut should = vec![0; output_length];
+    let read_back = reference::read_back(sheet, size, terms(named), setting, &mut should);
+    let (expected, front) = expected::text(read_back, &should);
+    let (lent, lent_setting) = (sheet.to_vec(), setting.to_vec());
+    let mut output = Lent::bytes(output_length);
+    let out = output.lend();
+    let answer = unsafe {
+        raw::nk_read_back(
+            lent.as_ptr(),
+            lent.len(),
+            size,
+            named,
+            lent_setting.as_ptr(),
+            lent_setting.len(),
+            out.as_mut_ptr(),
+            out.len(),
+        )
+    };
+    let call = || {
+        format!(
+            "read back, size {size}, named {named}, setting {setting:?}, output {output_length}\n{}",
+            text(sheet)
+        )
+    };
+    assert_eq!(answer, expected, "{}", call());
+    assert!(
+        lent == sheet && lent_setting == setting && output.holds(front),
+        "lent bytes: {}",
+        call()
+    );
+    tally.add("written", answer.reason);
+}
+
+/// A search that needs more choices than this is left out.
+pub fn check_find_within(
+    tally: &mut Tally,
+    sheet: &[u8],
+    (low, high): (u64, u64),
+    named: u32,
+    work_length: usize,
+    output_length: usize,
+    choices: u64,
+) {
+    let mut should = vec![0; output_length];
+    let mut scratch = vec![0; work_length];
+    let within = reference::find_within(sheet, low, high, terms(named), &mut scratch, &mut should, choices);
+    let Some(search) = within.transpose() else {
+        return tally.add("left out", 0);
+    };
+    let zeros = if search.is_ok() { work_length } else { 0 };
+    let (expected, front) = expected::search(search);
+    let lent = sheet.to_vec();
+    let mut work = Lent::numbers(work_length);
+    let mut output = Lent::bytes(output_length);
+    let (numbers, out) = (work.lend(), output.lend());
+    let answer = unsafe {
+        raw::nk_find(
+            lent.as_ptr(),
+            lent.len(),
+            low,
+            high,
+            named,
+            numbers.as_mut_ptr(),
+            numbers.len(),
+            out.as_mut_ptr(),
+            out.len(),
+        )
+    };
+    let call = || {
+        format!(
+            "find, {low} to {high}, named {named}, work {work_length}, output {output_length}\n{}",
+            text(sheet)
+        )
+    };
+    assert_eq!(answer, expected, "{}", call());
+    assert!(
+        lent == sheet && output.holds(&should[..front]),
+        "lent bytes: {}",
+        call()
+    );
+    assert!(work.holds(&vec![0; zeros]), "lent numbers: {}", call());
+    tally.add(expected::outcome(&answer), answer.reason);
+}
+
+pub fn text(bytes: &[u8]) -> String {
+    String::from_utf8_lossy(bytes).into_owned()
+}
