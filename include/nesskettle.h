@@ -35,7 +35,7 @@ enum {
     NK_NO = 2,           /* nk_judge, nk_explain: it is none */
     NK_WRITTEN = 1,      /* nk_write, nk_read_back, nk_setting, nk_from_tptp, nk_from_solver: it stands in the output */
     NK_CLAIMED_NONE = 2, /* nk_from_solver: the solver says that there is no model; whether that is so is not checked */
-    NK_FOUND = 1,        /* nk_find, nk_find_plain: the least model stands in the output */
+    NK_FOUND = 1,        /* nk_find, nk_find_plain: a model, told there which, stands in the output */
     NK_NONE = 2          /* nk_find, nk_find_plain: no case of a searched size is a model */
 };
 
@@ -108,7 +108,24 @@ enum {
  * length are the same with and without them.
  *
  * Some sheets are taken with named terms alone, and some as written alone. Where neither call is refused, nk_find answers
- * the same and leaves the same in the output. What is said of settings and models at nk_read_back holds in both.
+ * the same and leaves the same in the output, `symmetry` being the same. What is said of settings and models at
+ * nk_read_back holds in both.
+ */
+
+/*
+ * Constant clauses. A case whose elements are numbered otherwise is a model exactly if the case is, and a search that ends in
+ * none repeats its work for every renumbering. nk_write and nk_find take a number `symmetry`: 0 adds nothing, every other
+ * number adds clauses that few of the renumberings of a case obey.
+ *
+ * Of the declared constants in order, the i-th has a value from 1 to i, and a value d above 1 only if an earlier one has d - 1.
+ * (So the first is 1, and each other has a value of an earlier one or the value after the highest of these.) The clauses come
+ * after those of the function cells, constant by constant: that it has one of these values, then for each d from 2 up that it
+ * is not d or an earlier constant is d - 1. Helpers are not declared. The clauses count in the number of instances and of
+ * work, so that some calls are refused (9, 10) with them alone.
+ *
+ * Every model has a renumbering that obeys them. So where neither call is refused, nk_find answers none with them exactly where
+ * it does without, and finds a model of the same size; it is the same case where all constants are declared before other
+ * functions.
  */
 
 /* The answer of nk_read. */
@@ -189,11 +206,12 @@ nk_explain_answer nk_explain(const uint8_t *sheet, size_t sheet_length,
                              const uint8_t *case_, size_t case_length);
 
 /*
- * Writes the sheet's clauses at this size as DIMACS text; where terms are named, the helpers' own in front.
+ * Writes the sheet's clauses at this size as DIMACS text; where terms are named, the helpers' own in front. Unless `symmetry`
+ * is 0, the constant clauses are among them.
  * Afterwards the output's first `length` bytes are the text; the bytes after it are as they were.
  * Refused: 1 to 7, then 21 (only where terms are named), 8, 9, 11; every byte of the output is then as it was.
  */
-nk_write_answer nk_write(const uint8_t *sheet, size_t sheet_length, uint64_t size, uint32_t named,
+nk_write_answer nk_write(const uint8_t *sheet, size_t sheet_length, uint64_t size, uint32_t named, uint32_t symmetry,
                          uint8_t *output, size_t output_length);
 
 /*
@@ -201,7 +219,8 @@ nk_write_answer nk_write(const uint8_t *sheet, size_t sheet_length, uint64_t siz
  * predicate cell's value is its byte. The setting has one byte, the number 0 or 1 (not the digit), for each
  * propositional variable of the text that nk_write writes with the same `named`. A helper's cell must have one result too,
  * but that need not be its term's value, and it is not shown.
- * Settings that satisfy the clauses that nk_write writes are read back as models of the sheet, each model from exactly one.
+ * Settings that satisfy the clauses that nk_write writes with `symmetry` 0 are read back as models of the sheet, each model
+ * from exactly one.
  * Afterwards the output's first `length` bytes are the case; the bytes after it are as they were.
  * Refused: 1 to 7, then 21 (only where terms are named), 8, 13, 14, 11; every byte of the output is then as it was.
  */
@@ -213,7 +232,7 @@ nk_write_answer nk_read_back(const uint8_t *sheet, size_t sheet_length, uint64_t
  * The other way of nk_read_back: writes the setting of a case, at the case's own size. Of the variables of a function cell
  * the one of its value is 1, the others are 0; a predicate cell's variable is its value. nk_read_back of the setting, at
  * that size and of terms as written, writes the same case. The case need not be a model: the setting satisfies the clauses
- * that nk_write writes at that size, of terms as written, exactly if it is one.
+ * that nk_write writes at that size, of terms as written and with `symmetry` 0, exactly if it is one.
  * Afterwards the output's first `length` bytes are the setting, each the number 0 or 1; the bytes after it are as they
  * were.
  * Refused: as nk_judge, 1 to 7, then 12; then 11; every byte of the output is then as it was.
@@ -225,6 +244,8 @@ nk_write_answer nk_setting(const uint8_t *sheet, size_t sheet_length,
 /*
  * Searches the sizes low, low + 1, .., high for a model, and answers the least one at the smallest size that has one,
  * or that no case of these sizes is a model; where that is settled, the sheet has no model of any other size either.
+ * Unless `symmetry` is 0, it is the least of those that obey the constant clauses; the size and the answer that there is none
+ * are the same.
  * The caller lends the work area; what stands in it before does not matter.
  * Afterwards every number of the work area is 0, on both results. Found: the output's first `length` bytes are the
  * case, and the bytes after it are as they were. None: every byte of the output is as it was.
@@ -232,13 +253,15 @@ nk_write_answer nk_setting(const uint8_t *sheet, size_t sheet_length,
  * every byte of the output and every number of the work area is then as it was.
  */
 nk_find_answer nk_find(const uint8_t *sheet, size_t sheet_length, uint64_t low, uint64_t high, uint32_t named,
+                       uint32_t symmetry,
                        uint32_t *work, size_t work_length,
                        uint8_t *output, size_t output_length);
 
 /*
- * The search of nk_find a second time, of terms as written, as on a whiteboard: it fills the cells of a case in order, the least value first,
- * copies the tables before each guess, and judges each full case by truth alone. It makes no clauses and is lent no work
- * area. Where neither call is refused, both answer the same and leave the same in the output.
+ * The search of nk_find a second time, of terms as written, as on a whiteboard: it fills the cells of a case in order, the
+ * least value first, copies the tables before each guess, and judges each full case by truth alone. It makes no clauses and
+ * is lent no work area. Where neither call is refused, it answers the same as nk_find with `symmetry` 0 and leaves the same in
+ * the output.
  * Time grows with the number of cases that are tried, at worst all of the searched sizes: at size s a function cell has s
  * values and a predicate cell 2, and the number of cases is their product.
  * Found: the output's first `length` bytes are the case, and the bytes after it are as they were. None: every byte of the
@@ -272,8 +295,8 @@ nk_write_answer nk_from_tptp(const uint8_t *text, size_t text_length,
                              uint8_t *output, size_t output_length);
 
 /*
- * Reads what a SAT solver answers to the clauses that nk_write writes of the sheet at this size, of terms as written, in the
- * layout of the solver competitions:
+ * Reads what a SAT solver answers to the clauses that nk_write writes of the sheet at this size, of terms as written, with or
+ * without the constant clauses, in the layout of the solver competitions:
  *
  *     c any bytes
  *     s SATISFIABLE

@@ -9,17 +9,20 @@
 //! | [`read_back`] | the case that a setting of the propositional variables stands for |
 //! | [`setting`] | the setting of a case, the other way of [`read_back`] |
 //! | [`find`] | the least model at the smallest size, or that there is none |
-//! | [`find_plain`] | what [`find`] answers, by filling cells one by one: without clauses, for up to 64 cells |
+//! | [`find_plain`] | the least model too, by filling cells one by one: without clauses, for up to 64 cells |
 //! | [`from_tptp`] | the sheet that a file of TPTP clauses is read into |
 //! | [`from_solver`] | the case that a SAT solver answers, if it is a model; or the solver's claim that there is none |
 //!
-//! [`write`], [`read_back`] and [`find`] take a sheet's fixed terms as they are written or named, see [`Terms`].
+//! [`write`], [`read_back`] and [`find`] take a sheet's fixed terms as they are written or named, see [`Terms`]. [`write`] and
+//! [`find`] keep or reduce the symmetry between a model and its renumberings, see [`Symmetry`]: [`find`] reduces it by default,
+//! [`write`] does not.
 //!
 //! Every call takes any bytes and numbers. A refused call has changed no lent byte and no lent number.
 
 pub mod raw;
 
-pub use nesskettle_answers::{Counts, FirstFailure, Operations, Reason, Refusal, Search, SolverAnswer, Terms};
+pub use nesskettle_answers::{Counts, FirstFailure, Operations, Reason, Refusal, Search, SolverAnswer};
+pub use nesskettle_answers::{FindOptions, Symmetry, Terms, WriteOptions};
 
 /// The calls below as one value.
 pub const OPERATIONS: Operations = Operations {
@@ -78,14 +81,18 @@ pub fn explain(sheet: &[u8], case: &[u8]) -> Result<Option<FirstFailure>, Refusa
 }
 
 /// Writes the sheet's clauses at a size as DIMACS text and answers its length. The bytes after it are unchanged.
-pub fn write(sheet: &[u8], size: u64, terms: Terms, output: &mut [u8]) -> Result<usize, Refusal> {
+///
+/// The settings that satisfy them are those of the models, one each, and with [`Symmetry::Reduced`] those of the models that
+/// obey the constant clauses.
+pub fn write(sheet: &[u8], size: u64, options: WriteOptions, output: &mut [u8]) -> Result<usize, Refusal> {
     // SAFETY: pointers and lengths are slices', and the output is lent to this call alone.
     written(unsafe {
         raw::nk_write(
             sheet.as_ptr(),
             sheet.len(),
             size,
-            named(terms),
+            named(options.terms),
+            symmetry(options.symmetry),
             output.as_mut_ptr(),
             output.len(),
         )
@@ -129,7 +136,8 @@ pub fn setting(sheet: &[u8], case: &[u8], output: &mut [u8]) -> Result<usize, Re
     })
 }
 
-/// Searches the sizes from low to high for the least model at the smallest size.
+/// Searches the sizes from low to high for the least model at the smallest size: the least of all with
+/// [`Symmetry::Kept`], else the least of those that obey the constant clauses, of which there is one wherever there is a model.
 ///
 /// None is settled where low is 1, no function has arguments and high is at least the number of constants; then the
 /// sheet has no model of any size.
@@ -140,7 +148,7 @@ pub fn find(
     sheet: &[u8],
     low: u64,
     high: u64,
-    terms: Terms,
+    options: FindOptions,
     work: &mut [u32],
     output: &mut [u8],
 ) -> Result<Search, Refusal> {
@@ -151,7 +159,8 @@ pub fn find(
             sheet.len(),
             low,
             high,
-            named(terms),
+            named(options.terms),
+            symmetry(options.symmetry),
             work.as_mut_ptr(),
             work.len(),
             output.as_mut_ptr(),
@@ -161,7 +170,8 @@ pub fn find(
 }
 
 /// The search of [`find`] a second time, as on a whiteboard: it fills the cells of a case in order, the least value first,
-/// and judges each full case by truth alone. Where neither is refused, both answer the same and leave the same output.
+/// and judges each full case by truth alone. Where neither is refused, it answers and leaves the same output as [`find`] with
+/// [`Symmetry::Kept`].
 ///
 /// It makes no clauses and is lent no work area. A sheet with over 64 cells at high is refused; in the worst case every
 /// case of the searched sizes is tried.
@@ -190,7 +200,8 @@ pub fn from_tptp(text: &[u8], output: &mut [u8]) -> Result<usize, Refusal> {
 }
 
 /// Reads what a SAT solver answers, in the layout of the solver competitions, to the clauses that [`write`] writes of the
-/// sheet at this size, of terms as they are written; writes the case and answers its length. The bytes after it are unchanged.
+/// sheet at this size, of terms as they are written, with or without constant clauses; writes the case and answers its
+/// length. The bytes after it are unchanged.
 ///
 /// A case that comes out is a model of the sheet. That there is none is the solver's claim alone; the output, which may
 /// have any length, is then unchanged.
@@ -218,6 +229,14 @@ fn named(terms: Terms) -> u32 {
     match terms {
         Terms::AsWritten => 0,
         Terms::Named => 1,
+    }
+}
+
+/// The C interface's number.
+fn symmetry(symmetry: Symmetry) -> u32 {
+    match symmetry {
+        Symmetry::Kept => 0,
+        Symmetry::Reduced => 1,
     }
 }
 

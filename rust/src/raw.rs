@@ -73,6 +73,7 @@ extern "C" {
         sheet_length: usize,
         size: u64,
         named: u32,
+        symmetry: u32,
         output: *mut u8,
         output_length: usize,
     ) -> WriteAnswer;
@@ -103,6 +104,7 @@ extern "C" {
         low: u64,
         high: u64,
         named: u32,
+        symmetry: u32,
         work: *mut u32,
         work_length: usize,
         output: *mut u8,

@@ -384,7 +384,7 @@ fn find() {
     );
 }
 
-/// The plain search prints what the other one prints, in every layout.
+/// The plain search prints what the other one prints without constant clauses, in every layout.
 #[test]
 fn find_plain() {
     for arguments in [
@@ -400,12 +400,15 @@ fn find_plain() {
         "../../../examples/both-eyes.p --high 3 --szs",
         "../../../examples/each-eye.p --high 2",
     ] {
-        let other = run(&format!("find {arguments}"), "");
+        let other = run(&format!("find --no-symmetry {arguments}"), "");
         let status = other.status.code().expect("it ends");
         assert!(status < 2, "{arguments}");
         let text = String::from_utf8(other.stdout).expect("an answer is text");
         prints(&format!("find --plain {arguments}"), "", status, &text);
     }
+    let least = "answer=found\ncase=1\nsize=2\nf=1 1\na=2\n";
+    prints("find - --plain", FUNCTION_FIRST, 0, least);
+    prints("find - --plain --no-symmetry", FUNCTION_FIRST, 0, least);
     let never = "sheet=1\nfuns=0\npreds=0\nclauses=1\nclause=\n";
     prints("find - --plain", never, 1, "answer=none\nsettled=yes\n");
     prints("find - --plain --low 2", never, 1, "answer=none\nsettled=no\n");
@@ -415,6 +418,63 @@ fn find_plain() {
         0,
         "answer=found\ncase=1\nsize=2\na=1\nb=2\n",
     );
+}
+
+/// Everything is mapped to one element, which is not the constant's: of two elements this is 1 in the least case, and 2 where
+/// the first constant must be 1.
+const FUNCTION_FIRST: &str =
+    "sheet=1\nfuns=2\nfun=f/1\nfun=a/0\npreds=0\nclauses=2\nclause=+ = f A f B\nclause=- = f a a\n";
+
+#[test]
+fn constant_clauses() {
+    let found = |case: &str| format!("answer=found\ncase=1\nsize=2\n{case}");
+    prints("find -", FUNCTION_FIRST, 0, &found("f=2 2\na=1\n"));
+    prints("find - --named", FUNCTION_FIRST, 0, &found("f=2 2\na=1\n"));
+    prints("find - --no-symmetry", FUNCTION_FIRST, 0, &found("f=1 1\na=2\n"));
+    prints(
+        "find - --named --no-symmetry --tables",
+        FUNCTION_FIRST,
+        0,
+        "found: a model of size 2\n\nf | 1 2\n--+----\n  | 1 1\n\na = 2\n",
+    );
+    prints("find - --high 1", FUNCTION_FIRST, 1, "answer=none\nsettled=no\n");
+    prints(
+        "clauses two-constants.sheet --size 2 --symmetry",
+        "",
+        0,
+        "p cnf 4 9\n1 2 0\n-1 -2 0\n3 4 0\n-3 -4 0\n1 0\n3 4 0\n-4 1 0\n-3 -1 0\n-4 -2 0\n",
+    );
+    prints(
+        "clauses - --size 1 --named --symmetry",
+        FUNCTION_FIRST,
+        0,
+        "p cnf 3 7\n1 0\n2 0\n3 0\n2 0\n-2 -1 3 0\n-1 1 0\n-2 -3 0\n",
+    );
+    // a solver's answer to the text with them
+    let answer = "s SATISFIABLE\nv 1 -2 -3 4 0\n";
+    prints(
+        "from-solver two-constants.sheet --size 2 -",
+        answer,
+        0,
+        "case=1\nsize=2\na=1\nb=2\n",
+    );
+}
+
+/// A million instances without the constant clauses, which are one too many.
+#[test]
+fn constant_clauses_that_are_too_many() {
+    let most = include_str!("../data/sheets/million-constant.sheet");
+    let over = most.replace("clauses=20", "clauses=21") + "clause=+ o\n";
+    let hint = "  --no-symmetry takes this sheet: the constant clauses are not among its instances";
+    hints("find -", &over, 9, hint);
+    hints("find - --named", &over, 9, hint);
+    for call in ["find million-constant.sheet", "find - --no-symmetry"] {
+        let found = run(call, &over);
+        assert!(found.stdout.starts_with(b"answer=found\ncase=1\nsize=1\n"), "{call}");
+    }
+    let more = over.replace("clauses=21", "clauses=22") + "clause=+ o\n";
+    hints("find -", &more, 9, "");
+    hints("find - --no-symmetry", &more, 9, "");
 }
 
 #[test]
@@ -737,6 +797,14 @@ fn wrong_calls_are_told() {
     fails("check group.sheet --tables", "", &format!("{option}{more}"));
     let option = "nesskettle: --plain is no option of this command, or stands there twice";
     fails("clauses group.sheet --size 2 --plain", "", &format!("{option}{more}"));
+    for (call, option) in [
+        ("clauses group.sheet --size 2 --no-symmetry", "--no-symmetry"),
+        ("find group.sheet --symmetry", "--symmetry"),
+        ("read-back group.sheet --size 2 setting --symmetry", "--symmetry"),
+    ] {
+        let told = format!("nesskettle: {option} is no option of this command, or stands there twice{more}");
+        fails(call, "", &told);
+    }
     let option = "nesskettle: --named is no option of this command, or stands there twice";
     fails("judge group.sheet group-6.case --named", "", &format!("{option}{more}"));
     fails(

@@ -50,7 +50,7 @@ int main(void) {
     expect(explained.outcome == NK_REFUSED && explained.reason == NK_BAD_CASE, "a case without a table is refused");
     expect(explained.line == 3 && explained.column == 1 && explained.clause == 0, "where the table is missing");
 
-    nk_write_answer written = nk_write(sheet, sheet_length, 2, 0, output, sizeof output);
+    nk_write_answer written = nk_write(sheet, sheet_length, 2, 0, 0, output, sizeof output);
     expect(written.outcome == NK_WRITTEN, "the clauses are written");
     expect(text_is(output, written.length, "p cnf 4 6\n1 2 0\n-1 -2 0\n3 4 0\n-3 -4 0\n-3 -1 0\n-4 -2 0\n"),
            "the clauses are those of the specification");
@@ -72,29 +72,29 @@ int main(void) {
     expect(written.outcome == NK_REFUSED && written.reason == NK_BAD_CASE, "a case without its last line is refused");
     expect(written.line == 4 && written.column == 1 && written.length == 0, "where the line is missing");
 
-    nk_find_answer found = nk_find(sheet, sheet_length, 1, 3, 0, work, 1000, output, sizeof output);
+    nk_find_answer found = nk_find(sheet, sheet_length, 1, 3, 0, 0, work, 1000, output, sizeof output);
     expect(found.outcome == NK_FOUND && found.size == 2 && found.settled == 0, "a model of size 2 is found");
     expect(text_is(output, found.length, least), "it is the least one");
-    found = nk_find(sheet, sheet_length, 1, 1, 0, work, 1000, output, sizeof output);
+    found = nk_find(sheet, sheet_length, 1, 1, 0, 0, work, 1000, output, sizeof output);
     expect(found.outcome == NK_NONE && found.settled == 0 && found.length == 0, "there is none of size 1");
-    found = nk_find(sheet + 1, sheet_length - 1, 1, 1, 0, work, 1000, output, sizeof output);
+    found = nk_find(sheet + 1, sheet_length - 1, 1, 1, 0, 0, work, 1000, output, sizeof output);
     expect(found.reason == NK_LAYOUT && found.line == 1 && found.column == 1, "a sheet without its first byte is refused");
 
     static const char never[] = "sheet=1\nfuns=0\npreds=0\nclauses=1\nclause=\n";
-    found = nk_find((const uint8_t *)never, strlen(never), 1, 1, 0, work, 1000, output, sizeof output);
+    found = nk_find((const uint8_t *)never, strlen(never), 1, 1, 0, 1, work, 1000, output, sizeof output);
     expect(found.outcome == NK_NONE && found.settled == 1, "a search from size 1 settles that there is none");
-    found = nk_find((const uint8_t *)never, strlen(never), 2, 3, 0, work, 1000, output, sizeof output);
+    found = nk_find((const uint8_t *)never, strlen(never), 2, 3, 0, 0, work, 1000, output, sizeof output);
     expect(found.outcome == NK_NONE && found.settled == 0, "a search from size 2 does not");
 
     static const char terms[] = "sheet=1\nfuns=2\nfun=a/0\nfun=f/1\npreds=1\npred=p/1\nclauses=2\n"
                                 "clause=+ p f a\nclause=- p a\n";
     const uint8_t *deep = (const uint8_t *)terms;
     const size_t deep_length = strlen(terms);
-    written = nk_write(deep, deep_length, 1, 1, output, sizeof output);
+    written = nk_write(deep, deep_length, 1, 1, 0, output, sizeof output);
     expect(written.outcome == NK_WRITTEN, "the clauses with f a named are written");
     expect(text_is(output, written.length, "p cnf 4 6\n1 0\n2 0\n4 0\n-1 -2 4 0\n-4 3 0\n-1 -3 0\n"),
            "the helper is numbered last and its clause comes first");
-    written = nk_write(deep, deep_length, 1, 0, output, sizeof output);
+    written = nk_write(deep, deep_length, 1, 0, 0, output, sizeof output);
     expect(text_is(output, written.length, "p cnf 3 4\n1 0\n2 0\n-1 -2 3 0\n-1 -3 0\n"), "as written there is none");
     const uint8_t with_helper[] = {0, 1, 1, 0, 1, 0, 1, 0, 0, 1};
     output[30] = 9;
@@ -105,10 +105,10 @@ int main(void) {
     expect(written.reason == NK_BAD_SETTING, "a setting has its bytes");
     written = nk_read_back(deep, deep_length, 2, 0, with_helper, 8, output, sizeof output);
     expect(written.outcome == NK_WRITTEN, "but not where terms stay as written");
-    found = nk_find(deep, deep_length, 1, 2, 256, work, 1000, output, sizeof output);
+    found = nk_find(deep, deep_length, 1, 2, 256, 0, work, 1000, output, sizeof output);
     expect(found.outcome == NK_FOUND && found.size == 2, "a model is found");
     expect(text_is(output, found.length, "case=1\nsize=2\na=1\nf=2 1\np=0 1\n"), "it is the least one");
-    found = nk_find(deep, deep_length, 1, 2, 0, work, 1000, output, sizeof output);
+    found = nk_find(deep, deep_length, 1, 2, 0, 0, work, 1000, output, sizeof output);
     expect(text_is(output, found.length, "case=1\nsize=2\na=1\nf=2 1\np=0 1\n"), "and the same as written");
     static const char pairs[] = "abcdef";
     char many[1200] = "sheet=1\nfuns=7\nfun=a/0\nfun=b/0\nfun=c/0\nfun=d/0\nfun=e/0\nfun=f/0\nfun=g/2\npreds=1\npred=p/1\n"
@@ -119,11 +119,25 @@ int main(void) {
         line[15] = pairs[i % 6];
         strcat(many, line);
     }
-    written = nk_write((const uint8_t *)many, strlen(many), 9, 1, output, sizeof output);
+    written = nk_write((const uint8_t *)many, strlen(many), 9, 1, 0, output, sizeof output);
     expect(written.outcome == NK_REFUSED && written.reason == NK_TOO_MANY_HELPERS, "33 helpers are refused before the size");
     expect(written.line == 0 && written.column == 0 && written.length == 0, "without a place");
-    written = nk_write((const uint8_t *)many, strlen(many), 9, 0, output, sizeof output);
+    written = nk_write((const uint8_t *)many, strlen(many), 9, 0, 1, output, sizeof output);
     expect(written.reason == NK_BAD_SIZE, "as written there are none");
+
+    static const char behind[] = "sheet=1\nfuns=2\nfun=f/1\nfun=a/0\npreds=0\nclauses=2\nclause=+ = f A f B\nclause=- = f a a\n";
+    const uint8_t *mapped = (const uint8_t *)behind;
+    const size_t mapped_length = strlen(behind);
+    written = nk_write(mapped, mapped_length, 1, 0, 1, output, sizeof output);
+    expect(text_is(output, written.length, "p cnf 2 5\n1 0\n2 0\n2 0\n-1 1 0\n-2 -1 0\n"),
+           "the constant clause comes after those of the cells");
+    written = nk_write(mapped, mapped_length, 1, 0, 0, output, sizeof output);
+    expect(text_is(output, written.length, "p cnf 2 4\n1 0\n2 0\n-1 1 0\n-2 -1 0\n"), "there is none where it is not asked for");
+    found = nk_find(mapped, mapped_length, 1, 2, 0, 0, work, 1000, output, sizeof output);
+    expect(text_is(output, found.length, "case=1\nsize=2\nf=1 1\na=2\n"), "the least model of all has a = 2");
+    found = nk_find(mapped, mapped_length, 1, 2, 0, 1u << 31, work, 1000, output, sizeof output);
+    expect(found.outcome == NK_FOUND && found.size == 2, "with constant clauses the size is the same");
+    expect(text_is(output, found.length, "case=1\nsize=2\nf=2 2\na=1\n"), "and a is 1");
 
     output[22] = 9;
     found = nk_find_plain(sheet, sheet_length, 1, 3, output, sizeof output);

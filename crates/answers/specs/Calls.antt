@@ -9,7 +9,8 @@ use lib.ListN.{length}
 use Rattle.theory.specs.Refusals.{Answer}
 use Rattle.theory.specs.Operations.{readAnswer, judgeAnswer, Reason, explainAnswer, lengthAnswer, outputAfter, settingText, Search, findAnswer, findWork, findOutput}
 use Rattle.theory.specs.PlainSearch.{plainResult}
-use Rattle.naming.specs.NamedOperations.{writtenTextIn, readBackTextIn, findResultIn}
+use Rattle.naming.specs.NamedOperations.{readBackTextIn}
+use Rattle.symmetry.specs.SymmetricOperations.{writtenTextWith, findResultWith}
 use Rattle.answers.specs.declared.ReadAnswer.{ReadAnswer}
 use Rattle.answers.specs.declared.JudgeAnswer.{JudgeAnswer}
 use Rattle.answers.specs.declared.ExplainAnswer.{ExplainAnswer}
@@ -39,9 +40,9 @@ pub record WritingCall (text : Answer (List ℕ)) (r : WriteAnswer) (output outp
   pub answer : lengthIn r ≡ lengthAnswer text
   pub left : output′ ≡ outputAfter text output
 
--- Write; plain, or with named terms
-abbrev pub WriteCall : List ℕ → ℕ → Bool → WriteAnswer → List ℕ → List ℕ → Type 0
-WriteCall sheet size named r output output′ = WritingCall (writtenTextIn named sheet size (length output)) r output output′
+-- Write; plain, or with named terms; with the constant clauses where `symmetry` says so
+abbrev pub WriteCall : List ℕ → ℕ → Bool → Bool → WriteAnswer → List ℕ → List ℕ → Type 0
+WriteCall sheet size named symmetry r output output′ = WritingCall (writtenTextWith named symmetry sheet size (length output)) r output output′
 
 -- Read back; plain, or with named terms
 abbrev pub ReadBackCall : List ℕ → ℕ → Bool → List ℕ → WriteAnswer → List ℕ → List ℕ → Type 0
@@ -57,9 +58,9 @@ pub record SearchingCall (result : Answer Search) (r : FindAnswer) (work work′
   pub worked : work′ ≡ findWork result work
   pub left : output′ ≡ findOutput result output
 
--- Find; plain, or with named terms
-abbrev pub FindCall : List ℕ → ℕ → ℕ → Bool → FindAnswer → List ℕ → List ℕ → List ℕ → List ℕ → Type 0
-FindCall sheet low high named r work work′ output output′ = SearchingCall (findResultIn named sheet low high (length work) (length output)) r work work′ output output′
+-- Find; plain, or with named terms; with the constant clauses where `symmetry` says so
+abbrev pub FindCall : List ℕ → ℕ → ℕ → Bool → Bool → FindAnswer → List ℕ → List ℕ → List ℕ → List ℕ → Type 0
+FindCall sheet low high named symmetry r work work′ output output′ = SearchingCall (findResultWith named symmetry sheet low high (length work) (length output)) r work work′ output output′
 
 -- a call that searches with this result and is lent no work area, or is refused
 pub record PlainSearchingCall (result : Answer Search) (r : FindAnswer) (output output′ : List ℕ) : Type 0 where

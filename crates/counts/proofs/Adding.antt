@@ -7,14 +7,16 @@ use native.Mathlib.Nat.{mul-le-mul, le-trans, pow-le-pow-left, pow-le-pow-right}
 use native.Mathlib.Omega.{arith}
 use lib.ListN.{length, getD, take, length-map}
 use lib.Seq.{take-suc, take-length}
-use Rattle.theory.specs.Lists.{sum, select, upTo}
+use Rattle.theory.specs.Lists.{sum, select, upFrom, upTo}
 use Rattle.theory.specs.Syntax.{isFunction, Signature, symbolAt, Clause}
 use Rattle.theory.specs.Syntax as theory
 use Rattle.theory.specs.Flattening.{flatten, variableCount}
 use Rattle.theory.specs.Flattening as flat
-use Rattle.theory.specs.PropClauses.{Part, functionPart, clausePart, functionPlaces, parts, instanceCount, literalCount}
+use Rattle.theory.specs.PropClauses.{Part, functionPart, clausePart, functionPlaces}
 use Rattle.theory.proofs.Lists.{sum-map-append, select-append, upFrom-append, length-upFrom}
 use Rattle.theory.proofs.Limits.{flat-literals}
+use Rattle.symmetry.specs.ConstantClauses.{constantPlaces, constantParts, partsWith, instanceCountWith, literalCountWith}
+use Rattle.symmetry.proofs.ConstantCounts.{clauses-added, literals-added}
 use Rattle.syntax.specs.declared.signature.Symbol.{Symbol}
 use Rattle.syntax.specs.declared.limits.Problem.{Problem}
 use Rattle.syntax.specs.declared.words.ClauseWords.{ClauseWords}
@@ -27,7 +29,7 @@ use Rattle.flattening.specs.declared.flat.FlatClause.{FlatClause}
 use Rattle.flattening.specs.Flat.{flatIn, WithinLimits}
 use Rattle.interpretation.proofs.Ranks.{power-within, table-within}
 use Rattle.counts.specs.declared.Counts.{Counts}
-use Rattle.counts.specs.Totals.{TotalOf}
+use Rattle.counts.specs.Totals.{TotalOf, clausesOf, literalsOf, ConstantsTotal}
 
 -- nothing yet
 pub none-total : TotalOf [] 0 (record { instances = 0; literals = 0 })
@@ -79,9 +81,9 @@ one-function s g i a b r p q e f =
 
 -- all symbols
 pub all-functions : (s : ℕ) (g : Signature) (i : ℕ) (r : Counts) → i ≡ length g → i ≤ maxInAll → TotalOf (functionsBefore s g i) (i * 2 ^ 15) r
-    → TotalOf (map (functionPart s g) (functionPlaces g)) (2 ^ 40) r
+    → TotalOf (map (functionPart s g) (functionPlaces g)) (2 ^ 30) r
 all-functions s g i r e h p =
-    total-within (map (functionPart s g) (functionPlaces g)) (i * 2 ^ 15) (2 ^ 40) r (omega arith) (subst (λ (k : ℕ). TotalOf (functionsBefore s g k) (i * 2 ^ 15) r) e p)
+    total-within (map (functionPart s g) (functionPlaces g)) (i * 2 ^ 15) (2 ^ 30) r (omega arith) (subst (λ (k : ℕ). TotalOf (functionsBefore s g k) (i * 2 ^ 15) r) e p)
 
 -- s(s-1) without a difference that may not exist
 pub square-less : (s : ℕ) → s * s - s ≡ s * (s - 1)
@@ -135,6 +137,40 @@ symbol-total s g i sheet y r e p q few few-l =
     literals-of : (b : Bool) → sum (map (λ (x : Part). x .literalCount) (map (functionPart s g) (cond (isFunction (kindOf b)) (i ∷ []) []))) ≡ cond b (s ^ (y .arity + 2)) 0
     literals-of true = omega (arith, ap (λ (a : ℕ). s ^ (a + 2)) arity)
     literals-of false = refl
+
+-- one number more
+sum-more : (f : ℕ → ℕ) (i : ℕ) → sum (map f (upFrom 1 (i + 1))) ≡ sum (map f (upFrom 1 i)) + f (i + 1)
+sum-more f i =
+    let e : 1 + i ≡ i + 1 = omega arith in
+    ap (λ (l : List ℕ). sum (map f l)) (sym (upFrom-append 1 i 1)) ∙ sum-map-append f (upFrom 1 i) (upFrom (1 + i) 1) ∙ omega (arith, ap f e)
+
+-- no constant yet, and one more
+pub no-constant : (s : ℕ) → ConstantsTotal s 0 (record { instances = 0; literals = 0 })
+no-constant s = record { instances = refl; literals = refl; few-instances = omega arith; few-literals = omega arith }
+
+pub one-constant : (s i : ℕ) (a b r : Counts) → ConstantsTotal s i a → b .instances ≡ clausesOf s (i + 1) → b .literals ≡ literalsOf s (i + 1) → b .instances ≤ 2 ^ 9 → b .literals ≤ 2 ^ 9
+    → r .instances ≡ a .instances + b .instances → r .literals ≡ a .literals + b .literals → ConstantsTotal s (i + 1) r
+one-constant s i a b r p e f few few-l m n =
+    record {
+      instances = omega (arith, m, p .instances, e, sum-more (clausesOf s) i);
+      literals = omega (arith, n, p .literals, f, sum-more (literalsOf s) i);
+      few-instances = omega (arith, m, p .few-instances, few);
+      few-literals = omega (arith, n, p .few-literals, few-l);
+    }
+
+-- all constants of a signature
+pub constants-total : (s n : ℕ) (g : Signature) (r : Counts) → n ≡ length (constantPlaces g) → n ≤ maxInAll → ConstantsTotal s n r → TotalOf (constantParts s g) (2 ^ 15) r
+constants-total s n g r e h p =
+    record {
+      instances = p .instances ∙ ap (λ (k : ℕ). sum (map (clausesOf s) (upFrom 1 k))) e ∙ sym (clauses-added s g);
+      literals = p .literals ∙ ap (λ (k : ℕ). sum (map (literalsOf s) (upFrom 1 k))) e ∙ sym (literals-added s g);
+      few-instances = omega (arith, p .few-instances);
+      few-literals = omega (arith, p .few-literals);
+    }
+
+-- a constant's literals are few
+pub constant-few : (m i : ℕ) → m ≤ 8 → i ≤ maxInAll → (m - 1) * i ≤ 392
+constant-few m i h l = mul-le-mul {n₁ = m - 1} {m₁ = i} {n₂ = 7} {m₂ = 56} (omega arith) l
 
 -- A clause's counts, by its flattened clause.
 module _ (g : Signature) (c : Clause) (r : FlatClause) (e : flatIn g r ≡ placed (flatten c)) where
@@ -211,9 +247,9 @@ module _ (sheet : List ℕ) (p : Problem) (h : Accepted sheet p) where
         variables = o .accepted .variables;
       }
 
-  -- functions and clauses together
+  -- functions, constants and clauses together
   pub problem-total : (s : ℕ) (r : Counts) (m : ℕ)
-      → TotalOf (map (functionPart s (signatureIn sheet (p .signature))) (functionPlaces (signatureIn sheet (p .signature))) ++ map (clausePart s (signatureIn sheet (p .signature))) (problemIn sheet p .clauses)) m r
-      → (r .instances ≡ instanceCount s (problemIn sheet p .symbols) (problemIn sheet p .clauses)) × (r .literals ≡ literalCount s (problemIn sheet p .symbols) (problemIn sheet p .clauses))
-  unfolding problemIn instanceCount literalCount parts
+      → TotalOf (map (functionPart s (signatureIn sheet (p .signature))) (functionPlaces (signatureIn sheet (p .signature))) ++ (cond (p .symmetry) (constantParts s (signatureIn sheet (p .signature))) [] ++ map (clausePart s (signatureIn sheet (p .signature))) (problemIn sheet p .clauses))) m r
+      → (r .instances ≡ instanceCountWith (p .symmetry) s (problemIn sheet p .symbols) (problemIn sheet p .clauses)) × (r .literals ≡ literalCountWith (p .symmetry) s (problemIn sheet p .symbols) (problemIn sheet p .clauses))
+  unfolding problemIn instanceCountWith literalCountWith partsWith
   problem-total s r m t = (t .instances, t .literals)

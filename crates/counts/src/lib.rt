@@ -1,4 +1,4 @@
-// The counts of a problem at a size: how many clauses and literals would be written if none were dropped.
+// The counts of a problem at a size: how many clauses and literals would be written if none were dropped. The constant clauses count where they are used.
 use flattening::flat::flatten;
 use interpretation::vector::power;
 use problem::clause_lines::clause_words;
@@ -6,16 +6,19 @@ use syntax::limits::Problem;
 use syntax::signature::Signature;
 use syntax::signature::Symbol;
 use syntax::size::DomainSize;
+use twins::constant_clauses::smaller;
+use twins::constants::constant_count;
 ghost use mathlib.Core.Path.{_≡_};
 ghost use mathlib.Core.Bool.{cond};
 ghost use mathlib.Core.List.{List, [], _∷_, map};
 ghost use Prim.Native.Nat.{ℕ, _+_, _-_, _*_, _/_, _^_, _≤_, _<_};
 ghost use lib.ListN.{getD};
-ghost use Rattle.theory.specs.PropClauses.{clausePart, functionPart, functionPlaces, instanceCount, literalCount};
-ghost use Rattle.syntax.specs.Signatures.{signatureIn};
+ghost use Rattle.theory.specs.PropClauses.{clausePart, functionPart, functionPlaces};
+ghost use Rattle.symmetry.specs.ConstantClauses.{constantParts, instanceCountWith, literalCountWith};
+ghost use Rattle.syntax.specs.Signatures.{maxInAll, signatureIn};
 ghost use Rattle.clauses.specs.Names.{Limited};
 ghost use Rattle.problem.specs.Problems.{Accepted, problemIn};
-ghost use Rattle.counts.specs.Totals.{TotalOf};
+ghost use Rattle.counts.specs.Totals.{ConstantsTotal, TotalOf, clausesOf, literalsOf};
 
 // I and L.
 pub struct Counts {
@@ -29,20 +32,21 @@ impl Counts {
 }
 
 pub fn counts_at(sheet: &[u8], p: Problem, size: DomainSize) -> Counts
-    requires { ⌜ Accepted (now sheet) p × (size .0 ≤ 8) ⌝ }
-    ensures instances { λ r. ⌜ r .instances ≡ instanceCount (size .0) (problemIn (now (sheet .entry)) p .symbols) (problemIn (now (sheet .entry)) p .clauses) ⌝ }
-    ensures literals { λ r. ⌜ r .literals ≡ literalCount (size .0) (problemIn (now (sheet .entry)) p .symbols) (problemIn (now (sheet .entry)) p .clauses) ⌝ }
+    requires { ⌜ Accepted (now sheet) p × (1 ≤ size .0) × (size .0 ≤ 8) ⌝ }
+    ensures instances { λ r. ⌜ r .instances ≡ instanceCountWith (p .symmetry) (size .0) (problemIn (now (sheet .entry)) p .symbols) (problemIn (now (sheet .entry)) p .clauses) ⌝ }
+    ensures literals { λ r. ⌜ r .literals ≡ literalCountWith (p .symmetry) (size .0) (problemIn (now (sheet .entry)) p .symbols) (problemIn (now (sheet .entry)) p .clauses) ⌝ }
     ensures small { λ r. ⌜ (r .instances < 2 ^ 42) × (r .literals < 2 ^ 42) ⌝ }
 {
     let f = function_counts(p.signature, size);
+    let t = twin_counts(p, size);
     let c = all_clause_counts(sheet, p, size);
-    plus(f, c)
+    plus(f, plus(t, c))
 }
 
 // What the function cells add.
 fn function_counts(signature: Signature, size: DomainSize) -> Counts
     requires { ⌜ Limited signature × (size .0 ≤ 8) ⌝ }
-    ensures { λ r. ⌜ ((sheet : List ℕ) → TotalOf (map (functionPart (size .0) (signatureIn sheet signature)) (functionPlaces (signatureIn sheet signature))) (2 ^ 40) r) ⌝ }
+    ensures { λ r. ⌜ ((sheet : List ℕ) → TotalOf (map (functionPart (size .0) (signatureIn sheet signature)) (functionPlaces (signatureIn sheet signature))) (2 ^ 30) r) ⌝ }
 {
     let mut total = Counts {
         instances: 0,
@@ -77,6 +81,53 @@ fn symbol_counts(symbol: Symbol, size: DomainSize) -> Counts
     Counts {
         instances,
         literals: power(s, arity + 2),
+    }
+}
+
+// What the constant clauses add, where they are used.
+fn twin_counts(p: Problem, size: DomainSize) -> Counts
+    requires { ⌜ Limited (p .signature) × (1 ≤ size .0) × (size .0 ≤ 8) ⌝ }
+    ensures { λ r. ⌜ ((sheet : List ℕ) → TotalOf (cond (p .symmetry) (constantParts (size .0) (signatureIn sheet (p .signature))) []) (2 ^ 15) r) ⌝ }
+{
+    if !p.symmetry {
+        return Counts {
+            instances: 0,
+            literals: 0,
+        };
+    }
+    let n = constant_count(p.signature);
+    all_constant_counts(n, size)
+}
+
+// What those of the first n constants add.
+fn all_constant_counts(n: usize, size: DomainSize) -> Counts
+    requires { ⌜ (n ≤ maxInAll) × (1 ≤ size .0) × (size .0 ≤ 8) ⌝ }
+    ensures { λ r. ⌜ ConstantsTotal (size .0) n r ⌝ }
+{
+    let mut total = Counts {
+        instances: 0,
+        literals: 0,
+    };
+    let mut i: usize = 0;
+    while i < n {
+        let one = constant_counts(i + 1, size);
+        total = plus(total, one);
+        i += 1;
+    }
+    total
+}
+
+// What those of the i-th constant, counted from 1, add.
+fn constant_counts(i: usize, size: DomainSize) -> Counts
+    requires { ⌜ (1 ≤ i) × (i ≤ maxInAll) × (1 ≤ size .0) × (size .0 ≤ 8) ⌝ }
+    ensures instances { λ r. ⌜ r .instances ≡ clausesOf (size .0) i ⌝ }
+    ensures literals { λ r. ⌜ r .literals ≡ literalsOf (size .0) i ⌝ }
+    ensures small { λ r. ⌜ (r .instances ≤ 2 ^ 9) × (r .literals ≤ 2 ^ 9) ⌝ }
+{
+    let most = smaller(i, size.0);
+    Counts {
+        instances: most,
+        literals: most + (most - 1) * i,
     }
 }
 

@@ -1,4 +1,4 @@
 pub mod Lengths
 pub mod Bounds
 pub mod Passes
-pub mod TwoParts
+pub mod ThreeParts

@@ -7,8 +7,8 @@ use native.Mathlib.Omega.{arith}
 use lib.ListN.{length}
 use Rattle.theory.specs.Lists.{all}
 use Rattle.theory.specs.Propositional.{PropClause, propCount}
-use Rattle.theory.specs.PropClauses.{propClauses, instanceCount}
 use Rattle.theory.specs.Claims.Counts.{isNumbered}
+use Rattle.symmetry.specs.ConstantClauses.{propClausesWith, instanceCountWith}
 use Rattle.syntax.specs.declared.limits.Problem.{Problem}
 use Rattle.problem.specs.Problems.{problemIn, Accepted}
 use Rattle.text.specs.Put.{put-none}
@@ -22,14 +22,14 @@ use Rattle.encoding.specs.Passes.{allOf}
 use Rattle.encoding.proofs.Bounds.{clauses-short, clauses-few, literals-few, area-few, all-numbered, texts-few}
 
 module _ (sheet : List ℕ) (p : Problem) (h : Accepted sheet p) (s : ℕ) (high : s ≤ 8)
-    (few : instanceCount s (problemIn sheet p .symbols) (problemIn sheet p .clauses) ≤ 1000000) (low : 1 ≤ s)
+    (few : instanceCountWith (p .symmetry) s (problemIn sheet p .symbols) (problemIn sheet p .clauses) ≤ 1000000) (low : 1 ≤ s)
     (v : ℕ) (e : v ≡ propCount s (problemIn sheet p .symbols)) (output work : List ℕ) where
   -- all clauses, in written order
   abbrev written : List PropClause
-  written = propClauses s (problemIn sheet p .symbols) (problemIn sheet p .clauses)
+  written = propClausesWith (p .symmetry) s (problemIn sheet p .symbols) (problemIn sheet p .clauses)
 
   abbrev whole : ℕ → Stream
-  whole start = allOf s (problemIn sheet p) v start output work
+  whole start = allOf (p .symmetry) s (problemIn sheet p) v start output work
 
   -- the state before the first clause
   abbrev first : ℕ → State
@@ -39,7 +39,7 @@ module _ (sheet : List ℕ) (p : Problem) (h : Accepted sheet p) (s : ℕ) (high
   fitting mode start r =
       record {
         numbered = subst (λ (n : ℕ). all (all (isNumbered n)) written ≡ true) (sym e) (all-numbered sheet p h s high few low);
-        count = omega (arith, clauses-few sheet p h s high few);
+        count = omega (arith, clauses-few sheet p h s high few low);
         room = r;
       }
 
@@ -90,7 +90,7 @@ module _ (sheet : List ℕ) (p : Problem) (h : Accepted sheet p) (s : ℕ) (high
   -- Counting: no clause is counted yet.
   module _ (start : ℕ) (room : 7 * v ≤ length work) (none : Tallied v [] work) where
     tally-fits : Fits Tally (whole start)
-    tally-fits = fitting Tally start (room, omega (arith, literals-few sheet p h s high few))
+    tally-fits = fitting Tally start (room, omega (arith, literals-few sheet p h s high few low))
 
     tally-first : After Tally (whole start) [] (first start)
     tally-first = record { at = omega arith; count = refl; output = refl; work = none; long = refl }
@@ -105,7 +105,7 @@ module _ (sheet : List ℕ) (p : Problem) (h : Accepted sheet p) (s : ℕ) (high
   module _ (start : ℕ) (none : Entered v (allCodes written) [] work) where
     enter-fits : Fits Enter (whole start)
     enter-fits =
-        fitting Enter start (clauses-short sheet p h s high, subst (λ (n : ℕ). areaEnd n (allCodes written) < 2 ^ 32) (sym e) (area-few sheet p h s high few))
+        fitting Enter start (clauses-short sheet p h s high, subst (λ (n : ℕ). areaEnd n (allCodes written) < 2 ^ 32) (sym e) (area-few sheet p h s high few low))
 
     enter-first : After Enter (whole start) [] (first start)
     enter-first = record { at = omega arith; count = refl; output = refl; work = none; long = refl }

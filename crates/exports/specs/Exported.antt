@@ -8,7 +8,8 @@ use lib.ListN.{length}
 use Rattle.theory.specs.Refusals.{Answer}
 use Rattle.theory.specs.Operations.{lengthAnswer, outputAfter, settingText, Search, findAnswer, findWork, findOutput}
 use Rattle.theory.specs.PlainSearch.{plainResult}
-use Rattle.naming.specs.NamedOperations.{writtenTextIn, readBackTextIn, findResultIn}
+use Rattle.naming.specs.NamedOperations.{readBackTextIn}
+use Rattle.symmetry.specs.SymmetricOperations.{writtenTextWith, findResultWith}
 use Rattle.tptp.specs.Tptp.{tptpText}
 use Rattle.solver.specs.SolverText.{solverText, solverAnswer, solverOutput}
 use Rattle.exports.specs.declared.WriteOut.{WriteOut}
@@ -25,8 +26,8 @@ abbrev pub isOn : ℕ → Bool
 isOn n = not (eqb n 0)
 
 -- Write
-abbrev pub WriteExport : List ℕ → ℕ → ℕ → WriteOut → List ℕ → List ℕ → Type 0
-WriteExport sheet size named r output output′ = WritingExport (writtenTextIn (isOn named) sheet size (length output)) r output output′
+abbrev pub WriteExport : List ℕ → ℕ → ℕ → ℕ → WriteOut → List ℕ → List ℕ → Type 0
+WriteExport sheet size named symmetry r output output′ = WritingExport (writtenTextWith (isOn named) (isOn symmetry) sheet size (length output)) r output output′
 
 -- Read back
 abbrev pub ReadBackExport : List ℕ → ℕ → ℕ → List ℕ → WriteOut → List ℕ → List ℕ → Type 0
@@ -43,8 +44,8 @@ pub record SearchingExport (result : Answer Search) (r : FindOut) (work work′ 
   pub left : output′ ≡ findOutput result output
 
 -- Find
-abbrev pub FindExport : List ℕ → ℕ → ℕ → ℕ → FindOut → List ℕ → List ℕ → List ℕ → List ℕ → Type 0
-FindExport sheet low high named r work work′ output output′ = SearchingExport (findResultIn (isOn named) sheet low high (length work) (length output)) r work work′ output output′
+abbrev pub FindExport : List ℕ → ℕ → ℕ → ℕ → ℕ → FindOut → List ℕ → List ℕ → List ℕ → List ℕ → Type 0
+FindExport sheet low high named symmetry r work work′ output output′ = SearchingExport (findResultWith (isOn named) (isOn symmetry) sheet low high (length work) (length output)) r work work′ output output′
 
 -- Find plain, which is lent no work area
 pub record PlainExport (sheet : List ℕ) (low high : ℕ) (r : FindOut) (output output′ : List ℕ) : Type 0 where

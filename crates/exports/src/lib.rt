@@ -162,10 +162,16 @@ fn explain_out(answer: ExplainAnswer) -> ExplainOut
 }
 
 #[no_mangle]
-pub extern "C" fn nk_write(sheet: &[u8], size: u64, named: u32, output: &mut [u8]) -> WriteOut
-    ensures { λ r. ⌜ WriteExport (now (sheet .entry)) size named r (now (output .entry)) (now (output .exit)) ⌝ }
+pub extern "C" fn nk_write(
+    sheet: &[u8],
+    size: u64,
+    named: u32,
+    symmetry: u32,
+    output: &mut [u8],
+) -> WriteOut
+    ensures { λ r. ⌜ WriteExport (now (sheet .entry)) size named symmetry r (now (output .entry)) (now (output .exit)) ⌝ }
 {
-    write_out(nesskettle::write(sheet, size, named != 0, output))
+    write_out(nesskettle::write(sheet, size, named != 0, symmetry != 0, output))
 }
 
 fn write_out(answer: WriteAnswer) -> WriteOut
@@ -215,12 +221,13 @@ pub extern "C" fn nk_find(
     low: u64,
     high: u64,
     named: u32,
+    symmetry: u32,
     work: &mut [u32],
     output: &mut [u8],
 ) -> FindOut
-    ensures { λ r. ⌜ FindExport (now (sheet .entry)) low high named r (now (work .entry)) (now (work .exit)) (now (output .entry)) (now (output .exit)) ⌝ }
+    ensures { λ r. ⌜ FindExport (now (sheet .entry)) low high named symmetry r (now (work .entry)) (now (work .exit)) (now (output .entry)) (now (output .exit)) ⌝ }
 {
-    find_out(nesskettle::find(sheet, low, high, named != 0, work, output))
+    find_out(nesskettle::find(sheet, low, high, named != 0, symmetry != 0, work, output))
 }
 
 #[no_mangle]

@@ -11,10 +11,11 @@ use Rattle.theory.specs.Refusals.{Answer, answer, refused}
 use Rattle.theory.specs.Refusals as theory
 use Rattle.theory.specs.Problem.{Problem}
 use Rattle.theory.specs.CaseText.{Case}
-use Rattle.theory.specs.Least.{leastModel, smallestModel, withSize, settled}
+use Rattle.theory.specs.Least.{withSize, settled}
 use Rattle.theory.specs.Operations.{Search, found, nothing, foundCase, noCase, over, findAnswer, findOutput, findWork}
 use Rattle.naming.specs.NamedProblem.{shownText}
 use Rattle.naming.specs.NamedOperations.{namedSearchOf}
+use Rattle.symmetry.specs.Obeying.{leastWith, smallestWith}
 use Rattle.answers.specs.declared.Refusal.{Refusal}
 use Rattle.answers.specs.declared.FindAnswer.{FindAnswer}
 use Rattle.answers.specs.declared.FindAnswer.the-variants as find
@@ -43,13 +44,13 @@ pub ends-refused : (finds : ℕ → ℕ → Answer Search) (r : Refusal) (q : th
     → Ends finds (find.Refused r) work work output output
 ends-refused finds r q work output e f = ends-by finds (find.Refused r) work work output output (refused q) e (ap (λ (q : theory.Refusal). refused q) f) refl refl
 
-module _ (p : Problem) (low high : ℕ) (work work′ output output′ : List ℕ) where
+module _ (used : Bool) (p : Problem) (low high : ℕ) (work work′ output output′ : List ℕ) where
   -- a case was written, and the work area cleared
-  pub ends-found : (s n : ℕ) (σ : List ℕ) → FoundAt s p σ → n ≡ length (shownText s (p .symbols) (readBack s (p .symbols) σ)) → work′ ≡ replicate (length work) 0
-      → output′ ≡ over (shownText s (p .symbols) (readBack s (p .symbols) σ)) output → smallestModel p low high ≡ withSize s (leastModel s p)
-      → Ends (foundWithin p low high) (find.Found s n) work work′ output output′
+  pub ends-found : (s n : ℕ) (σ : List ℕ) → FoundAt used s p σ → n ≡ length (shownText s (p .symbols) (readBack s (p .symbols) σ)) → work′ ≡ replicate (length work) 0
+      → output′ ≡ over (shownText s (p .symbols) (readBack s (p .symbols) σ)) output → smallestWith used p low high ≡ withSize s (leastWith used s p)
+      → Ends (foundWithin used p low high) (find.Found s n) work work′ output output′
   ends-found s n σ f l w o e =
-      ends-by (foundWithin p low high) (find.Found s n) work work′ output output′
+      ends-by (foundWithin used p low high) (find.Found s n) work work′ output output′
       (answer (found s (shownText s (p .symbols) (readBack s (p .symbols) σ))))
       (ap (λ (k : Option Case). answer (namedSearchOf p low high k)) (e ∙ ap (withSize s) (f .least)))
       (ap (λ (k : ℕ). answer (foundCase s k)) l)
@@ -57,10 +58,10 @@ module _ (p : Problem) (low high : ℕ) (work work′ output output′ : List �
       o
 
   -- no size has a model
-  pub ends-none : (b : Bool) → smallestModel p low high ≡ none → b ≡ settled p low high → work′ ≡ replicate (length work) 0 → output′ ≡ output
-      → Ends (foundWithin p low high) (find.Nothing b) work work′ output output′
+  pub ends-none : (b : Bool) → smallestWith used p low high ≡ none → b ≡ settled p low high → work′ ≡ replicate (length work) 0 → output′ ≡ output
+      → Ends (foundWithin used p low high) (find.Nothing b) work work′ output output′
   ends-none b e t w o =
-      ends-by (foundWithin p low high) (find.Nothing b) work work′ output output′
+      ends-by (foundWithin used p low high) (find.Nothing b) work work′ output output′
       (answer (nothing (settled p low high)))
       (ap (λ (k : Option Case). answer (namedSearchOf p low high k)) e)
       (ap (λ (b : Bool). answer (noCase b)) t)
@@ -68,17 +69,17 @@ module _ (p : Problem) (low high : ℕ) (work work′ output output′ : List �
       o
 
 -- one size alone
-pub alone : (p : Problem) (s : ℕ) (vs : List ℕ) → leastModel s p ≡ some vs → smallestModel p s s ≡ withSize s (leastModel s p)
-alone p s vs e = remaining-all p s s ∙ remaining-found p s s vs (omega arith) e
+pub alone : (used : Bool) (p : Problem) (s : ℕ) (vs : List ℕ) → leastWith used s p ≡ some vs → smallestWith used p s s ≡ withSize s (leastWith used s p)
+alone used p s vs e = remaining-all used p s s ∙ remaining-found used p s s vs (omega arith) e
 
 -- the smallest size of many that has a model ends the search as it would alone
-pub ends-whole : (p : Problem) (low high s : ℕ) (vs : List ℕ) (r : FindAnswer) (work₀ work work′ output₀ output output′ : List ℕ) → leastModel s p ≡ some vs
-    → smallestModel p low high ≡ withSize s (leastModel s p) → length work ≡ length work₀ → output ≡ output₀
-    → Ends (foundWithin p s s) r work work′ output output′ → Ends (foundWithin p low high) r work₀ work′ output₀ output′
-ends-whole p low high s vs r work₀ work work′ output₀ output output′ m e l k ends =
+pub ends-whole : (used : Bool) (p : Problem) (low high s : ℕ) (vs : List ℕ) (r : FindAnswer) (work₀ work work′ output₀ output output′ : List ℕ) → leastWith used s p ≡ some vs
+    → smallestWith used p low high ≡ withSize s (leastWith used s p) → length work ≡ length work₀ → output ≡ output₀
+    → Ends (foundWithin used p s s) r work work′ output output′ → Ends (foundWithin used p low high) r work₀ work′ output₀ output′
+ends-whole used p low high s vs r work₀ work work′ output₀ output output′ m e l k ends =
     let f : Search = found s (shownText s (p .symbols) vs) in
-    let here : foundWithin p s s (length work) (length output) ≡ answer f = ap (λ (k : Option Case). answer (namedSearchOf p s s k)) (alone p s vs m ∙ ap (withSize s) m) in
-    ends-by (foundWithin p low high) r work₀ work′ output₀ output′
+    let here : foundWithin used p s s (length work) (length output) ≡ answer f = ap (λ (k : Option Case). answer (namedSearchOf p s s k)) (alone used p s vs m ∙ ap (withSize s) m) in
+    ends-by (foundWithin used p low high) r work₀ work′ output₀ output′
     (answer f)
     (ap (λ (k : Option Case). answer (namedSearchOf p low high k)) (e ∙ ap (withSize s) m))
     (ends .answer ∙ ap findAnswer here)

@@ -45,7 +45,7 @@ module _ (sheet : List ℕ) (p : Problem) (size n v : ℕ) (h : Searchable sheet
   area-is = ap (λ (k : ℕ). areaEnd k (allCodes cs)) same-count
 
   area-within : areaEnd v (allCodes cs) ≤ n
-  area-within = omega (arith, area-is, bounds.area-within sheet p (h .accepted) size (h .within), h .space)
+  area-within = omega (arith, area-is, bounds.area-within sheet p (h .accepted) size (h .within) (h .positive), h .space)
 
   -- room for all but the clauses
   pub area-room : 7 * v ≤ n
@@ -85,5 +85,5 @@ module _ (sheet : List ℕ) (p : Problem) (size n v : ℕ) (h : Searchable sheet
         number = length-map cs codes ∙ k;
         small = variables-small;
         room = omega (arith, area-within);
-        fits = omega (arith, area-is, bounds.area-few sheet p (h .accepted) size (h .within) (h .instances));
+        fits = omega (arith, area-is, bounds.area-few sheet p (h .accepted) size (h .within) (h .instances) (h .positive));
       }

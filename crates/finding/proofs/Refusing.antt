@@ -1,7 +1,7 @@
 -- Find's checks in order: the first that fails refuses, and where all pass the search decides.
-use Prim.Native.Nat.{ℕ, _+_, _*_, _≤_, _<_}
+use Prim.Native.Nat.{ℕ, suc, _+_, _-_, _*_, _≤_, _<_}
 use mathlib.Core.Path.{_≡_, refl, sym, ap, _∙_}
-use mathlib.Core.Bool.{Bool, true, false}
+use mathlib.Core.Bool.{Bool, true, false, _&&_}
 use mathlib.Core.Option.{Option, none, some}
 use mathlib.Core.List.{List}
 use native.Mathlib.Omega.{arith}
@@ -9,111 +9,129 @@ use borrow.Author.Tests.{le-leb, lt-leb}
 use lib.Dec.{leb}
 use Rattle.theory.specs.Syntax.{allDeclared}
 use Rattle.theory.specs.Propositional.{propCount}
-use Rattle.theory.specs.PropClauses.{instanceCount, literalCount, workNeeded}
 use Rattle.theory.specs.Refusals.{Refusal, Answer, answer, refused, unplaced, needing, _>>=_, check}
 use Rattle.theory.specs.Problem.{Problem}
 use Rattle.theory.specs.CaseText.{Case, caseLength}
-use Rattle.theory.specs.Least.{smallestModel}
-use Rattle.theory.specs.Operations.{maxInstances, Search, found, searchOf, findResult}
+use Rattle.theory.specs.Cells.{cellKinds, isInterpretation, isModel}
+use Rattle.theory.specs.Least.{candidates, leastModel, withSize}
+use Rattle.theory.specs.Operations.{maxInstances, Search, found, searchOf}
 use Rattle.theory.proofs.Answers.{bind-step, bind-refused, check-of-true, check-of-false}
 use Rattle.theory.proofs.Interpretations.{length-interpretation}
-use Rattle.theory.proofs.Least.{least}
+use Rattle.theory.proofs.First.{firstOf-least, first-some}
+use Rattle.theory.proofs.Least.{in-inRange, withSize-some}
 use Rattle.naming.specs.NamedProblem.{shownSymbols}
-use Rattle.naming.specs.NamedOperations.{namedSearchOf, namedFindResult, modeProblem, findResultIn}
+use Rattle.naming.specs.NamedOperations.{namedSearchOf, placedIn, modeProblem}
 use Rattle.naming.proofs.Helpers.{shown-declared, shown-whole}
+use Rattle.symmetry.specs.ConstantClauses.{instanceCountWith, literalCountWith, workNeededWith}
+use Rattle.symmetry.specs.Obeying.{obeys, leastObeying, leastWith, smallestWith}
+use Rattle.symmetry.specs.SymmetricOperations.{findResultWith}
+use Rattle.symmetry.proofs.Chains.{findChain, find-chain}
 use Rattle.syntax.specs.declared.limits.Problem as code
 use Rattle.syntax.specs.declared.signature.Signature.{Signature}
 use Rattle.syntax.specs.Signatures.{signatureIn, withoutHelpers}
 use Rattle.problem.specs.Problems.{problemIn}
-use Rattle.problem.specs.Modes.{placedIn, Shows}
+use Rattle.problem.specs.Modes.{Shows}
 use Rattle.finding.specs.Ranges.{areSizes}
 use Rattle.finding.specs.Ending.{foundIn, foundWithin, Ranged, Sizes}
 
-module _ (p : Problem) (low high work room : ℕ) where
+module _ (used : Bool) (p : Problem) (low high work room : ℕ) where
   abbrev i : ℕ
-  i = instanceCount high (p .symbols) (p .clauses)
+  i = instanceCountWith used high (p .symbols) (p .clauses)
 
   abbrev w : ℕ
-  w = workNeeded high (p .symbols) (p .clauses)
+  w = workNeededWith used high (p .symbols) (p .clauses)
 
   abbrev l : ℕ
   l = caseLength high (shownSymbols (p .symbols))
 
-  pub refused-9 : maxInstances < i → foundIn p low high work room ≡ refused (unplaced 9)
+  pub refused-9 : maxInstances < i → foundIn used p low high work room ≡ refused (unplaced 9)
   unfolding foundIn
   refused-9 e = bind-refused _ _ (unplaced 9) (check-of-false (leb i maxInstances) (unplaced 9) (lt-leb i maxInstances e))
 
   module _ (few : i ≤ maxInstances) where
-    pub refused-10 : work < w → foundIn p low high work room ≡ refused (needing 10 w)
+    pub refused-10 : work < w → foundIn used p low high work room ≡ refused (needing 10 w)
     unfolding foundIn
     refused-10 e =
         bind-step _ _ _ _ (check-of-true (leb i maxInstances) (unplaced 9) (le-leb i maxInstances few))
         (bind-refused _ _ (needing 10 w) (check-of-false (leb w work) (needing 10 w) (lt-leb w work e)))
 
     module _ (enough : w ≤ work) where
-      pub refused-11 : room < l → foundIn p low high work room ≡ refused (needing 11 l)
+      pub refused-11 : room < l → foundIn used p low high work room ≡ refused (needing 11 l)
       unfolding foundIn
       refused-11 e =
           bind-step _ _ _ _ (check-of-true (leb i maxInstances) (unplaced 9) (le-leb i maxInstances few))
           (bind-step _ _ _ _ (check-of-true (leb w work) (needing 10 w) (le-leb w work enough))
           (bind-refused _ _ (needing 11 l) (check-of-false (leb l room) (needing 11 l) (lt-leb l room e))))
 
-      pub searches : l ≤ room → foundIn p low high work room ≡ foundWithin p low high work room
+      pub searches : l ≤ room → foundIn used p low high work room ≡ foundWithin used p low high work room
       unfolding foundIn
       searches e =
           bind-step _ _ _ _ (check-of-true (leb i maxInstances) (unplaced 9) (le-leb i maxInstances few))
           (bind-step _ _ _ _ (check-of-true (leb w work) (needing 10 w) (le-leb w work enough))
           (bind-step _ _ _ _ (check-of-true (leb l room) (needing 11 l) (le-leb l room e)) refl))
 
+-- what is found is an interpretation
+least-in-range : (used : Bool) (s : ℕ) (p : Problem) (vs : List ℕ) → leastWith used s p ≡ some vs → isInterpretation s (p .symbols) vs ≡ true
+unfolding leastObeying leastModel isInterpretation
+least-in-range true s p vs e =
+    in-inRange s (cellKinds s (p .symbols)) vs (first-some (candidates s (p .symbols)) (λ v. isModel s (p .symbols) (p .clauses) v && obeys s (p .symbols) v) vs e .0)
+least-in-range false s p vs e = in-inRange s (cellKinds s (p .symbols)) vs (first-some (candidates s (p .symbols)) (isModel s (p .symbols) (p .clauses)) vs e .0)
+
+smallest-in-range : (used : Bool) (p : Problem) (low high : ℕ) (k : Case) → smallestWith used p low high ≡ some k → isInterpretation (k .size) (p .symbols) (k .values) ≡ true
+unfolding smallestWith
+smallest-in-range used p low high k e =
+    let r = firstOf-least (λ s. withSize s (leastWith used s p)) low (suc high - low) k e in
+    let w = withSize-some (r .0) (leastWith used (r .0) p) k (r .3) in
+    least-in-range used (k .size) p (k .values) (ap (λ (s : ℕ). leastWith used s p) (sym (w .0)) ∙ w .1)
+
 -- what is found where a case shows all symbols
-plain-search : (p : Problem) (low high : ℕ) → allDeclared (p .symbols) ≡ true → searchOf p low high (smallestModel p low high) ≡ namedSearchOf p low high (smallestModel p low high)
-plain-search p low high h = go (smallestModel p low high) refl
+plain-search : (used : Bool) (p : Problem) (low high : ℕ) → allDeclared (p .symbols) ≡ true → searchOf p low high (smallestWith used p low high) ≡ namedSearchOf p low high (smallestWith used p low high)
+plain-search used p low high h = go (smallestWith used p low high) refl
   where
-    go : (o : Option Case) → smallestModel p low high ≡ o → searchOf p low high o ≡ namedSearchOf p low high o
+    go : (o : Option Case) → smallestWith used p low high ≡ o → searchOf p low high o ≡ namedSearchOf p low high o
     go none e = refl
     go (some k) e =
-        let m = least p .isLeast (k .size) (k .values) (least p .smallest low high k e .2) in
-        ap (found (k .size)) (sym (shown-whole (k .size) (p .symbols) (k .values) h (length-interpretation (k .size) (p .symbols) (k .values) (m .0 .interpretation))))
+        ap (found (k .size)) (sym (shown-whole (k .size) (p .symbols) (k .values) h (length-interpretation (k .size) (p .symbols) (k .values) (smallest-in-range used p low high k e))))
 
 -- and checked
-plain-found : (p : Problem) (low high work room : ℕ) → allDeclared (p .symbols) ≡ true
-    → (check (leb (instanceCount high (p .symbols) (p .clauses)) maxInstances) (unplaced 9) >>= λ _. check (leb (workNeeded high (p .symbols) (p .clauses)) work) (needing 10 (workNeeded high (p .symbols) (p .clauses)))
-    >>= λ _. check (leb (caseLength high (p .symbols)) room) (needing 11 (caseLength high (p .symbols))) >>= λ _. answer (searchOf p low high (smallestModel p low high)))
-    ≡ foundIn p low high work room
+plain-found : (used : Bool) (p : Problem) (low high work room : ℕ) → allDeclared (p .symbols) ≡ true
+    → (check (leb (instanceCountWith used high (p .symbols) (p .clauses)) maxInstances) (unplaced 9) >>= λ _. check (leb (workNeededWith used high (p .symbols) (p .clauses)) work) (needing 10 (workNeededWith used high (p .symbols) (p .clauses)))
+    >>= λ _. check (leb (caseLength high (p .symbols)) room) (needing 11 (caseLength high (p .symbols))) >>= λ _. answer (searchOf p low high (smallestWith used p low high)))
+    ≡ foundIn used p low high work room
 unfolding foundIn
-plain-found p low high work room h =
-    let all : ℕ → Search → Answer Search = λ n r. check (leb (instanceCount high (p .symbols) (p .clauses)) maxInstances) (unplaced 9) >>= λ _.
-    check (leb (workNeeded high (p .symbols) (p .clauses)) work) (needing 10 (workNeeded high (p .symbols) (p .clauses))) >>= λ _. check (leb n room) (needing 11 n) >>= λ _. answer r in
-    ap (λ (n : ℕ). all n (searchOf p low high (smallestModel p low high))) (ap (caseLength high) (sym (shown-declared (p .symbols) h)))
-    ∙ ap (all (caseLength high (shownSymbols (p .symbols)))) (plain-search p low high h)
+plain-found used p low high work room h =
+    let all : ℕ → Search → Answer Search = λ n r. check (leb (instanceCountWith used high (p .symbols) (p .clauses)) maxInstances) (unplaced 9) >>= λ _.
+    check (leb (workNeededWith used high (p .symbols) (p .clauses)) work) (needing 10 (workNeededWith used high (p .symbols) (p .clauses))) >>= λ _. check (leb n room) (needing 11 n) >>= λ _. answer r in
+    ap (λ (n : ℕ). all n (searchOf p low high (smallestWith used p low high))) (ap (caseLength high) (sym (shown-declared (p .symbols) h)))
+    ∙ ap (all (caseLength high (shownSymbols (p .symbols)))) (plain-search used p low high h)
 
--- the whole call, of both modes
-module _ (sheet : List ℕ) (low high work room : ℕ) where
+-- the whole call, of both modes, told yes or no
+module _ (sheet : List ℕ) (low high work room : ℕ) (used : Bool) where
   -- a sheet that is refused
-  pub result-refused : (named : Bool) (r : Refusal) → placedIn named sheet ≡ refused r → findResultIn named sheet low high work room ≡ refused r
-  unfolding findResult namedFindResult
-  result-refused false r e = bind-refused _ _ r e
-  result-refused true r e = bind-refused _ _ r e
+  pub result-refused : (named : Bool) (r : Refusal) → placedIn named sheet ≡ refused r → findResultWith named used sheet low high work room ≡ refused r
+  unfolding findChain
+  result-refused named r e = find-chain named used sheet low high work room ∙ bind-refused _ _ r e
 
   module _ (p : Problem) where
     -- one that was read, at what are no sizes
-    pub result-8 : (named : Bool) → placedIn named sheet ≡ answer p → areSizes low high ≡ false → findResultIn named sheet low high work room ≡ refused (unplaced 8)
-    unfolding findResult namedFindResult
-    result-8 false read e = bind-step _ _ _ _ read (bind-refused _ _ (unplaced 8) (check-of-false (areSizes low high) (unplaced 8) e))
-    result-8 true read e = bind-step _ _ _ _ read (bind-refused _ _ (unplaced 8) (check-of-false (areSizes low high) (unplaced 8) e))
+    pub result-8 : (named : Bool) → placedIn named sheet ≡ answer p → areSizes low high ≡ false → findResultWith named used sheet low high work room ≡ refused (unplaced 8)
+    unfolding findChain
+    result-8 named read e =
+        find-chain named used sheet low high work room ∙ bind-step _ _ _ _ read (bind-refused _ _ (unplaced 8) (check-of-false (areSizes low high) (unplaced 8) e))
 
     -- and at sizes
     pub result-read : (named : Bool) → placedIn named sheet ≡ answer p → allDeclared (p .symbols) ≡ true → areSizes low high ≡ true
-        → findResultIn named sheet low high work room ≡ foundIn (modeProblem named p) low high work room
-    unfolding findResult namedFindResult foundIn
-    result-read false read h e = bind-step _ _ _ _ read (bind-step _ _ _ _ (check-of-true (areSizes low high) (unplaced 8) e) (plain-found p low high work room h))
-    result-read true read h e = bind-step _ _ _ _ read (bind-step _ _ _ _ (check-of-true (areSizes low high) (unplaced 8) e) refl)
+        → findResultWith named used sheet low high work room ≡ foundIn used (modeProblem named p) low high work room
+    unfolding findChain foundIn
+    result-read false read h e =
+        find-chain false used sheet low high work room ∙ bind-step _ _ _ _ read (bind-step _ _ _ _ (check-of-true (areSizes low high) (unplaced 8) e) (plain-found used p low high work room h))
+    result-read true read h e = find-chain true used sheet low high work room ∙ bind-step _ _ _ _ read (bind-step _ _ _ _ (check-of-true (areSizes low high) (unplaced 8) e) refl)
 
 -- W, as the code has it
 pub work-is : (sheet : List ℕ) (p : code.Problem) (size v i l n : ℕ) → v ≡ propCount size (signatureIn sheet (p .signature))
-    → i ≡ instanceCount size (problemIn sheet p .symbols) (problemIn sheet p .clauses) → l ≡ literalCount size (problemIn sheet p .symbols) (problemIn sheet p .clauses)
-    → n ≡ l + 2 * i + 8 * v + 16 → n ≡ workNeeded size (problemIn sheet p .symbols) (problemIn sheet p .clauses)
-unfolding workNeeded problemIn
+    → i ≡ instanceCountWith (p .symmetry) size (problemIn sheet p .symbols) (problemIn sheet p .clauses) → l ≡ literalCountWith (p .symmetry) size (problemIn sheet p .symbols) (problemIn sheet p .clauses)
+    → n ≡ l + 2 * i + 8 * v + 16 → n ≡ workNeededWith (p .symmetry) size (problemIn sheet p .symbols) (problemIn sheet p .clauses)
+unfolding workNeededWith problemIn
 work-is sheet p size v i l n e f g h = omega (arith, e, f, g, h)
 
 -- the length of a case, which shows the declared symbols y
@@ -124,7 +142,7 @@ length-is sheet p size n y h is e = e ∙ ap (λ (y : Signature). caseLength siz
 
 -- all checks passed
 pub all-sizes : (sheet : List ℕ) (p : code.Problem) (low high work room : ℕ) → Ranged sheet p low high
-    → instanceCount high (problemIn sheet p .symbols) (problemIn sheet p .clauses) ≤ maxInstances → workNeeded high (problemIn sheet p .symbols) (problemIn sheet p .clauses) ≤ work
+    → instanceCountWith (p .symmetry) high (problemIn sheet p .symbols) (problemIn sheet p .clauses) ≤ maxInstances → workNeededWith (p .symmetry) high (problemIn sheet p .symbols) (problemIn sheet p .clauses) ≤ work
     → caseLength high (shownSymbols (problemIn sheet p .symbols)) ≤ room → Sizes sheet p low high work room
 all-sizes sheet p low high work room h few enough case =
     record {

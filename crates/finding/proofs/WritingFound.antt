@@ -12,11 +12,11 @@ use Rattle.theory.specs.Syntax as theory
 use Rattle.theory.specs.Propositional.{propCount}
 use Rattle.theory.specs.Valuation.{isValuation, isFunctional, settingOf}
 use Rattle.theory.specs.CaseText.{caseLength}
-use Rattle.theory.specs.Walk.{searched}
 use Rattle.theory.specs.Operations.{over}
 use Rattle.theory.proofs.Tests.{eqb-of-≡, and-join}
 use Rattle.theory.proofs.Lists.{map-take}
 use Rattle.naming.specs.NamedProblem.{shownSymbols}
+use Rattle.symmetry.specs.Obeying.{searchedWith}
 use Rattle.answers.specs.declared.FindAnswer.the-variants as find
 use Rattle.syntax.specs.declared.limits.Problem.{Problem}
 use Rattle.syntax.specs.declared.signature.Signature.{Signature}
@@ -50,7 +50,7 @@ pub limited-shown : (sheet : List ℕ) (p : Problem) (y : Signature) → Readabl
 limited-shown sheet p y h is = subst Limited (sym is) (readable-first (p .signature) sheet h .limited)
 
 -- y are the declared symbols of the problem, n their numbering, and the search has left its values at the front of the work area
-module _ (sheet : List ℕ) (p : Problem) (size : ℕ) (work : List ℕ) (h : Searchable sheet p size (length work)) (e : searched size (problemIn sheet p) .answer ≡ some (settingOf (take (variablesOf sheet p size) work)))
+module _ (sheet : List ℕ) (p : Problem) (size : ℕ) (work : List ℕ) (h : Searchable sheet p size (length work)) (e : searchedWith (p .symmetry) size (problemIn sheet p) .answer ≡ some (settingOf (take (variablesOf sheet p size) work)))
     (y : Signature) (is : y ≡ withoutHelpers (p .signature)) (n : Numbering) (numbering : NumberingOf (signatureIn sheet y) size n) where
   abbrev G : theory.Signature
   G = signatureIn sheet (p .signature)
@@ -59,8 +59,8 @@ module _ (sheet : List ℕ) (p : Problem) (size : ℕ) (work : List ℕ) (h : Se
   abbrev σ : List ℕ
   σ = settingOf (take (variablesOf sheet p size) work)
 
-  found : FoundAt size (problemIn sheet p) σ
-  found = found-at size (problemIn sheet p) (h .positive) (clauses-over sheet p size (length work) h) σ e
+  found : FoundAt (p .symmetry) size (problemIn sheet p) σ
+  found = found-at (p .symmetry) size (problemIn sheet p) (h .positive) (clauses-over sheet p size (length work) h) σ e
 
   symbols : SizedSymbols sheet (p .signature) size
   symbols = record { readable = h .accepted .readable; bytes = h .bytes; shows = h .shows; positive = h .positive; within = h .within }
@@ -97,11 +97,11 @@ module _ (sheet : List ℕ) (p : Problem) (size : ℕ) (work : List ℕ) (h : Se
 
   pub written-ends : (length′ : ℕ) (work′ output output′ : List ℕ) → length′ ≡ caseLength size (signatureIn sheet y) → work′ ≡ replicate (length work) 0
       → output′ ≡ over (caseSaid sheet y size (bitsHeld [] (take (n .count) work))) output
-      → Ends (foundWithin (problemIn sheet p) size size) (find.Found size length′) work work′ output output′
+      → Ends (foundWithin (p .symmetry) (problemIn sheet p) size size) (find.Found size length′) work work′ output output′
   unfolding problemIn
   written-ends length′ work′ output output′ l w o =
-      ends-found (problemIn sheet p) size size work work′ output output′ size length′ σ found (l ∙ shown-long sheet (p .signature) size σ symbols y is valuation functional) w
+      ends-found (p .symmetry) (problemIn sheet p) size size work work′ output output′ size length′ σ found (l ∙ shown-long sheet (p .signature) size σ symbols y is valuation functional) w
       (o
       ∙ ap (λ (τ : List ℕ). over (caseSaid sheet y size τ) output) (values-are ∙ front-is sheet y size σ lent n numbering)
       ∙ ap (λ (t : List ℕ). over t output) (shown-said sheet (p .signature) size σ symbols y is valuation functional))
-      (alone (problemIn sheet p) size _ (found .least))
+      (alone (p .symmetry) (problemIn sheet p) size _ (found .least))

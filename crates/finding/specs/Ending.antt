@@ -1,17 +1,18 @@
 -- What Find leaves when it ends.
 use Prim.Native.Nat.{ℕ, _≤_}
+use mathlib.Core.Bool.{Bool}
 use mathlib.Core.List.{List}
 use lib.Dec.{leb}
 use lib.ListN.{length}
-use Rattle.theory.specs.PropClauses.{instanceCount, workNeeded}
 use Rattle.theory.specs.Refusals.{Answer, answer, unplaced, needing, _>>=_, check}
 use Rattle.theory.specs.Problem.{maxBytes}
 use Rattle.theory.specs.Problem as theory
 use Rattle.theory.specs.CaseText.{caseLength}
-use Rattle.theory.specs.Least.{smallestModel}
 use Rattle.theory.specs.Operations.{maxSize, maxInstances, Search}
 use Rattle.naming.specs.NamedProblem.{shownSymbols}
 use Rattle.naming.specs.NamedOperations.{namedSearchOf}
+use Rattle.symmetry.specs.ConstantClauses.{instanceCountWith, workNeededWith}
+use Rattle.symmetry.specs.Obeying.{smallestWith}
 use Rattle.answers.specs.declared.FindAnswer.{FindAnswer}
 use Rattle.answers.specs.Calls.{SearchingCall}
 use Rattle.syntax.specs.declared.limits.Problem.{Problem}
@@ -23,17 +24,17 @@ use Rattle.finding.specs.Searching.{Searchable}
 abbrev pub Ends : (ℕ → ℕ → Answer Search) → FindAnswer → List ℕ → List ℕ → List ℕ → List ℕ → Type 0
 Ends finds r work work′ output output′ = SearchingCall (finds (length work) (length output)) r work work′ output output′
 
--- what Find finds of a problem that was read at the sizes from low to high where nothing is refused
-abbrev pub foundWithin : theory.Problem → ℕ → ℕ → ℕ → ℕ → Answer Search
-foundWithin p low high work room = answer (namedSearchOf p low high (smallestModel p low high))
+-- what Find finds of a problem that was read at the sizes from low to high where nothing is refused, with the constant clauses where they are used
+abbrev pub foundWithin : Bool → theory.Problem → ℕ → ℕ → ℕ → ℕ → Answer Search
+foundWithin used p low high work room = answer (namedSearchOf p low high (smallestWith used p low high))
 
 -- and with the refusals that stand before it: 9, 10, 11
-unfoldable pub foundIn : theory.Problem → ℕ → ℕ → ℕ → ℕ → Answer Search
-foundIn p low high work room = do
-  _ ← check (leb (instanceCount high (p .symbols) (p .clauses)) maxInstances) (unplaced 9)
-  _ ← check (leb (workNeeded high (p .symbols) (p .clauses)) work) (needing 10 (workNeeded high (p .symbols) (p .clauses)))
+unfoldable pub foundIn : Bool → theory.Problem → ℕ → ℕ → ℕ → ℕ → Answer Search
+foundIn used p low high work room = do
+  _ ← check (leb (instanceCountWith used high (p .symbols) (p .clauses)) maxInstances) (unplaced 9)
+  _ ← check (leb (workNeededWith used high (p .symbols) (p .clauses)) work) (needing 10 (workNeededWith used high (p .symbols) (p .clauses)))
   _ ← check (leb (caseLength high (shownSymbols (p .symbols))) room) (needing 11 (caseLength high (shownSymbols (p .symbols))))
-  foundWithin p low high work room
+  foundWithin used p low high work room
 
 -- a problem that was read of the sheet, its declared symbols before the helpers, and sizes in order
 pub record Ranged (sheet : List ℕ) (p : Problem) (low high : ℕ) : Type 0 where

@@ -2,10 +2,10 @@
 use Prim.Native.Nat.{ℕ, _≤_}
 use mathlib.Core.List.{List}
 use lib.ListN.{length}
-use Rattle.theory.specs.PropClauses.{propClauses, instanceCount, workNeeded}
 use Rattle.theory.specs.Propositional.{PropClause}
 use Rattle.theory.specs.Problem.{maxBytes}
 use Rattle.theory.specs.Operations.{maxSize, maxInstances}
+use Rattle.symmetry.specs.ConstantClauses.{propClausesWith, instanceCountWith, workNeededWith}
 use Rattle.syntax.specs.declared.limits.Problem.{Problem}
 use Rattle.problem.specs.Problems.{problemIn, Accepted}
 use Rattle.problem.specs.Modes.{Shows}
@@ -17,9 +17,9 @@ pub record Searchable (sheet : List ℕ) (p : Problem) (size room : ℕ) : Type 
   pub shows : Shows sheet (p .signature)
   pub positive : 1 ≤ size
   pub within : size ≤ maxSize
-  pub instances : instanceCount size (problemIn sheet p .symbols) (problemIn sheet p .clauses) ≤ maxInstances
-  pub space : workNeeded size (problemIn sheet p .symbols) (problemIn sheet p .clauses) ≤ room
+  pub instances : instanceCountWith (p .symmetry) size (problemIn sheet p .symbols) (problemIn sheet p .clauses) ≤ maxInstances
+  pub space : workNeededWith (p .symmetry) size (problemIn sheet p .symbols) (problemIn sheet p .clauses) ≤ room
 
--- the clauses of the problem at a size
+-- the clauses of the problem at a size, with the constant clauses where they are used
 abbrev pub sheetClauses : ℕ → List ℕ → Problem → List PropClause
-sheetClauses size sheet p = propClauses size (problemIn sheet p .symbols) (problemIn sheet p .clauses)
+sheetClauses size sheet p = propClausesWith (p .symmetry) size (problemIn sheet p .symbols) (problemIn sheet p .clauses)

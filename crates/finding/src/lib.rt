@@ -1,4 +1,4 @@
-// Find: the least model at the smallest size that has one, plain or with named terms.
+// Find: the least model at the smallest size that has one, plain or with named terms; told so, the least of those that obey the constant clauses.
 pub mod first_values;
 pub mod one_size;
 pub mod range;
@@ -37,16 +37,18 @@ pub fn find_model(
     low: u64,
     high: u64,
     named: bool,
+    symmetry: bool,
     work: &mut [u32],
     output: &mut [u8],
 ) -> FindAnswer
-    ensures { λ r. ⌜ FindCall (now (sheet .entry)) low high named r (now (work .entry)) (now (work .exit)) (now (output .entry)) (now (output .exit)) ⌝ }
+    ensures { λ r. ⌜ FindCall (now (sheet .entry)) low high named symmetry r (now (work .entry)) (now (work .exit)) (now (output .entry)) (now (output .exit)) ⌝ }
 {
     let r = read_in(sheet, named);
     if r.fault != 0 {
         return FindAnswer::Refused(refusal_in(sheet, named, r.fault, r.line));
     }
-    let p = r.problem;
+    let mut p = r.problem;
+    p.symmetry = symmetry;
     match checked_range(low, high) {
         RangeCheck::Refused => FindAnswer::Refused(at_line(8, 0)),
         RangeCheck::Is(least, most) => find_in(sheet, p, least, most, work, output),
@@ -63,7 +65,7 @@ fn find_in(
     output: &mut [u8],
 ) -> FindAnswer
     requires { ⌜ Ranged (now sheet) p (low .0) (high .0) ⌝ }
-    ensures { λ r. ⌜ Ends (foundIn (problemIn (now (sheet .entry)) p) (low .0) (high .0)) r (now (work .entry)) (now (work .exit)) (now (output .entry)) (now (output .exit)) ⌝ }
+    ensures { λ r. ⌜ Ends (foundIn (p .symmetry) (problemIn (now (sheet .entry)) p) (low .0) (high .0)) r (now (work .entry)) (now (work .exit)) (now (output .entry)) (now (output .exit)) ⌝ }
 {
     let c = counts_at(sheet, p, high);
     if Counts::MAX_INSTANCES < c.instances {

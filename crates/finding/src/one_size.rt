@@ -13,7 +13,8 @@ ghost use mathlib.Core.Path.{_≡_};
 ghost use mathlib.Core.List.{List};
 ghost use Prim.Native.Nat.{ℕ};
 ghost use lib.ListN.{length, take};
-ghost use Rattle.theory.specs.Walk.{searched, yesFirst};
+ghost use Rattle.theory.specs.Walk.{yesFirst};
+ghost use Rattle.symmetry.specs.Obeying.{searchedWith};
 ghost use Rattle.syntax.specs.Signatures.{signatureIn};
 ghost use Rattle.propagation.specs.WorkArea.{Loaded};
 ghost use Rattle.loading.specs.Loading.{Tallied, Entered};
@@ -105,7 +106,7 @@ pub fn search_size(
 ) -> bool
     requires { ⌜ Searchable (now sheet) p (size .0) (length (now work)) ⌝ }
     requires { ⌜ ((text : List ℕ) → NumberingOf (signatureIn text (p .signature)) (size .0) n) ⌝ }
-    ensures { λ r. ⌜ searched (size .0) (problemIn (now (sheet .entry)) p) .answer ≡ searchAnswer r (take (n .count) (now (work .exit))) ⌝ }
+    ensures { λ r. ⌜ searchedWith (p .symmetry) (size .0) (problemIn (now (sheet .entry)) p) .answer ≡ searchAnswer r (take (n .count) (now (work .exit))) ⌝ }
 {
     let m = load(sheet, p, n, size, work);
     solve(work, n.count as usize, m)

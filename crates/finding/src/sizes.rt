@@ -13,8 +13,8 @@ ghost use Prim.Native.Nat.{_≤_};
 ghost use lib.ListN.{length, take};
 ghost use Rattle.theory.specs.Propositional.{propCount};
 ghost use Rattle.theory.specs.CaseText.{caseLength};
-ghost use Rattle.theory.specs.Walk.{searched};
 ghost use Rattle.naming.specs.NamedProblem.{shownSymbols};
+ghost use Rattle.symmetry.specs.Obeying.{searchedWith};
 ghost use Rattle.problem.specs.Problems.{problemIn};
 ghost use Rattle.search.specs.Search.{searchAnswer};
 ghost use Rattle.finding.specs.Searching.{Searchable};
@@ -30,7 +30,7 @@ pub fn search_sizes(
     output: &mut [u8],
 ) -> FindAnswer
     requires { ⌜ Sizes (now sheet) p (low .0) (high .0) (length (now work)) (length (now output)) ⌝ }
-    ensures { λ r. ⌜ Ends (foundWithin (problemIn (now (sheet .entry)) p) (low .0) (high .0)) r (now (work .entry)) (now (work .exit)) (now (output .entry)) (now (output .exit)) ⌝ }
+    ensures { λ r. ⌜ Ends (foundWithin (p .symmetry) (problemIn (now (sheet .entry)) p) (low .0) (high .0)) r (now (work .entry)) (now (work .exit)) (now (output .entry)) (now (output .exit)) ⌝ }
 {
     let signature = p.signature;
     let mut size = low;
@@ -57,9 +57,9 @@ fn put_found(
     output: &mut [u8],
 ) -> FindAnswer
     requires { ⌜ Searchable (now sheet) p (size .0) (length (now work)) ⌝ }
-    requires { ⌜ searched (size .0) (problemIn (now sheet) p) .answer ≡ searchAnswer true (take (propCount (size .0) (problemIn (now sheet) p .symbols)) (now work)) ⌝ }
+    requires { ⌜ searchedWith (p .symmetry) (size .0) (problemIn (now sheet) p) .answer ≡ searchAnswer true (take (propCount (size .0) (problemIn (now sheet) p .symbols)) (now work)) ⌝ }
     requires { ⌜ caseLength (size .0) (shownSymbols (problemIn (now sheet) p .symbols)) ≤ length (now output) ⌝ }
-    ensures { λ r. ⌜ Ends (foundWithin (problemIn (now (sheet .entry)) p) (size .0) (size .0)) r (now (work .entry)) (now (work .exit)) (now (output .entry)) (now (output .exit)) ⌝ }
+    ensures { λ r. ⌜ Ends (foundWithin (p .symmetry) (problemIn (now (sheet .entry)) p) (size .0) (size .0)) r (now (work .entry)) (now (work .exit)) (now (output .entry)) (now (output .exit)) ⌝ }
 {
     let signature = p.signature;
     let shown = signature.declared();

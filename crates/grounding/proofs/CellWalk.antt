@@ -27,7 +27,7 @@ use Rattle.valuations.proofs.Blocks.{propBase-within}
 use Rattle.grounding.specs.CellPart.{rowClauses, symbolClauses, cellPart}
 
 -- the literal of a cell's variable y for the result d, the cell's first variable being x
-cell-literal : (x d y u : ℕ) (b : Bool) → y ≡ x + d → u ≡ 2 * y + cond b 0 1 → literalOf u ≡ record { positive = b; number = 1 + x + d }
+pub cell-literal : (x d y u : ℕ) (b : Bool) → y ≡ x + d → u ≡ 2 * y + cond b 0 1 → literalOf u ≡ record { positive = b; number = 1 + x + d }
 cell-literal x d y u b h e =
     let n : 1 + y ≡ 1 + x + d = omega arith in
     ap literalOf e ∙ literalOf-code y b ∙ ap (λ (k : ℕ). record { positive = b; number = k }) n

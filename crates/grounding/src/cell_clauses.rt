@@ -125,7 +125,7 @@ fn cell(
 }
 
 // The variable that says that the result is d, in the cell whose first variable is x.
-fn result_is(x: PropVar, d: Element) -> PropVar
+pub fn result_is(x: PropVar, d: Element) -> PropVar
     requires { ⌜ (x .0 < 2 ^ 20) × (d .0 < 8) ⌝ }
     ensures { λ r. ⌜ r .0 ≡ x .0 + d .0 ⌝ }
 {
@@ -133,7 +133,7 @@ fn result_is(x: PropVar, d: Element) -> PropVar
 }
 
 // Some result: yes to each of the `size` variables from x on.
-fn some_result(x: PropVar, size: DomainSize) -> [u32; Problem::MAX_SIZE]
+pub fn some_result(x: PropVar, size: DomainSize) -> [u32; Problem::MAX_SIZE]
     requires { ⌜ (size .0 ≤ 8) × (x .0 < 2 ^ 20) ⌝ }
     ensures { λ r. ⌜ propClauseOf (take (size .0) r) ≡ someResult (size .0) (1 + x .0) ⌝ }
 {

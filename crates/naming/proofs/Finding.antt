@@ -62,7 +62,7 @@ notAfter-take (suc n) (d ∷ u) (c ∷ v) h = go h (λ k. notAfter-take n u v k)
     go (inr a) ih = inr (a .0, ih (a .1))
 
 -- the case that the mode shows
-abbrev shownCase : Signature → Option Case → Option Case
+abbrev pub shownCase : Signature → Option Case → Option Case
 shownCase g none = none
 shownCase g (some k) = some (record { size = k .size; values = shownValues (k .size) g (k .values) })
 
@@ -70,11 +70,11 @@ shownCase-orElse : (g : Signature) (a b : Option Case) → shownCase g (orElse a
 shownCase-orElse g none b = refl
 shownCase-orElse g (some k) b = refl
 
-shownCase-sized : (g : Signature) (s : ℕ) (o : Option (List ℕ)) → shownCase g (withSize s o) ≡ withSize s (shownFound s g o)
+pub shownCase-sized : (g : Signature) (s : ℕ) (o : Option (List ℕ)) → shownCase g (withSize s o) ≡ withSize s (shownFound s g o)
 shownCase-sized g s none = refl
 shownCase-sized g s (some ws) = refl
 
-shownCase-first : (g : Signature) (f h : ℕ → Option Case) (ds : List ℕ) → ((d : ℕ) → elem d ds ≡ true → shownCase g (f d) ≡ h d) → shownCase g (firstOf f ds) ≡ firstOf h ds
+pub shownCase-first : (g : Signature) (f h : ℕ → Option Case) (ds : List ℕ) → ((d : ℕ) → elem d ds ≡ true → shownCase g (f d) ≡ h d) → shownCase g (firstOf f ds) ≡ firstOf h ds
 shownCase-first g f h [] e = refl
 shownCase-first g f h (d ∷ ds) e =
     let a : shownCase g (f d) ≡ h d = e d (elem-here d ds) in
@@ -82,7 +82,7 @@ shownCase-first g f h (d ∷ ds) e =
     shownCase-orElse g (f d) (firstOf f ds) ∙ ap (λ (o : Option Case). orElse o (shownCase g (firstOf f ds))) a ∙ ap (λ (o : Option Case). orElse (h d) o) b
 
 -- what is shown of a search of q is a search of p, where q shows p's symbols and has p's mark
-shown-search : (p q : Problem) (low high : ℕ) → shownSymbols (q .symbols) ≡ p .symbols → settled q low high ≡ settled p low high → (o : Option Case)
+pub shown-search : (p q : Problem) (low high : ℕ) → shownSymbols (q .symbols) ≡ p .symbols → settled q low high ≡ settled p low high → (o : Option Case)
     → namedSearchOf q low high o ≡ searchOf p low high (shownCase (q .symbols) o)
 shown-search p q low high e m none = ap nothing m
 shown-search p q low high e m (some k) = ap (λ (g : Signature). found (k .size) (caseText (k .size) g (shownValues (k .size) (q .symbols) (k .values)))) e

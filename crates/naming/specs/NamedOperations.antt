@@ -12,6 +12,7 @@ use Rattle.theory.specs.Valuation.{isValuation, isFunctional, readBack}
 use Rattle.theory.specs.Refusals.{Answer, answer, unplaced, needing, _>>=_, check}
 use Rattle.theory.specs.Problem.{Problem, readProblem}
 use Rattle.theory.specs.CaseText.{Case, caseLength}
+use Rattle.theory.specs.Columns.{placedProblem}
 use Rattle.theory.specs.Least.{smallestModel, settled}
 use Rattle.theory.specs.Operations.{maxSize, maxInstances, isSize, contentOf, writtenText, readBackText, Search, found, nothing, findResult}
 use Rattle.naming.specs.NamedProblem.{inMode, shownSymbols, shownText}
@@ -65,6 +66,11 @@ namedFindResult sheet low high work room = do
 abbrev pub readProblemIn : Bool → List ℕ → Answer Problem
 readProblemIn false sheet = readProblem sheet
 readProblemIn true sheet = readNamed sheet
+
+-- the same, or the refusal with its column,
+abbrev pub placedIn : Bool → List ℕ → Answer Problem
+placedIn false sheet = placedProblem sheet
+placedIn true sheet = placedNamed sheet
 
 -- the problem whose clauses are written and searched,
 abbrev pub modeProblem : Bool → Problem → Problem

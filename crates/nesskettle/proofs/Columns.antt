@@ -9,7 +9,7 @@ use native.Mathlib.Omega.{arith}
 use lib.Dec.{eqb, leb}
 use lib.ListN.{length}
 use Rattle.theory.specs.Propositional.{propCount}
-use Rattle.theory.specs.PropClauses.{instanceCount, workNeeded}
+use Rattle.theory.specs.Dimacs.{dimacs}
 use Rattle.theory.specs.Syntax.{Signature}
 use Rattle.theory.specs.Cells.{cellCount, isModel}
 use Rattle.theory.specs.Valuation.{isValuation, isFunctional, readBack}
@@ -17,7 +17,7 @@ use Rattle.theory.specs.Refusals.{Refusal, Answer, answer, refused, atLine, unp
 use Rattle.theory.specs.Problem.{Problem, readProblem}
 use Rattle.theory.specs.CaseText.{caseLength}
 use Rattle.theory.specs.Columns.{sheetColumn, caseColumn, placedProblem, placedCase}
-use Rattle.theory.specs.Operations.{maxSize, maxInstances, isSize, readAnswer, judgeAnswer, contentOf, writtenText, readBackText, settingText, Search, found, nothing, findResult, findAnswer}
+use Rattle.theory.specs.Operations.{maxSize, maxInstances, isSize, readAnswer, judgeAnswer, readBackText, settingText, Search, found, nothing, findAnswer}
 use Rattle.theory.specs.PlainSearch.{maxPlainCells, plainResult}
 use Rattle.theory.specs.LineForms.{LineForm}
 use Rattle.theory.specs.DueLines.{firstLine, fromLine, dueInSheet, sheetSymbols}
@@ -33,11 +33,13 @@ use Rattle.theory.proofs.ColumnsWithin.{fault-within, within}
 use Rattle.theory.proofs.Explaining.{explaining}
 use Rattle.naming.specs.NamedProblem.{inMode, shownSymbols}
 use Rattle.naming.specs.NamedReading.{namedColumn, placedNamed}
-use Rattle.naming.specs.NamedOperations.{namedContentOf, namedWrittenText, namedReadBackText, namedFindResult, writtenTextIn, readBackTextIn, findResultIn}
+use Rattle.naming.specs.NamedOperations.{namedReadBackText, placedIn, modeProblem, readBackTextIn}
 use Rattle.naming.proofs.NamedFaults.{named-fault, named-told}
+use Rattle.symmetry.specs.ConstantClauses.{propClausesWith, instanceCountWith, workNeededWith}
+use Rattle.symmetry.specs.SymmetricOperations.{shownIn, writtenTextWith, findResultWith}
+use Rattle.symmetry.proofs.Chains.{contentChain, writeChain, findChain, write-chain, find-chain}
 use Rattle.solver.specs.Replies.{Reply, claimsNone, states, readReply}
 use Rattle.solver.specs.SolverText.{Outcome, modelCase, claimedNone, statedCase, outcomeOf, solverText, solverAnswer}
-use Rattle.writing.specs.Texts.{clausesText}
 use Rattle.nesskettle.proofs.Leaving.{refused-text}
 use Rattle.nesskettle.specs.Columns.{InSheet, OfTheSheet, OfTheCase, NoPlace, Columns}
 
@@ -145,18 +147,38 @@ Placed named sheet q = OfTheSheet named sheet q ⊎ NoPlace q
 checked : {B : Type 0} (named : Bool) (sheet : List ℕ) (b : Bool) (p : Refusal) (k : Unit {0} → Answer B) (q : Refusal) → NoPlace p → (check b p >>= k) ≡ refused q → (k tt ≡ refused q → Placed named sheet q) → Placed named sheet q
 checked named sheet b p k q n e f = unrefused (check b p) k q e (λ h. inr (no-place b p q n h)) λ u _ e₁. f e₁
 
-content-placed : (sheet : List ℕ) (size : ℕ) (q : Refusal) → contentOf sheet size ≡ refused q → Placed false sheet q
-unfolding contentOf
-content-placed sheet size q e =
-    unrefused (placedProblem sheet) _ q e (λ h. inl (of-the-sheet sheet q h)) λ (p : Problem) _ e₁.
-    checked false sheet (isSize size) (unplaced 8) _ q (refl, refl) e₁ λ e₂.
-    checked false sheet (leb (instanceCount size (p .symbols) (p .clauses)) maxInstances) (unplaced 9) _ q (refl, refl) e₂ λ e₃. absurd (answer≢refused p q e₃)
+-- the sheet's refusal in either mode
+sheet-placed : (named : Bool) (sheet : List ℕ) (q : Refusal) → placedIn named sheet ≡ refused q → Placed named sheet q
+sheet-placed false sheet q e = inl (of-the-sheet sheet q e)
+sheet-placed true sheet q e = inl (of-the-named-sheet sheet q e)
 
-write-placed : (sheet : List ℕ) (size room : ℕ) (q : Refusal) → writtenText sheet size room ≡ refused q → Placed false sheet q
-unfolding writtenText
-write-placed sheet size room q e =
-    unrefused (contentOf sheet size) _ q e (content-placed sheet size q) λ (p : Problem) _ e₁.
-    checked false sheet (leb (length (clausesText p size)) room) (needing 11 (length (clausesText p size))) _ q (refl, refl) e₁ λ e₂. absurd (answer≢refused (clausesText p size) q e₂)
+content-placed : (named symmetry : Bool) (sheet : List ℕ) (size : ℕ) (q : Refusal) → contentChain named symmetry sheet size ≡ refused q → Placed named sheet q
+unfolding contentChain
+content-placed named symmetry sheet size q e =
+    unrefused (placedIn named sheet) _ q e (sheet-placed named sheet q) λ (p : Problem) _ e₁.
+    let m : Problem = modeProblem named p in
+    checked named sheet (isSize size) (unplaced 8) _ q (refl, refl) e₁ λ e₂.
+    checked named sheet (leb (instanceCountWith symmetry size (m .symbols) (m .clauses)) maxInstances) (unplaced 9) _ q (refl, refl) e₂ λ e₃. absurd (answer≢refused p q e₃)
+
+write-placed : (named symmetry : Bool) (sheet : List ℕ) (size room : ℕ) (q : Refusal) → writtenTextWith named symmetry sheet size room ≡ refused q → Placed named sheet q
+unfolding writeChain
+write-placed named symmetry sheet size room q e =
+    unrefused (contentChain named symmetry sheet size) _ q (sym (write-chain named symmetry sheet size room) ∙ e) (content-placed named symmetry sheet size q) λ (p : Problem) _ e₁.
+    let m : Problem = modeProblem named p in
+    let text : List ℕ = dimacs (propCount size (m .symbols)) (propClausesWith symmetry size (m .symbols) (m .clauses)) in
+    checked named sheet (leb (length text) room) (needing 11 (length text)) _ q (refl, refl) e₁ λ e₂. absurd (answer≢refused text q e₂)
+
+find-placed : (named symmetry : Bool) (sheet : List ℕ) (low high work room : ℕ) (q : Refusal) → findResultWith named symmetry sheet low high work room ≡ refused q → Placed named sheet q
+unfolding findChain
+find-placed named symmetry sheet low high work room q e =
+    unrefused (placedIn named sheet) _ q (sym (find-chain named symmetry sheet low high work room) ∙ e) (sheet-placed named sheet q) λ (p : Problem) _ e₁.
+    let m : Problem = modeProblem named p in
+    let w : ℕ = workNeededWith symmetry high (m .symbols) (m .clauses) in
+    let n : ℕ = caseLength high (shownIn named (m .symbols)) in
+    checked named sheet (leb 1 low && leb high maxSize && leb low high) (unplaced 8) _ q (refl, refl) e₁ λ e₂.
+    checked named sheet (leb (instanceCountWith symmetry high (m .symbols) (m .clauses)) maxInstances) (unplaced 9) _ q (refl, refl) e₂ λ e₃.
+    checked named sheet (leb w work) (needing 10 w) _ q (refl, refl) e₃ λ e₄.
+    checked named sheet (leb n room) (needing 11 n) _ q (refl, refl) e₄ λ e₅. absurd (answer≢refused _ q e₅)
 
 read-back-placed : (sheet : List ℕ) (size : ℕ) (setting : List ℕ) (room : ℕ) (q : Refusal) → readBackText sheet size setting room ≡ refused q → Placed false sheet q
 unfolding readBackText
@@ -166,29 +188,6 @@ read-back-placed sheet size setting room q e =
     checked false sheet (isValuation size (p .symbols) setting) (unplaced 13) _ q (refl, refl) e₂ λ e₃.
     checked false sheet (isFunctional size (p .symbols) setting) (unplaced 14) _ q (refl, refl) e₃ λ e₄.
     checked false sheet (leb (caseLength size (p .symbols)) room) (needing 11 (caseLength size (p .symbols))) _ q (refl, refl) e₄ λ e₅. absurd (answer≢refused _ q e₅)
-
-find-placed : (sheet : List ℕ) (low high work room : ℕ) (q : Refusal) → findResult sheet low high work room ≡ refused q → Placed false sheet q
-unfolding findResult
-find-placed sheet low high work room q e =
-    unrefused (placedProblem sheet) _ q e (λ h. inl (of-the-sheet sheet q h)) λ (p : Problem) _ e₁.
-    checked false sheet (leb 1 low && leb high maxSize && leb low high) (unplaced 8) _ q (refl, refl) e₁ λ e₂.
-    checked false sheet (leb (instanceCount high (p .symbols) (p .clauses)) maxInstances) (unplaced 9) _ q (refl, refl) e₂ λ e₃.
-    checked false sheet (leb (workNeeded high (p .symbols) (p .clauses)) work) (needing 10 (workNeeded high (p .symbols) (p .clauses))) _ q (refl, refl) e₃ λ e₄.
-    checked false sheet (leb (caseLength high (p .symbols)) room) (needing 11 (caseLength high (p .symbols))) _ q (refl, refl) e₄ λ e₅. absurd (answer≢refused _ q e₅)
-
-named-content-placed : (sheet : List ℕ) (size : ℕ) (q : Refusal) → namedContentOf sheet size ≡ refused q → Placed true sheet q
-unfolding namedContentOf
-named-content-placed sheet size q e =
-    unrefused (placedNamed sheet) _ q e (λ h. inl (of-the-named-sheet sheet q h)) λ (p : Problem) _ e₁.
-    checked true sheet (isSize size) (unplaced 8) _ q (refl, refl) e₁ λ e₂.
-    checked true sheet (leb (instanceCount size (inMode p .symbols) (inMode p .clauses)) maxInstances) (unplaced 9) _ q (refl, refl) e₂ λ e₃. absurd (answer≢refused p q e₃)
-
-named-write-placed : (sheet : List ℕ) (size room : ℕ) (q : Refusal) → namedWrittenText sheet size room ≡ refused q → Placed true sheet q
-unfolding namedWrittenText
-named-write-placed sheet size room q e =
-    unrefused (namedContentOf sheet size) _ q e (named-content-placed sheet size q) λ (p : Problem) _ e₁.
-    let n : ℕ = length (clausesText (inMode p) size) in
-    checked true sheet (leb n room) (needing 11 n) _ q (refl, refl) e₁ λ e₂. absurd (answer≢refused (clausesText (inMode p) size) q e₂)
 
 named-read-back-placed : (sheet : List ℕ) (size : ℕ) (setting : List ℕ) (room : ℕ) (q : Refusal) → namedReadBackText sheet size setting room ≡ refused q → Placed true sheet q
 unfolding namedReadBackText
@@ -200,29 +199,10 @@ named-read-back-placed sheet size setting room q e =
     checked true sheet (isFunctional size (inMode p .symbols) setting) (unplaced 14) _ q (refl, refl) e₃ λ e₄.
     checked true sheet (leb n room) (needing 11 n) _ q (refl, refl) e₄ λ e₅. absurd (answer≢refused _ q e₅)
 
-named-find-placed : (sheet : List ℕ) (low high work room : ℕ) (q : Refusal) → namedFindResult sheet low high work room ≡ refused q → Placed true sheet q
-unfolding namedFindResult
-named-find-placed sheet low high work room q e =
-    unrefused (placedNamed sheet) _ q e (λ h. inl (of-the-named-sheet sheet q h)) λ (p : Problem) _ e₁.
-    let w : ℕ = workNeeded high (inMode p .symbols) (inMode p .clauses) in
-    let n : ℕ = caseLength high (shownSymbols (inMode p .symbols)) in
-    checked true sheet (leb 1 low && leb high maxSize && leb low high) (unplaced 8) _ q (refl, refl) e₁ λ e₂.
-    checked true sheet (leb (instanceCount high (inMode p .symbols) (inMode p .clauses)) maxInstances) (unplaced 9) _ q (refl, refl) e₂ λ e₃.
-    checked true sheet (leb w work) (needing 10 w) _ q (refl, refl) e₃ λ e₄.
-    checked true sheet (leb n room) (needing 11 n) _ q (refl, refl) e₄ λ e₅. absurd (answer≢refused _ q e₅)
-
 -- in either mode
-write-placed-in : (named : Bool) (sheet : List ℕ) (size room : ℕ) (q : Refusal) → writtenTextIn named sheet size room ≡ refused q → Placed named sheet q
-write-placed-in false sheet size room q e = write-placed sheet size room q e
-write-placed-in true sheet size room q e = named-write-placed sheet size room q e
-
 read-back-placed-in : (named : Bool) (sheet : List ℕ) (size : ℕ) (setting : List ℕ) (room : ℕ) (q : Refusal) → readBackTextIn named sheet size setting room ≡ refused q → Placed named sheet q
 read-back-placed-in false sheet size setting room q e = read-back-placed sheet size setting room q e
 read-back-placed-in true sheet size setting room q e = named-read-back-placed sheet size setting room q e
-
-find-placed-in : (named : Bool) (sheet : List ℕ) (low high work room : ℕ) (q : Refusal) → findResultIn named sheet low high work room ≡ refused q → Placed named sheet q
-find-placed-in false sheet low high work room q e = find-placed sheet low high work room q e
-find-placed-in true sheet low high work room q e = named-find-placed sheet low high work room q e
 
 plain-placed : (sheet : List ℕ) (low high room : ℕ) (q : Refusal) → plainResult sheet low high room ≡ refused q → Placed false sheet q
 unfolding plainResult
@@ -278,7 +258,7 @@ outcome-refused (answer claimedNone) q e = absurd (answer≢refused _ q e)
 outcome-refused (refused p) q e = ap refused (refused-inj p q e)
 
 -- a search whose answer is refused is refused
-search-refused : (a : Answer Search) (q : Refusal) → findAnswer a ≡ refused q → a ≡ refused q
+pub search-refused : (a : Answer Search) (q : Refusal) → findAnswer a ≡ refused q → a ≡ refused q
 search-refused (answer (found s t)) q e = absurd (answer≢refused _ q e)
 search-refused (answer (nothing b)) q e = absurd (answer≢refused _ q e)
 search-refused (refused p) q e = ap refused (refused-inj p q e)
@@ -289,10 +269,10 @@ columns-of-calls =
       read = λ sheet r c q e. read-placed sheet q (sym (c .answer) ∙ e);
       judge = λ sheet case r c q e. judge-placed sheet case q (sym (c .answer) ∙ e);
       explain = λ sheet case r c q e. judge-placed sheet case q (explaining sheet case .refuses q .0 (sym (c .answer) ∙ e));
-      write = λ sheet size named r output output′ c q e. write-placed-in named sheet size (length output) q (refused-text _ q (sym (c .answer) ∙ e));
+      write = λ sheet size named symmetry r output output′ c q e. write-placed named symmetry sheet size (length output) q (refused-text _ q (sym (c .answer) ∙ e));
       readBack = λ sheet size named setting r output output′ c q e. read-back-placed-in named sheet size setting (length output) q (refused-text _ q (sym (c .answer) ∙ e));
       setting = λ sheet case r output output′ c q e. setting-placed sheet case (length output) q (refused-text _ q (sym (c .answer) ∙ e));
-      find = λ sheet low high named r work work′ output output′ c q e. find-placed-in named sheet low high (length work) (length output) q (search-refused _ q (sym (c .answer) ∙ e));
+      find = λ sheet low high named symmetry r work work′ output output′ c q e. find-placed named symmetry sheet low high (length work) (length output) q (search-refused _ q (sym (c .answer) ∙ e));
       findPlain = λ sheet low high r output output′ c q e. plain-placed sheet low high (length output) q (search-refused _ q (sym (c .answer) ∙ e));
       fromSolver = λ sheet size text r output output′ c q e. solver-placed sheet size text (length output) q (outcome-refused _ q (sym (c .answer) ∙ e));
     }

@@ -12,14 +12,14 @@ use Rattle.theory.specs.Lists.{all, upFrom, elem, same}
 use Rattle.theory.specs.Syntax.{Signature}
 use Rattle.theory.specs.Cells.{cellCount, isModel}
 use Rattle.theory.specs.Propositional.{propCount}
-use Rattle.theory.specs.PropClauses.{instanceCount, workNeeded}
+use Rattle.theory.specs.Dimacs.{dimacs}
 use Rattle.theory.specs.Valuation.{isValuation, isFunctional, readBack}
 use Rattle.theory.specs.Refusals.{Refusal, Answer, answer, refused, atPlace, atLine, unplaced, needing, _>>=_, check, orRefuse}
 use Rattle.theory.specs.Problem.{Problem}
 use Rattle.theory.specs.Columns.{placedProblem, placedCase}
 use Rattle.theory.specs.SheetText.{sheetText}
 use Rattle.theory.specs.CaseText.{caseLength}
-use Rattle.theory.specs.Operations.{maxSize, maxInstances, isSize, readAnswer, judgeAnswer, explainAnswer, lengthAnswer, outputAfter, contentOf, writtenText, readBackText, settingText, Search, found, nothing, findResult, findAnswer, findWork, findOutput}
+use Rattle.theory.specs.Operations.{maxSize, maxInstances, isSize, readAnswer, judgeAnswer, explainAnswer, lengthAnswer, outputAfter, readBackText, settingText, Search, found, nothing, findAnswer, findWork, findOutput}
 use Rattle.theory.specs.PlainSearch.{maxPlainCells, plainResult}
 use Rattle.theory.proofs.Tests.{leb-true, eqb-true, and-left, and-right, or-cases, or-left, or-right}
 use Rattle.theory.proofs.Lists.{elem-append, upFrom-elem}
@@ -29,8 +29,11 @@ use Rattle.theory.proofs.SheetRefusals.{sheet-refusal}
 use Rattle.theory.proofs.CaseRefusals.{case-refusal}
 use Rattle.naming.specs.NamedProblem.{inMode, shownSymbols}
 use Rattle.naming.specs.NamedReading.{placedNamed}
-use Rattle.naming.specs.NamedOperations.{namedContentOf, namedWrittenText, namedReadBackText, namedFindResult, writtenTextIn, readBackTextIn, findResultIn}
+use Rattle.naming.specs.NamedOperations.{namedReadBackText, placedIn, modeProblem, readBackTextIn}
 use Rattle.naming.proofs.NamedFaults.{named-refusal, named-told}
+use Rattle.symmetry.specs.ConstantClauses.{propClausesWith, instanceCountWith, workNeededWith}
+use Rattle.symmetry.specs.SymmetricOperations.{shownIn, writtenTextWith, findResultWith}
+use Rattle.symmetry.proofs.Chains.{contentChain, writeChain, findChain, write-chain, find-chain}
 use Rattle.tptp.specs.Symbols.{problemOf}
 use Rattle.tptp.specs.Places.{placeOf}
 use Rattle.tptp.specs.Tptp.{readFile, clausesOfFile, Fault, faults, sheetIn, tptpText}
@@ -42,7 +45,6 @@ use Rattle.answers.specs.declared.WriteAnswer.{WriteAnswer}
 use Rattle.answers.specs.declared.FindAnswer.{FindAnswer}
 use Rattle.answers.specs.Answers.{lengthIn, findIn}
 use Rattle.answers.specs.Calls.{WritingCall, SearchingCall, PlainSearchingCall}
-use Rattle.writing.specs.Texts.{clausesText}
 use Rattle.nesskettle.specs.Demand1.{readNumbers, judgeNumbers, writeNumbers, readBackNumbers, settingNumbers, findNumbers, plainNumbers, tptpNumbers, solverNumbers, numbersIn, NumberOf, ResultOr, Demand1}
 use Rattle.nesskettle.proofs.TptpNumbers.{isTptpNumber, text-numbers}
 
@@ -120,20 +122,6 @@ explain-within sheet case =
     then judgeNumbers _ _ (sheet-within (12 ∷ []) sheet) λ p.
     then judgeNumbers _ _ (case-within judgeNumbers refl (p .symbols) case) λ k. ends judgeNumbers _
 
--- Write
-content-within : (sheet : List ℕ) (size : ℕ) → Within writeNumbers (contentOf sheet size)
-unfolding contentOf
-content-within sheet size =
-    then writeNumbers _ _ (sheet-within (8 ∷ 9 ∷ 11 ∷ []) sheet) λ p.
-    checks writeNumbers (isSize size) (unplaced 8) _ refl
-    (checks writeNumbers (leb (instanceCount size (p .symbols) (p .clauses)) maxInstances) (unplaced 9) _ refl (ends writeNumbers _))
-
-write-within : (sheet : List ℕ) (size room : ℕ) → Within writeNumbers (writtenText sheet size room)
-unfolding writtenText
-write-within sheet size room =
-    then writeNumbers _ _ (content-within sheet size) λ p.
-    checks writeNumbers (leb (length (clausesText p size)) room) (needing 11 (length (clausesText p size))) _ refl (ends writeNumbers _)
-
 -- Read back
 read-back-within : (sheet : List ℕ) (size : ℕ) (setting : List ℕ) (room : ℕ) → Within readBackNumbers (readBackText sheet size setting room)
 unfolding readBackText
@@ -144,20 +132,7 @@ read-back-within sheet size setting room =
     (checks readBackNumbers (isFunctional size (p .symbols) setting) (unplaced 14) _ refl
     (checks readBackNumbers (leb (caseLength size (p .symbols)) room) (needing 11 (caseLength size (p .symbols))) _ refl (ends readBackNumbers _))))
 
--- Write and Read back in the mode
-named-content-within : (sheet : List ℕ) (size : ℕ) → Within (numbersIn true writeNumbers) (namedContentOf sheet size)
-unfolding namedContentOf
-named-content-within sheet size =
-    then (numbersIn true writeNumbers) _ _ (named-within (8 ∷ 9 ∷ 11 ∷ 21 ∷ []) refl sheet) λ p.
-    checks (numbersIn true writeNumbers) (isSize size) (unplaced 8) _ refl
-    (checks (numbersIn true writeNumbers) (leb (instanceCount size (inMode p .symbols) (inMode p .clauses)) maxInstances) (unplaced 9) _ refl (ends (numbersIn true writeNumbers) _))
-
-named-write-within : (sheet : List ℕ) (size room : ℕ) → Within (numbersIn true writeNumbers) (namedWrittenText sheet size room)
-unfolding namedWrittenText
-named-write-within sheet size room =
-    then (numbersIn true writeNumbers) _ _ (named-content-within sheet size) λ p.
-    checks (numbersIn true writeNumbers) (leb (length (clausesText (inMode p) size)) room) (needing 11 (length (clausesText (inMode p) size))) _ refl (ends (numbersIn true writeNumbers) _)
-
+-- Read back in the mode
 named-read-back-within : (sheet : List ℕ) (size : ℕ) (setting : List ℕ) (room : ℕ) → Within (numbersIn true readBackNumbers) (namedReadBackText sheet size setting room)
 unfolding namedReadBackText
 named-read-back-within sheet size setting room =
@@ -176,39 +151,55 @@ setting-within sheet case room =
     then settingNumbers _ _ (case-within settingNumbers refl (p .symbols) case) λ k.
     checks settingNumbers (leb (propCount (k .size) (p .symbols)) room) (needing 11 (propCount (k .size) (p .symbols))) _ refl (ends settingNumbers _)
 
--- Find
-find-within : (sheet : List ℕ) (low high work room : ℕ) → Within findNumbers (findResult sheet low high work room)
-unfolding findResult
-find-within sheet low high work room =
-    then findNumbers _ _ (sheet-within (8 ∷ 9 ∷ 10 ∷ 11 ∷ []) sheet) λ p.
-    checks findNumbers (leb 1 low && leb high maxSize && leb low high) (unplaced 8) _ refl
-    (checks findNumbers (leb (instanceCount high (p .symbols) (p .clauses)) maxInstances) (unplaced 9) _ refl
-    (checks findNumbers (leb (workNeeded high (p .symbols) (p .clauses)) work) (needing 10 (workNeeded high (p .symbols) (p .clauses))) _ refl
-    (checks findNumbers (leb (caseLength high (p .symbols)) room) (needing 11 (caseLength high (p .symbols))) _ refl (ends findNumbers _))))
+-- Write and Find, with both switches, by the numbers of the sheet and of each check
+module _ (named symmetry : Bool) (sheet : List ℕ) (numbers : List ℕ) (sheets : Within numbers (placedIn named sheet)) (eight : elem 8 numbers ≡ true) (nine : elem 9 numbers ≡ true) (eleven : elem 11 numbers ≡ true) where
+  content-within : (size : ℕ) → Within numbers (contentChain named symmetry sheet size)
+  unfolding contentChain
+  content-within size =
+      then numbers _ _ sheets λ (p : Problem).
+      let m : Problem = modeProblem named p in
+      checks numbers (isSize size) (unplaced 8) _ eight
+      (checks numbers (leb (instanceCountWith symmetry size (m .symbols) (m .clauses)) maxInstances) (unplaced 9) _ nine (ends numbers _))
 
--- Find in the mode
-named-find-within : (sheet : List ℕ) (low high work room : ℕ) → Within (numbersIn true findNumbers) (namedFindResult sheet low high work room)
-unfolding namedFindResult
-named-find-within sheet low high work room =
-    then (numbersIn true findNumbers) _ _ (named-within (8 ∷ 9 ∷ 10 ∷ 11 ∷ 21 ∷ []) refl sheet) λ p.
-    checks (numbersIn true findNumbers) (leb 1 low && leb high maxSize && leb low high) (unplaced 8) _ refl
-    (checks (numbersIn true findNumbers) (leb (instanceCount high (inMode p .symbols) (inMode p .clauses)) maxInstances) (unplaced 9) _ refl
-    (checks (numbersIn true findNumbers) (leb (workNeeded high (inMode p .symbols) (inMode p .clauses)) work) (needing 10 (workNeeded high (inMode p .symbols) (inMode p .clauses))) _ refl
-    (checks (numbersIn true findNumbers) (leb (caseLength high (shownSymbols (inMode p .symbols))) room) (needing 11 (caseLength high (shownSymbols (inMode p .symbols)))) _ refl
-    (ends (numbersIn true findNumbers) _))))
+  write-within : (size room : ℕ) → Within numbers (writeChain named symmetry sheet size room)
+  unfolding writeChain
+  write-within size room =
+      then numbers _ _ (content-within size) λ (p : Problem).
+      let m : Problem = modeProblem named p in
+      let n : ℕ = length (dimacs (propCount size (m .symbols)) (propClausesWith symmetry size (m .symbols) (m .clauses))) in
+      checks numbers (leb n room) (needing 11 n) _ eleven (ends numbers _)
+
+  find-within : elem 10 numbers ≡ true → (low high work room : ℕ) → Within numbers (findChain named symmetry sheet low high work room)
+  unfolding findChain
+  find-within ten low high work room =
+      then numbers _ _ sheets λ (p : Problem).
+      let m : Problem = modeProblem named p in
+      let w : ℕ = workNeededWith symmetry high (m .symbols) (m .clauses) in
+      let n : ℕ = caseLength high (shownIn named (m .symbols)) in
+      checks numbers (leb 1 low && leb high maxSize && leb low high) (unplaced 8) _ eight
+      (checks numbers (leb (instanceCountWith symmetry high (m .symbols) (m .clauses)) maxInstances) (unplaced 9) _ nine
+      (checks numbers (leb w work) (needing 10 w) _ ten (checks numbers (leb n room) (needing 11 n) _ eleven (ends numbers _))))
 
 -- in either mode
-write-within-in : (named : Bool) (sheet : List ℕ) (size room : ℕ) → Within (numbersIn named writeNumbers) (writtenTextIn named sheet size room)
-write-within-in false sheet size room = write-within sheet size room
-write-within-in true sheet size room = named-write-within sheet size room
+write-within-in : (named symmetry : Bool) (sheet : List ℕ) (size room : ℕ) → Within (numbersIn named writeNumbers) (writtenTextWith named symmetry sheet size room)
+write-within-in false symmetry sheet size room =
+    subst (Within writeNumbers) (sym (write-chain false symmetry sheet size room))
+    (write-within false symmetry sheet writeNumbers (sheet-within (8 ∷ 9 ∷ 11 ∷ []) sheet) refl refl refl size room)
+write-within-in true symmetry sheet size room =
+    subst (Within (numbersIn true writeNumbers)) (sym (write-chain true symmetry sheet size room))
+    (write-within true symmetry sheet (numbersIn true writeNumbers) (named-within (8 ∷ 9 ∷ 11 ∷ 21 ∷ []) refl sheet) refl refl refl size room)
+
+find-within-in : (named symmetry : Bool) (sheet : List ℕ) (low high work room : ℕ) → Within (numbersIn named findNumbers) (findResultWith named symmetry sheet low high work room)
+find-within-in false symmetry sheet low high work room =
+    subst (Within findNumbers) (sym (find-chain false symmetry sheet low high work room))
+    (find-within false symmetry sheet findNumbers (sheet-within (8 ∷ 9 ∷ 10 ∷ 11 ∷ []) sheet) refl refl refl refl low high work room)
+find-within-in true symmetry sheet low high work room =
+    subst (Within (numbersIn true findNumbers)) (sym (find-chain true symmetry sheet low high work room))
+    (find-within true symmetry sheet (numbersIn true findNumbers) (named-within (8 ∷ 9 ∷ 10 ∷ 11 ∷ 21 ∷ []) refl sheet) refl refl refl refl low high work room)
 
 read-back-within-in : (named : Bool) (sheet : List ℕ) (size : ℕ) (setting : List ℕ) (room : ℕ) → Within (numbersIn named readBackNumbers) (readBackTextIn named sheet size setting room)
 read-back-within-in false sheet size setting room = read-back-within sheet size setting room
 read-back-within-in true sheet size setting room = named-read-back-within sheet size setting room
-
-find-within-in : (named : Bool) (sheet : List ℕ) (low high work room : ℕ) → Within (numbersIn named findNumbers) (findResultIn named sheet low high work room)
-find-within-in false sheet low high work room = find-within sheet low high work room
-find-within-in true sheet low high work room = named-find-within sheet low high work room
 
 -- Find plain
 plain-within : (sheet : List ℕ) (low high room : ℕ) → Within plainNumbers (plainResult sheet low high room)
@@ -308,15 +299,15 @@ demand1-of-calls =
       read = λ sheet r c. subst (ResultOr (NumberOf readNumbers)) (sym (c .answer)) (within-result-or readNumbers (readAnswer sheet) (read-within sheet));
       judge = λ sheet case r c. subst (ResultOr (NumberOf judgeNumbers)) (sym (c .answer)) (within-result-or judgeNumbers (judgeAnswer sheet case) (judge-within sheet case));
       explain = λ sheet case r c. subst (ResultOr (NumberOf judgeNumbers)) (sym (c .answer)) (within-result-or judgeNumbers (explainAnswer sheet case) (explain-within sheet case));
-      write = λ sheet size named r output output′ c.
-          writing-kept (numbersIn named writeNumbers) (writtenTextIn named sheet size (length output)) r output output′ c (write-within-in named sheet size (length output));
+      write = λ sheet size named symmetry r output output′ c.
+          writing-kept (numbersIn named writeNumbers) (writtenTextWith named symmetry sheet size (length output)) r output output′ c (write-within-in named symmetry sheet size (length output));
       readBack = λ sheet size named setting r output output′ c.
           writing-kept (numbersIn named readBackNumbers) (readBackTextIn named sheet size setting (length output)) r output output′ c (read-back-within-in named sheet size setting (length output));
       setting = λ sheet case r output output′ c.
           writing-kept settingNumbers (settingText sheet case (length output)) r output output′ c (setting-within sheet case (length output));
-      find = λ sheet low high named r work work′ output output′ c.
-          searching-kept (numbersIn named findNumbers) (findResultIn named sheet low high (length work) (length output)) r work work′ output output′ c
-          (find-within-in named sheet low high (length work) (length output));
+      find = λ sheet low high named symmetry r work work′ output output′ c.
+          searching-kept (numbersIn named findNumbers) (findResultWith named symmetry sheet low high (length work) (length output)) r work work′ output output′ c
+          (find-within-in named symmetry sheet low high (length work) (length output));
       findPlain = λ sheet low high r output output′ c. plain-kept plainNumbers (plainResult sheet low high (length output)) r output output′ c (plain-within sheet low high (length output));
       fromTptp = λ text r output output′ c. writing-kept tptpNumbers (tptpText text (length output)) r output output′ c (tptp-within text (length output));
       fromSolver = λ sheet size text r output output′ c. outcome-kept solverNumbers (solverText sheet size text (length output)) r output output′ c (solver-within sheet size text (length output));

@@ -28,7 +28,7 @@ use Rattle.answers.specs.declared.FindAnswer.{FindAnswer}
 use Rattle.answers.specs.declared.FindAnswer.the-variants.{Found, Nothing, Refused}
 use Rattle.answers.specs.Answers.{refusalIn, judgeIn, findIn}
 use Rattle.answers.specs.Calls.{JudgeCall, WriteCall, SearchingCall, FindCall}
-use Rattle.writing.specs.Texts.{clausesText}
+use Rattle.nesskettle.specs.Texts.{clausesText}
 use Rattle.nesskettle.specs.Leaving.{Leaves}
 use Rattle.nesskettle.specs.Models.{IsTrue}
 use Rattle.nesskettle.specs.Demand2.{CaseOf, Judges, Writes, NoModel, LeastModel, Finds, Demand2}
@@ -102,7 +102,7 @@ written-as : (named : Bool) (sheet : List ℕ) (size room : ℕ) (text : List �
 written-as false sheet size room text e = written-plain sheet size room text e
 written-as true sheet size room text e = written-named sheet size room text e
 
-writes : (sheet : List ℕ) (size : ℕ) (named : Bool) (r : WriteAnswer) (output output′ : List ℕ) → WriteCall sheet size named r output output′ → (text : List ℕ) → Leaves r output′ text → Writes sheet size named text
+writes : (sheet : List ℕ) (size : ℕ) (named : Bool) (r : WriteAnswer) (output output′ : List ℕ) → WriteCall sheet size named false r output output′ → (text : List ℕ) → Leaves r output′ text → Writes sheet size named text
 writes sheet size named r output output′ w text l = written-as named sheet size (length output) text (left-text (writtenTextIn named sheet size (length output)) r output output′ w text l)
 
 -- Find's answers
@@ -183,7 +183,7 @@ case-stands result r work work′ output output′ f size n e =
     )
 
 module _ (sheet : List ℕ) (p : Problem) (low high : ℕ) (named : Bool) (read : readProblemIn named sheet ≡ answer p) (r : FindAnswer) (work work′ output output′ : List ℕ)
-    (f : FindCall sheet low high named r work work′ output output′) where
+    (f : FindCall sheet low high named false r work work′ output output′) where
   abbrev result : Answer Search
   result = findResultIn named sheet low high (length work) (length output)
 

@@ -23,7 +23,7 @@ use Rattle.naming.specs.NamedOperations.{namedContentOf, namedWrittenText, name
 use Rattle.naming.proofs.Reading.{readNamed-taken, taken-sheet, named-read}
 use Rattle.naming.proofs.Naming.{naming}
 use Rattle.naming.proofs.ReadingBack.{named-reading-back}
-use Rattle.writing.specs.Texts.{clausesText}
+use Rattle.nesskettle.specs.Texts.{clausesText}
 use Rattle.nesskettle.specs.Models.{Model}
 use Rattle.nesskettle.specs.Demand3.{ReadBackAs, AlwaysReadBackAs, Demand3, Demand3Holds}
 use Rattle.nesskettle.proofs.Leaving.{leaves, left-text}

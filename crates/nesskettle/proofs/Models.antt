@@ -61,7 +61,7 @@ sheet-model-is p size text m =
       truth = true-if-model p text (m .case) (m .read) (ap (λ (s : ℕ). isModel s (p .symbols) (p .clauses) (m .case .values)) (m .sized) ∙ m .model);
     }
 
-pub is-sheet-model : (p : Problem) (size : ℕ) (text : List ℕ) → Model p size text → SheetModel p size text
+unfoldable pub is-sheet-model : (p : Problem) (size : ℕ) (text : List ℕ) → Model p size text → SheetModel p size text
 is-sheet-model p size text m =
     record {
       case = m .case;

@@ -51,14 +51,14 @@ same-search sheet low high x y a b =
     sym (a .result) ∙ ap (λ (p : Problem). searchOf p low high (smallestModel p low high)) same ∙ b .result
 
 -- a call that is not refused has a result
-taken : (a : Answer Search) (r : FindAnswer) → findIn r ≡ findAnswer a → NotRefused r → (x : Search) × (a ≡ answer x)
+pub taken : (a : Answer Search) (r : FindAnswer) → findIn r ≡ findAnswer a → NotRefused r → (x : Search) × (a ≡ answer x)
 taken (answer x) r e h = (x, refl)
 taken (refused q) (find.Found s n) e h = absurd (answer≢refused (foundCase s n) q e)
 taken (refused q) (find.Nothing b) e h = absurd (answer≢refused (noCase b) q e)
 taken (refused q) (find.Refused p) e h = absurd (h p refl)
 
 -- the answers that say a case, or none
-case-answered : (r : FindAnswer) (s n : ℕ) → findIn r ≡ answer (foundCase s n) → r ≡ find.Found s n
+pub case-answered : (r : FindAnswer) (s n : ℕ) → findIn r ≡ answer (foundCase s n) → r ≡ find.Found s n
 case-answered (find.Found t m) s n e =
     let k : foundCase t m ≡ foundCase s n = answer-inj (foundCase t m) (foundCase s n) e in
     let a : t ≡ s = cc in
@@ -67,7 +67,7 @@ case-answered (find.Found t m) s n e =
 case-answered (find.Nothing b) s n e = let z : _≡_ {A = ℕ} 0 1 = cc in absurd (omega arith)
 case-answered (find.Refused q) s n e = absurd (answer≢refused (foundCase s n) (refusalIn q) (sym e))
 
-none-answered : (r : FindAnswer) (b : Bool) → findIn r ≡ answer (noCase b) → r ≡ find.Nothing b
+pub none-answered : (r : FindAnswer) (b : Bool) → findIn r ≡ answer (noCase b) → r ≡ find.Nothing b
 none-answered (find.Found s n) b e = let z : _≡_ {A = ℕ} 0 1 = cc in absurd (omega arith)
 none-answered (find.Nothing d) b e = let k : d ≡ b = cc in ap (λ (b : Bool). find.Nothing b) k
 none-answered (find.Refused q) b e = absurd (answer≢refused (noCase b) (refusalIn q) (sym e))

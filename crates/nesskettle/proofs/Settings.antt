@@ -72,7 +72,7 @@ module _ (sheet : List ℕ) (p : Problem) (read : readProblem sheet ≡ answer p
       (λ s. inr (s .0, always-back size σ (s .0) (s .1) r output output′ c fits, always-set size (s .0) σ (s .2)))
       (theorem .settingAgain size σ sized)
 
-  satisfies : (size : ℕ) → contentOf sheet size ≡ answer p → (w : WriteAnswer) (output output′ text : List ℕ) → WriteCall sheet size false w output output′ → Leaves w output′ text
+  satisfies : (size : ℕ) → contentOf sheet size ≡ answer p → (w : WriteAnswer) (output output′ text : List ℕ) → WriteCall sheet size false false w output output′ → Leaves w output′ text
       → (case σ : List ℕ) (k : Case) → readCase (p .symbols) case ≡ answer k → k .size ≡ size → SettingAs sheet case σ → Satisfying p size text σ ↔ Model p size case
   satisfies size content w output output′ text c l case σ k r sized a =
       let n : ℕ = length output in

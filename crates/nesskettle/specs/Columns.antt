@@ -56,13 +56,13 @@ pub record Columns : Type 0 where
   pub read : (sheet : List ℕ) (r : ReadAnswer) → ReadCall sheet r → (q : Refusal) → readIn r ≡ refused q → OfTheSheet false sheet q
   pub judge : (sheet case : List ℕ) (r : JudgeAnswer) → JudgeCall sheet case r → (q : Refusal) → judgeIn r ≡ refused q → OfTheSheet false sheet q ⊎ OfTheCase sheet case q
   pub explain : (sheet case : List ℕ) (r : ExplainAnswer) → ExplainCall sheet case r → (q : Refusal) → explainIn r ≡ refused q → OfTheSheet false sheet q ⊎ OfTheCase sheet case q
-  pub write : (sheet : List ℕ) (size : ℕ) (named : Bool) (r : WriteAnswer) (output output′ : List ℕ) → WriteCall sheet size named r output output′
+  pub write : (sheet : List ℕ) (size : ℕ) (named symmetry : Bool) (r : WriteAnswer) (output output′ : List ℕ) → WriteCall sheet size named symmetry r output output′
       → (q : Refusal) → lengthIn r ≡ refused q → OfTheSheet named sheet q ⊎ NoPlace q
   pub readBack : (sheet : List ℕ) (size : ℕ) (named : Bool) (setting : List ℕ) (r : WriteAnswer) (output output′ : List ℕ) → ReadBackCall sheet size named setting r output output′
       → (q : Refusal) → lengthIn r ≡ refused q → OfTheSheet named sheet q ⊎ NoPlace q
   pub setting : (sheet case : List ℕ) (r : WriteAnswer) (output output′ : List ℕ) → SettingCall sheet case r output output′
       → (q : Refusal) → lengthIn r ≡ refused q → OfTheSheet false sheet q ⊎ (OfTheCase sheet case q ⊎ NoPlace q)
-  pub find : (sheet : List ℕ) (low high : ℕ) (named : Bool) (r : FindAnswer) (work work′ output output′ : List ℕ) → FindCall sheet low high named r work work′ output output′
+  pub find : (sheet : List ℕ) (low high : ℕ) (named symmetry : Bool) (r : FindAnswer) (work work′ output output′ : List ℕ) → FindCall sheet low high named symmetry r work work′ output output′
       → (q : Refusal) → findIn r ≡ refused q → OfTheSheet named sheet q ⊎ NoPlace q
   pub findPlain : (sheet : List ℕ) (low high : ℕ) (r : FindAnswer) (output output′ : List ℕ) → PlainCall sheet low high r output output′
       → (q : Refusal) → findIn r ≡ refused q → OfTheSheet false sheet q ⊎ NoPlace q

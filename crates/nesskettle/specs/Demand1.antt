@@ -72,13 +72,13 @@ pub record Demand1 : Type 0 where
   pub read : (sheet : List ℕ) (r : ReadAnswer) → ReadCall sheet r → ResultOr (NumberOf readNumbers) (readIn r)
   pub judge : (sheet case : List ℕ) (r : JudgeAnswer) → JudgeCall sheet case r → ResultOr (NumberOf judgeNumbers) (judgeIn r)
   pub explain : (sheet case : List ℕ) (r : ExplainAnswer) → ExplainCall sheet case r → ResultOr (NumberOf judgeNumbers) (explainIn r)
-  pub write : (sheet : List ℕ) (size : ℕ) (named : Bool) (r : WriteAnswer) (output output′ : List ℕ) → WriteCall sheet size named r output output′
+  pub write : (sheet : List ℕ) (size : ℕ) (named symmetry : Bool) (r : WriteAnswer) (output output′ : List ℕ) → WriteCall sheet size named symmetry r output output′
       → ResultOr (λ q. NumberOf (numbersIn named writeNumbers) q × (output′ ≡ output)) (lengthIn r)
   pub readBack : (sheet : List ℕ) (size : ℕ) (named : Bool) (setting : List ℕ) (r : WriteAnswer) (output output′ : List ℕ) → ReadBackCall sheet size named setting r output output′
       → ResultOr (λ q. NumberOf (numbersIn named readBackNumbers) q × (output′ ≡ output)) (lengthIn r)
   pub setting : (sheet case : List ℕ) (r : WriteAnswer) (output output′ : List ℕ) → SettingCall sheet case r output output′
       → ResultOr (λ q. NumberOf settingNumbers q × (output′ ≡ output)) (lengthIn r)
-  pub find : (sheet : List ℕ) (low high : ℕ) (named : Bool) (r : FindAnswer) (work work′ output output′ : List ℕ) → FindCall sheet low high named r work work′ output output′
+  pub find : (sheet : List ℕ) (low high : ℕ) (named symmetry : Bool) (r : FindAnswer) (work work′ output output′ : List ℕ) → FindCall sheet low high named symmetry r work work′ output output′
       → ResultOr (λ q. NumberOf (numbersIn named findNumbers) q × (work′ ≡ work) × (output′ ≡ output)) (findIn r)
   pub findPlain : (sheet : List ℕ) (low high : ℕ) (r : FindAnswer) (output output′ : List ℕ) → PlainCall sheet low high r output output′
       → ResultOr (λ q. NumberOf plainNumbers q × (output′ ≡ output)) (findIn r)

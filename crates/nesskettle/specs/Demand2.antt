@@ -1,8 +1,9 @@
--- Demand 2 of the calls: truth in a finite interpretation decides what Judge, Write and Find answer; of Write and Find in the mode of named terms too, `named` being the switch.
+-- Demand 2 of the calls: truth in a finite interpretation decides what Judge, Write and Find answer; of Write and Find in the mode of named terms too, `named` being the switch. "No others" and the least model are
+-- of Write not asked for the constant clauses and of Find told no: the switch after `named` is `false`. What is said of the other calls is `Symmetry`.
 use Prim.Native.Nat.{ℕ, _≤_, _<_}
 use mathlib.Core.Path.{_≡_}
 use mathlib.Core.Logic.{_⊎_, _↔_}
-use mathlib.Core.Bool.{Bool}
+use mathlib.Core.Bool.{Bool, false}
 use mathlib.Core.List.{List}
 use lib.ListN.{take}
 use Rattle.theory.specs.Refusals.{answer}
@@ -17,7 +18,7 @@ use Rattle.answers.specs.declared.WriteAnswer.{WriteAnswer}
 use Rattle.answers.specs.declared.FindAnswer.{FindAnswer}
 use Rattle.answers.specs.declared.FindAnswer.the-variants.{Found, Nothing, Refused}
 use Rattle.answers.specs.Calls.{JudgeCall, WriteCall, FindCall}
-use Rattle.writing.specs.Texts.{clausesText}
+use Rattle.nesskettle.specs.Texts.{clausesText}
 use Rattle.nesskettle.specs.Leaving.{Leaves}
 use Rattle.nesskettle.specs.Models.{IsTrue, Model}
 
@@ -33,7 +34,7 @@ pub record Judges (sheet text : List ℕ) (r : JudgeAnswer) : Type 0 where
   pub yes : (r ≡ Yes) ↔ ((c : CaseOf sheet text) × IsTrue (c .problem) (c .case))
   pub no : (r ≡ No) ↔ ((c : CaseOf sheet text) × (IsTrue (c .problem) (c .case) → ⊥))
 
--- of the text that a call of Write leaves: the clauses are those of document 01's steps, taken on the clauses that the mode has, and no others
+-- of the text that a call of Write leaves, not asked: the clauses are those of document 01's steps, taken on the clauses that the mode has, and no others
 pub record Writes (sheet : List ℕ) (size : ℕ) (named : Bool) (text : List ℕ) : Type 0 where
   pub problem : Problem
   pub content : contentOfIn named sheet size ≡ answer problem
@@ -49,7 +50,7 @@ pub record LeastModel (p : Problem) (low high size : ℕ) (text : List ℕ) : Ty
   pub searched : (low ≤ size) × (size ≤ high)
   pub least : (t : ℕ) (d : List ℕ) → low ≤ t → t ≤ high → (m : Model p t d) → (size < t) ⊎ ((size ≡ t) × NotAfter (model .case .values) (m .case .values))
 
--- of a call of Find that is not refused: it finds the least model at the smallest size that has one, or it says none; none exactly if no case of a searched size is a model
+-- of a call of Find told no that is not refused: it finds the least model at the smallest size that has one, or it says none; none exactly if no case of a searched size is a model
 pub record Finds (p : Problem) (low high : ℕ) (r : FindAnswer) (output : List ℕ) : Type 0 where
   pub found : (size n : ℕ) → r ≡ Found size n → LeastModel p low high size (take n output)
   pub saysNone : (settled : Bool) → r ≡ Nothing settled → NoModel p low high
@@ -58,7 +59,7 @@ pub record Finds (p : Problem) (low high : ℕ) (r : FindAnswer) (output : List 
 -- it holds of every call
 pub record Demand2 : Type 0 where
   pub judge : (sheet text : List ℕ) (r : JudgeAnswer) → JudgeCall sheet text r → Judges sheet text r
-  pub write : (sheet : List ℕ) (size : ℕ) (named : Bool) (r : WriteAnswer) (output output′ : List ℕ) → WriteCall sheet size named r output output′
+  pub write : (sheet : List ℕ) (size : ℕ) (named : Bool) (r : WriteAnswer) (output output′ : List ℕ) → WriteCall sheet size named false r output output′
       → (text : List ℕ) → Leaves r output′ text → Writes sheet size named text
   pub find : (sheet : List ℕ) (p : Problem) (low high : ℕ) (named : Bool) → readProblemIn named sheet ≡ answer p
-      → (r : FindAnswer) (work work′ output output′ : List ℕ) → FindCall sheet low high named r work work′ output output′ → Finds p low high r output′
+      → (r : FindAnswer) (work work′ output output′ : List ℕ) → FindCall sheet low high named false r work work′ output output′ → Finds p low high r output′

@@ -1,9 +1,9 @@
--- Demand 3 of the calls: the settings that satisfy the clauses that Write leaves are read back, one to one, to the models of the sheet as it was handed in.
+-- Demand 3 of the calls: the settings that satisfy the clauses that Write leaves, not asked for the constant clauses, are read back, one to one, to the models of the sheet as it was handed in.
 -- In the mode of named terms too, `named` being the switch: then settings have the helpers' cells, and the clauses are those that the mode has.
 use Prim.Native.Nat.{ℕ, _≤_}
 use mathlib.Core.Path.{_≡_}
 use mathlib.Core.Logic.{_↔_}
-use mathlib.Core.Bool.{Bool}
+use mathlib.Core.Bool.{Bool, false}
 use mathlib.Core.List.{List}
 use lib.ListN.{length}
 use Rattle.theory.specs.Refusals.{answer}
@@ -13,7 +13,7 @@ use Rattle.theory.specs.Claims.ReadingBack.{Satisfying}
 use Rattle.naming.specs.NamedOperations.{modeProblem, contentOfIn}
 use Rattle.answers.specs.declared.WriteAnswer.{WriteAnswer}
 use Rattle.answers.specs.Calls.{WriteCall, ReadBackCall}
-use Rattle.writing.specs.Texts.{clausesText}
+use Rattle.nesskettle.specs.Texts.{clausesText}
 use Rattle.nesskettle.specs.Leaving.{Leaves}
 use Rattle.nesskettle.specs.Models.{Model}
 
@@ -45,5 +45,5 @@ pub record Demand3 (sheet : List ℕ) (p : Problem) (size : ℕ) (named : Bool) 
 -- it holds for every sheet and size that are not refused for their content, and every call of Write with an output that is large enough
 abbrev pub Demand3Holds : Type 0
 Demand3Holds = (sheet : List ℕ) (p : Problem) (size : ℕ) (named : Bool) → contentOfIn named sheet size ≡ answer p
-    → (r : WriteAnswer) (output output′ : List ℕ) → WriteCall sheet size named r output output′ → length (clausesText (modeProblem named p) size) ≤ length output
+    → (r : WriteAnswer) (output output′ : List ℕ) → WriteCall sheet size named false r output output′ → length (clausesText (modeProblem named p) size) ≤ length output
     → Leaves r output′ (clausesText (modeProblem named p) size) × Demand3 sheet p size named (clausesText (modeProblem named p) size)

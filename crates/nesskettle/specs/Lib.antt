@@ -1,5 +1,6 @@
 pub mod Leaving
 pub mod Models
+pub mod Texts
 pub mod Demand1
 pub mod Demand2
 pub mod Demand3
@@ -11,3 +12,4 @@ pub mod FromTptp
 pub mod FromSolver
 pub mod SameAnswers
 pub mod Named
+pub mod Symmetry

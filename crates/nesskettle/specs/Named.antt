@@ -1,8 +1,8 @@
--- The mode of named terms, of the calls (document 02, slip 9): Find in the mode gives the same answers as plain, where neither is refused. That the demands hold in the mode too
+-- The mode of named terms, of the calls (document 02, slip 9): Find in the mode gives the same answers as plain, where neither is refused, with one setting of `symmetry` on both sides. That the demands hold in the mode too
 -- is said where they are: `Demand1`, `Demand2` and `Demand3` have the switch, and so have `Settles` and `Columns`.
 use Prim.Native.Nat.{ℕ}
 use mathlib.Core.Path.{_≡_}
-use mathlib.Core.Bool.{true, false}
+use mathlib.Core.Bool.{Bool, true, false}
 use mathlib.Core.List.{List}
 use lib.ListN.{take}
 use Rattle.answers.specs.declared.FindAnswer.{FindAnswer}
@@ -17,6 +17,6 @@ pub record AnswersAlike (r : FindAnswer) (output : List ℕ) (s : FindAnswer) (o
 
 -- it holds of a plain call and a call in the mode, whatever work and output are lent to each
 abbrev pub NamedAnswersHold : Type 0
-NamedAnswersHold = (sheet : List ℕ) (low high : ℕ)
-    → (r : FindAnswer) (work work′ output output′ : List ℕ) → FindCall sheet low high false r work work′ output output′ → NotRefused r
-    → (s : FindAnswer) (area area′ other other′ : List ℕ) → FindCall sheet low high true s area area′ other other′ → NotRefused s → AnswersAlike r output′ s other′
+NamedAnswersHold = (sheet : List ℕ) (low high : ℕ) (symmetry : Bool)
+    → (r : FindAnswer) (work work′ output output′ : List ℕ) → FindCall sheet low high false symmetry r work work′ output output′ → NotRefused r
+    → (s : FindAnswer) (area area′ other other′ : List ℕ) → FindCall sheet low high true symmetry s area area′ other other′ → NotRefused s → AnswersAlike r output′ s other′

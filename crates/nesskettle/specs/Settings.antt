@@ -1,5 +1,5 @@
 -- Setting, of the calls (document 02, slip 3): Read back of what Setting left leaves the same case, Setting of what Read back left leaves the same setting, and the setting of a case
--- satisfies the clauses that Write left exactly if the case is a model.
+-- satisfies the clauses that Write left, not asked for the constant clauses, exactly if the case is a model.
 use Prim.Native.Nat.{ℕ, _≤_}
 use mathlib.Core.Path.{_≡_}
 use mathlib.Core.Logic.{_⊎_, _↔_}
@@ -46,7 +46,7 @@ pub record SettingCalls (sheet : List ℕ) (p : Problem) : Type 0 where
   pub settingAgain : (size : ℕ) (σ : List ℕ) → isSize size ≡ true → (r : WriteAnswer) (output output′ : List ℕ) → ReadBackCall sheet size false σ r output output′
       → caseLength size (p .symbols) ≤ length output → SettingRefused r ⊎ ((case : List ℕ) × Leaves r output′ case × AlwaysSettingAs sheet p size case σ)
   -- where sheet and size are not refused for their content, what Setting left of a case of that size satisfies the text that Write left exactly if the case is a model
-  pub satisfies : (size : ℕ) → contentOf sheet size ≡ answer p → (w : WriteAnswer) (output output′ text : List ℕ) → WriteCall sheet size false w output output′ → Leaves w output′ text
+  pub satisfies : (size : ℕ) → contentOf sheet size ≡ answer p → (w : WriteAnswer) (output output′ text : List ℕ) → WriteCall sheet size false false w output output′ → Leaves w output′ text
       → (case σ : List ℕ) (k : Case) → readCase (p .symbols) case ≡ answer k → k .size ≡ size → SettingAs sheet case σ → Satisfying p size text σ ↔ Model p size case
 
 -- it holds of every sheet that is read

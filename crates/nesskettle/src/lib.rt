@@ -1,10 +1,10 @@
 // The operations of documents 01 and 02. Each answers every byte string, number and lent buffer with a result or a numbered refusal, and
 // ends. A promise is a record of `answers/specs/Calls` (From TPTP's of `importing/specs/Calls`, From solver's of `accepting/specs/Calls`):
-// equations with the definitions of `theory/specs/Operations`, `naming/specs/NamedOperations`, `theory/specs/PlainSearch`, `tptp/specs/Tptp` and `solver/specs/SolverText`, where
+// equations with the definitions of `theory/specs/Operations`, `naming/specs/NamedOperations`, `symmetry/specs/SymmetricOperations`, `theory/specs/PlainSearch`, `tptp/specs/Tptp` and `solver/specs/SolverText`, where
 // `answers/specs/Answers` says what each answer means. What is lent as `&` cannot change; what is lent as `&mut` is told to the last byte
 // and number. The demands (`specs/Demand1` to `specs/Demand3`) and what is asked of From TPTP (`specs/FromTptp`), From solver
 // (`specs/FromSolver`), Explain (`specs/Explains`) and Setting (`specs/Settings`), what settled means (`specs/Settles`), that Find and Find
-// plain answer the same (`specs/SameAnswers`), and where refusals point (`specs/Columns`), are proved of these records.
+// plain answer the same (`specs/SameAnswers`), what the mode of named terms (`specs/Named`) and the constant clauses (`specs/Symmetry`) do to the answers, and where refusals point (`specs/Columns`), are proved of these records.
 mod reading;
 
 use accepting::SolverAnswer;
@@ -47,11 +47,11 @@ pub fn explain(sheet: &[u8], case: &[u8]) -> ExplainAnswer
     explain_case(sheet, case)
 }
 
-// Write: the clauses of the sheet at a size, as a text at the front of the output; of its clauses as they stand, or with named terms.
-pub fn write(sheet: &[u8], size: u64, named: bool, output: &mut [u8]) -> WriteAnswer
-    ensures { λ r. ⌜ WriteCall (now (sheet .entry)) size named r (now (output .entry)) (now (output .exit)) ⌝ }
+// Write: the clauses of the sheet at a size, as a text at the front of the output; of its clauses as they stand, or with named terms; with the constant clauses if they are asked for.
+pub fn write(sheet: &[u8], size: u64, named: bool, symmetry: bool, output: &mut [u8]) -> WriteAnswer
+    ensures { λ r. ⌜ WriteCall (now (sheet .entry)) size named symmetry r (now (output .entry)) (now (output .exit)) ⌝ }
 {
-    write_clauses(sheet, size, named, output)
+    write_clauses(sheet, size, named, symmetry, output)
 }
 
 // Read back: the case that the setting says, at the front of the output; a setting of Write's clauses as they stand, or with named terms.
@@ -74,21 +74,23 @@ pub fn setting(sheet: &[u8], case: &[u8], output: &mut [u8]) -> WriteAnswer
     write_case_setting(sheet, case, output)
 }
 
-// Find: the least model at the smallest size from low to high that has one, as a case at the front of the output; or none. It searches the sheet's clauses as they stand, or with named terms.
+// Find: the least model at the smallest size from low to high that has one, as a case at the front of the output; or none. It searches the sheet's clauses as they stand, or with named terms. Told yes
+// to `symmetry` it uses the constant clauses, and what it finds is the least of the models that obey them.
 pub fn find(
     sheet: &[u8],
     low: u64,
     high: u64,
     named: bool,
+    symmetry: bool,
     work: &mut [u32],
     output: &mut [u8],
 ) -> FindAnswer
-    ensures { λ r. ⌜ FindCall (now (sheet .entry)) low high named r (now (work .entry)) (now (work .exit)) (now (output .entry)) (now (output .exit)) ⌝ }
+    ensures { λ r. ⌜ FindCall (now (sheet .entry)) low high named symmetry r (now (work .entry)) (now (work .exit)) (now (output .entry)) (now (output .exit)) ⌝ }
 {
-    find_model(sheet, low, high, named, work, output)
+    find_model(sheet, low, high, named, symmetry, work, output)
 }
 
-// Find plain: the same by trying all cases in order, for at most 64 cells, without a work area.
+// Find plain: what Find told no finds, by trying all cases in order, for at most 64 cells, without a work area.
 pub fn find_plain(sheet: &[u8], low: u64, high: u64, output: &mut [u8]) -> FindAnswer
     ensures { λ r. ⌜ PlainCall (now (sheet .entry)) low high r (now (output .entry)) (now (output .exit)) ⌝ }
 {

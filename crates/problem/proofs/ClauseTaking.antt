@@ -158,7 +158,7 @@ module _ (named : Bool) (sheet : List ℕ) (at line n : ℕ) (g : Signature) whe
 -- nothing stands after the last clause line
 pub all-taken : (named : Bool) (sheet : List ℕ) (at line n : ℕ) (s : declared.Signature) (count : ℕ) (starts : List ℕ) (next i : ℕ) → Taken named sheet at line n (signatureIn sheet s) starts next i → n ≤ i
     → n ≤ 64 → length sheet ≤ next → Readable sheet s → s .count ≤ maxDeclared → count ≡ length (functions (signatureIn sheet s)) → (terms : FixedTerms) → terms .count ≡ 0 → length (terms .spans) ≡ 32
-    → ProblemRead named sheet (clauseLinesFrom named n (signatureIn sheet s) line (drop at sheet)) (record { problem = record { signature = s; functions = count; clauses = starts; count = n; terms = terms }; fault = 0; line = 0 })
+    → ProblemRead named sheet (clauseLinesFrom named n (signatureIn sheet s) line (drop at sheet)) (record { problem = record { signature = s; functions = count; clauses = starts; count = n; terms = terms; symmetry = false }; fault = 0; line = 0 })
 unfolding handedIn
 all-taken named sheet at line n s count starts next i z l small end readable few counted terms none room =
     record {

@@ -18,3 +18,4 @@ pub mod Counted
 pub mod WordsAgain
 pub mod Showing
 pub mod ModeRead
+pub mod Told

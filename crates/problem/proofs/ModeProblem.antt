@@ -39,7 +39,7 @@ use Rattle.problem.proofs.Handed.{handed-ok, named-limits}
 
 -- the problem with helpers
 abbrev pub helped : Problem → declared.Signature → FixedTerms → Problem
-helped p s⁺ ts = record { signature = s⁺; functions = p .functions + ts .count; clauses = p .clauses; count = p .count + ts .count; terms = ts }
+helped p s⁺ ts = record { signature = s⁺; functions = p .functions + ts .count; clauses = p .clauses; count = p .count + ts .count; terms = ts; symmetry = false }
 
 module _ (sheet : List ℕ) (p : Problem) (h : HandedIn true sheet p) (s⁺ : declared.Signature) (ts : FixedTerms) (b : HelpersBehind (p .signature) (ts .count) s⁺) where
   abbrev s : declared.Signature
@@ -165,7 +165,7 @@ module _ (sheet : List ℕ) (r : Reading) (z : ProblemRead true sheet (readLines
       sym (z .read) ∙ ap (λ (b : Bool). cond b (answer (handedIn sheet (r .problem))) (refused (atLine (r .fault) (r .line)))) (eq-eqb (r .fault) 0 ok) in
       e ∙ ap (λ (a : Answer theory.Problem). a >>= λ x. answer (inMode x)) (sym (whole ∙ bind-step (readLinesIn true sheet) _ (handedIn sheet (r .problem)) _ t refl))
 
-select-fewer : {A : Type 0} (test : A → Bool) (xs : List A) → length (select test xs) ≤ length xs
+pub select-fewer : {A : Type 0} (test : A → Bool) (xs : List A) → length (select test xs) ≤ length xs
 select-fewer test [] = omega arith
 select-fewer {A = A} test (x ∷ xs) = go (test x) (select-fewer test xs)
   where

@@ -16,12 +16,12 @@ use Rattle.theory.proofs.Parsing.{readProblem-bytes, readProblem-wellFormed}
 use Rattle.naming.specs.FixedTerms.{namedTerms}
 use Rattle.naming.specs.NamedProblem.{inMode}
 use Rattle.naming.specs.NamedReading.{readNamed}
-use Rattle.naming.specs.NamedOperations.{readProblemIn, modeProblem}
+use Rattle.naming.specs.NamedOperations.{readProblemIn, placedIn, modeProblem}
 use Rattle.naming.proofs.Reading.{readNamed-taken, placed-named}
 use Rattle.syntax.specs.declared.limits.Problem as code
 use Rattle.problem.specs.declared.sheet.Reading.{Reading}
 use Rattle.problem.specs.Problems.{problemIn, readingOf}
-use Rattle.problem.specs.Modes.{readIn, placedIn, Shows}
+use Rattle.problem.specs.Modes.{readIn, Shows}
 use Rattle.problem.proofs.Showing.{shows}
 
 -- plain, the problem that is written and searched is the one handed in

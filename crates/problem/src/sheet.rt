@@ -68,6 +68,7 @@ fn with_names(sheet: &[u8], p: Problem) -> Reading
         clauses,
         count: p.count + n,
         terms,
+        symmetry: false,
     })
 }
 
@@ -100,6 +101,7 @@ fn refused(fault: u8, line: usize) -> Reading
             clauses: [0; Problem::MAX_CLAUSES],
             count: 0,
             terms: FixedTerms::none(),
+            symmetry: false,
         },
         fault,
         line,
@@ -200,5 +202,6 @@ fn lines_from(
         clauses: starts,
         count: n,
         terms: FixedTerms::none(),
+        symmetry: false,
     })
 }

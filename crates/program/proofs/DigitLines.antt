@@ -12,20 +12,12 @@ use Rattle.theory.specs.Bytes.{isDigit}
 use Rattle.theory.specs.Lines.{cutLine, afterKey}
 use Rattle.theory.specs.Program.{digitOf, digitLine, _>>?_}
 use Rattle.theory.proofs.Tests.{leb-of-≤, leb-of-<, ltb-of-<, ltb-of-≤}
+use Rattle.solver.proofs.Options.{read-on, not-read}
 use Rattle.text.specs.Lines.{part, LineEnd, StartsWith}
 use Rattle.text.proofs.Part.{length-part, part-cons, part-none, drop-part}
 use Rattle.program.specs.declared.digits.DigitLine.{DigitLine}
 use Rattle.program.specs.declared.digits.DigitLine.the-variants.{Digit, Fault}
 use Rattle.program.specs.Digits.{DigitRead, ValueRead}
-
-pub none-bind : {A B : Type 0} (o : Option A) (k : A → Option B) → o ≡ none → (o >>? k) ≡ none
-unfolding _>>?_
-none-bind none k e = refl
-none-bind (some a) k e = let z : _≡_ {A = ℕ} 0 1 = cc in absurd (omega arith)
-
-pub some-bind : {A B : Type 0} (o : Option A) (k : A → Option B) (a : A) → o ≡ some a → (o >>? k) ≡ k a
-unfolding _>>?_
-some-bind o k a e = rw e refl
 
 not-one : (bs : List ℕ) → (length bs ≡ 1 → ⊥) → digitOf bs ≡ none
 not-one [] h = refl
@@ -35,7 +27,7 @@ not-one (b ∷ c ∷ bs) h = refl
 -- what is no digit is not read
 module _ (input : List ℕ) (from end : ℕ) (h : from ≤ end) (k : end < length input) where
   refused-value : digitOf (part input from end) ≡ none → ValueRead input from end Fault
-  refused-value e = record { read = sym (none-bind (digitOf (part input from end)) _ e); within = tt }
+  refused-value e = record { read = sym (not-read (digitOf (part input from end)) _ e); within = tt }
 
   pub other-length : (end - from ≡ 1 → ⊥) → ValueRead input from end Fault
   other-length n = refused-value (not-one (part input from end) (λ e. n (sym (length-part input from end h (omega arith)) ∙ e)))
@@ -59,7 +51,7 @@ module _ (input : List ℕ) (from end : ℕ) (h : from ≤ end) (k : end < lengt
   digit n c d =
       let is : isDigit (getD input from 0) ≡ true = ap (λ (b : Bool). b && ltb (getD input from 0) 58) (leb-of-≤ 48 (getD input from 0) c) ∙ ltb-of-< (getD input from 0) 58 (omega arith) in
       let e : digitOf (part input from end) ≡ some (getD input from 0 - 48) = ap digitOf (one n) ∙ ap (λ (b : Bool). cond b (some (getD input from 0 - 48)) none) is in
-      record { read = ap (λ (j : ℕ). some (getD input from 0 - 48, drop j input)) (add-one end) ∙ sym (some-bind (digitOf (part input from end)) _ (getD input from 0 - 48) e); within = omega arith }
+      record { read = ap (λ (j : ℕ). some (getD input from 0 - 48, drop j input)) (add-one end) ∙ sym (read-on (digitOf (part input from end)) _ (getD input from 0 - 48) e); within = omega arith }
 
 -- the line, its key, and its value
 module _ (input : List ℕ) (at end : ℕ) (key : List ℕ) (l : LineEnd input at end) where
@@ -67,7 +59,7 @@ module _ (input : List ℕ) (at end : ℕ) (key : List ℕ) (l : LineEnd input a
   unfolding digitLine
   no-line e =
       let cut : cutLine (drop at input) ≡ none = l .cut ∙ ap (λ (b : Bool). cond b (some (part input at end, drop (suc end) input)) none) (ltb-of-≤ end (length input) (omega arith)) in
-      record { read = sym (none-bind (cutLine (drop at input)) _ cut); within = tt }
+      record { read = sym (not-read (cutLine (drop at input)) _ cut); within = tt }
 
   module _ (h : end ≡ length input → ⊥) where
     cut : cutLine (drop at input) ≡ some (part input at end, drop (suc end) input)
@@ -77,7 +69,7 @@ module _ (input : List ℕ) (at end : ℕ) (key : List ℕ) (l : LineEnd input a
     unfolding digitLine
     no-key s =
         record {
-          read = sym (some-bind (cutLine (drop at input)) _ (part input at end, drop (suc end) input) cut ∙ none-bind (afterKey key (part input at end)) _ (s .found));
+          read = sym (read-on (cutLine (drop at input)) _ (part input at end, drop (suc end) input) cut ∙ not-read (afterKey key (part input at end)) _ (s .found));
           within = tt;
         }
 
@@ -89,6 +81,6 @@ module _ (input : List ℕ) (at end : ℕ) (key : List ℕ) (l : LineEnd input a
     keyed s r v =
         let value : afterKey key (part input at end) ≡ some (part input (at + length key) end) = s .found ∙ ap some (drop-part input at end (length key)) in
         record {
-          read = v .read ∙ sym (some-bind (cutLine (drop at input)) _ (part input at end, drop (suc end) input) cut ∙ some-bind (afterKey key (part input at end)) _ (part input (at + length key) end) value);
+          read = v .read ∙ sym (read-on (cutLine (drop at input)) _ (part input at end, drop (suc end) input) cut ∙ read-on (afterKey key (part input at end)) _ (part input (at + length key) end) value);
           within = v .within;
         }

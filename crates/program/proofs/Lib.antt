@@ -1,6 +1,7 @@
 pub mod Printing
 pub mod RefusalLines
 pub mod DigitLines
+pub mod SwitchLines
 pub mod Results
 pub mod Searching
 pub mod Inputs

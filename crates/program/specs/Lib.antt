@@ -1,3 +1,4 @@
 pub mod Digits
+pub mod Switches
 pub mod Reports
 pub mod Reasons

@@ -7,7 +7,8 @@ use lib.ListN.{length, take, drop}
 use Rattle.theory.specs.Refusals.{Answer, Refusal, refused}
 use Rattle.theory.specs.Bytes.{bytes}
 use Rattle.theory.specs.Operations.{Search, over, findAnswer, findOutput}
-use Rattle.theory.specs.Program.{_>>?_, digitLine, answered}
+use Rattle.theory.specs.Program.{_>>?_, digitLine, switchLine, answered}
+use Rattle.symmetry.specs.FinderProgram.{finds}
 use Rattle.answers.specs.declared.FindAnswer.{FindAnswer}
 use Rattle.answers.specs.Answers.{findIn}
 
@@ -29,4 +30,9 @@ pub record Reportable (r : FindAnswer) (output : List ℕ) : Type 0 where
 
 -- the answer to the text from the second line on
 abbrev pub fromHigh : ℕ → List ℕ → Answer Search
-fromHigh low text = answered (digitLine (bytes "high=") text >>? λ b. some (low, b .0, b .1))
+fromHigh low text =
+    answered finds (digitLine (bytes "high=") text >>? λ b. switchLine (b .1) >>? λ c. some (record { low = low; high = b .0; symmetry = c .0; sheet = c .1 }))
+
+-- and from the third on
+abbrev pub fromSwitch : ℕ → ℕ → List ℕ → Answer Search
+fromSwitch low high text = answered finds (switchLine text >>? λ c. some (record { low = low; high = high; symmetry = c .0; sheet = c .1 }))

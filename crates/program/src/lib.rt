@@ -3,23 +3,28 @@ mod digits;
 pub mod explaining;
 mod reasons;
 mod report;
+mod switches;
 
 use crate::digits::DigitLine;
 use crate::digits::digit_line;
 use crate::report::OUTCOME;
 use crate::report::put_refusal;
 use crate::report::put_result;
+use crate::switches::SwitchLine;
+use crate::switches::switch_line;
 use nesskettle::find;
 use syntax::limits::Problem;
 ghost use mathlib.Core.Path.{_≡_};
 ghost use Prim.Native.Nat.{_≤_};
 ghost use lib.ListN.{length, drop};
+ghost use mathlib.Core.Bool.{false};
 ghost use Rattle.theory.specs.Program as theory;
-ghost use Rattle.theory.specs.Operations.{findResult};
-ghost use Rattle.program.specs.Reports.{Responds, fromHigh};
+ghost use Rattle.symmetry.specs.SymmetricOperations.{findResultWith};
+ghost use Rattle.symmetry.specs.FinderProgram.{finder};
+ghost use Rattle.program.specs.Reports.{Responds, fromHigh, fromSwitch};
 
-// Two digit lines of 13 bytes together, the largest sheet, and one byte more: no answer depends on what comes after.
-pub const MAX_INPUT: usize = 13 + Problem::MAX_BYTES + 1;
+// Three lines of at most 21 bytes together, the largest sheet, and one byte more: no answer depends on what comes after.
+pub const MAX_INPUT: usize = 21 + Problem::MAX_BYTES + 1;
 
 // The outcome's line, and the longest case.
 pub const OUTPUT: usize = OUTCOME + LONGEST_CASE;
@@ -33,7 +38,7 @@ const WORK: usize = 16000;
 
 // Writes the output for an input to the front of the buffer, and answers its length.
 pub fn respond(input: &[u8], out: &mut [u8; OUTPUT]) -> usize
-    ensures { λ r. ⌜ Responds (theory.program (now (input .entry))) r (now (out .entry)) (now (out .exit)) ⌝ }
+    ensures { λ r. ⌜ Responds (finder (now (input .entry))) r (now (out .entry)) (now (out .exit)) ⌝ }
 {
     match digit_line(input, 0, b"low=") {
         DigitLine::Fault => put_refusal(out, 8, 0, 0),
@@ -48,16 +53,37 @@ fn respond_from(input: &[u8], at: usize, low: u64, out: &mut [u8]) -> usize
 {
     match digit_line(input, at, b"high=") {
         DigitLine::Fault => put_refusal(out, 8, 0, 0),
-        DigitLine::Digit(high, next) => search_sheet(&input[next..], low, high, out),
+        DigitLine::Digit(high, next) => respond_switch(input, next, low, high, out),
+    }
+}
+
+// The same from the third line on.
+fn respond_switch(input: &[u8], at: usize, low: u64, high: u64, out: &mut [u8]) -> usize
+    requires { ⌜ (at ≤ length (now input)) × (length (now out) ≡ 24915) ⌝ }
+    ensures { λ r. ⌜ Responds (theory.printed (fromSwitch low high (drop at (now (input .entry))))) r (now (out .entry)) (now (out .exit)) ⌝ }
+{
+    match switch_line(input, at) {
+        SwitchLine::Fault => put_refusal(out, 8, 0, 0),
+        SwitchLine::Switch(symmetry, next) => {
+            search_sheet(&input[next..], low, high, symmetry, out)
+        }
     }
 }
 
 // Searches the sheet, and prints what was found.
-fn search_sheet(sheet: &[u8], low: u64, high: u64, out: &mut [u8]) -> usize
+fn search_sheet(sheet: &[u8], low: u64, high: u64, symmetry: bool, out: &mut [u8]) -> usize
     requires { ⌜ length (now out) ≡ 24915 ⌝ }
-    ensures { λ r. ⌜ Responds (theory.printed (findResult (now (sheet .entry)) low high 16000 24902)) r (now (out .entry)) (now (out .exit)) ⌝ }
+    ensures { λ r. ⌜ Responds (theory.printed (findResultWith false symmetry (now (sheet .entry)) low high 16000 24902)) r (now (out .entry)) (now (out .exit)) ⌝ }
 {
     let mut work = [0u32; WORK];
-    let answer = find(sheet, low, high, false, &mut work, &mut out[OUTCOME..]);
+    let answer = find(
+        sheet,
+        low,
+        high,
+        false,
+        symmetry,
+        &mut work,
+        &mut out[OUTCOME..],
+    );
     put_result(out, answer)
 }

@@ -13,9 +13,8 @@ use Rattle.theory.specs.Operations.{isSize, readBackText}
 use Rattle.theory.proofs.Tests.{leb-of-≤, leb-of-<}
 use Rattle.theory.proofs.Answers.{bind-step, bind-refused, check-of-true, check-of-false}
 use Rattle.naming.specs.NamedProblem.{shownSymbols, shownText}
-use Rattle.naming.specs.NamedOperations.{namedReadBackText, modeProblem, readBackTextIn}
+use Rattle.naming.specs.NamedOperations.{namedReadBackText, placedIn, modeProblem, readBackTextIn}
 use Rattle.naming.proofs.Helpers.{shown-declared, shown-whole}
-use Rattle.problem.specs.Modes.{placedIn}
 use Rattle.reading_back.specs.Settings.{textSaid}
 use Rattle.reading_back.proofs.Bits.{length-readBack}
 

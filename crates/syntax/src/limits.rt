@@ -14,6 +14,8 @@ pub struct Problem {
     pub count: usize,
     // the terms that the helpers stand for
     pub terms: FixedTerms,
+    // whether the constant clauses are used; what is read does not depend on it
+    pub symmetry: bool,
 }
 
 impl Problem {

@@ -10,11 +10,11 @@ use Rattle.theory.specs.LineForms.{goodValue, goodLine}
 use Rattle.theory.specs.DueLines.{countOn, dueInSheet, sheetSymbols, sizeOn, dueInCase}
 use Rattle.theory.specs.Columns.{byteColumn, wordColumn, firstUnknown, firstMisplaced, firstOver, lineColumn, sheetColumn, caseColumn, placedProblem, placedCase}
 use Rattle.theory.specs.Operations.{findResult}
-use Rattle.theory.specs.Program.{_>>?_, digitLine, refusalText, printed, program}
+use Rattle.theory.specs.Program.{refusalText, printed}
 use Rattle.theory.specs.ColumnExamples.{ofSheet, withClause, ofClause, ofCase, ColumnExamples}
 
 pub columnExamples : ColumnExamples
-unfolding ofSheet withClause ofClause ofCase _>>=_ flatten merged liftedTerms variableCount grammar readClause countLine isName symbolLines wordOf withinLimits clauseOf clauseLines readProblem readTable readTables readCase goodValue goodLine countOn dueInSheet sheetSymbols sizeOn dueInCase byteColumn wordColumn firstUnknown firstMisplaced firstOver lineColumn sheetColumn caseColumn placedProblem placedCase decimal findResult _>>?_ digitLine refusalText printed program
+unfolding ofSheet withClause ofClause ofCase _>>=_ flatten merged liftedTerms variableCount grammar readClause countLine isName symbolLines wordOf withinLimits clauseOf clauseLines readProblem readTable readTables readCase goodValue goodLine countOn dueInSheet sheetSymbols sizeOn dueInCase byteColumn wordColumn firstUnknown firstMisplaced firstOver lineColumn sheetColumn caseColumn placedProblem placedCase decimal findResult refusalText printed
 columnExamples =
     record {
       empty = refl;

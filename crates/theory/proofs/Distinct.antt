@@ -85,7 +85,7 @@ distinct-once [] = refl
 distinct-once (x ∷ xs) =
     and-join (not (elem x (remove x (distinct xs)))) (once (remove x (distinct xs))) (ap not (remove-removed x (distinct xs))) (remove-once x (distinct xs) (distinct-once xs))
 
-remove-none : (x : ℕ) (xs : List ℕ) → elem x xs ≡ false → remove x xs ≡ xs
+pub remove-none : (x : ℕ) (xs : List ℕ) → elem x xs ≡ false → remove x xs ≡ xs
 remove-none x [] h = refl
 remove-none x (y ∷ xs) h =
     ap (λ (b : Bool). cond b (remove x xs) (y ∷ remove x xs)) (or-false-left (eqb x y) (elem x xs) h) ∙ ap (λ (l : List ℕ). y ∷ l) (remove-none x xs (or-false-right (eqb x y) (elem x xs) h))

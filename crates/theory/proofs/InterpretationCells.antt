@@ -9,12 +9,12 @@ use lib.ListN.{length}
 use Rattle.theory.specs.Vectors.{AllBelow}
 use Rattle.theory.specs.Syntax.{Kind, function, predicate, Signature, symbolAt}
 use Rattle.theory.specs.Truth.{Interpretation}
-use Rattle.theory.specs.Cells.{valueCount, isInterpretation, interpretation}
+use Rattle.theory.specs.Cells.{valueCount, isInterpretation, tabulated, interpretation}
 use Rattle.theory.specs.Claims.Flattening.{Closed}
 use Rattle.theory.proofs.Tests.{byte-is}
 use Rattle.theory.proofs.Declared.{functionOf→, predicateOf→, →functionOf}
 use Rattle.theory.proofs.Embeddings.{Embedding}
-use Rattle.theory.proofs.Tabulated.{tabulated, tabulated-at, tabulated-is}
+use Rattle.theory.proofs.Tabulated.{tabulated-at, tabulated-is}
 
 -- the value at the arguments v of a symbol of this kind at place i: a function's element, a predicate's truth as 1 or 0
 abbrev tableValue : Interpretation → Kind → ℕ → List ℕ → ℕ

@@ -38,9 +38,19 @@ in-inRange s (k ∷ ks) (d ∷ v) m =
     let r = elem-upFrom d 0 (valueCount s k) (m .0) in
     and-join (ltb d (valueCount s k)) (inRange s ks v) (ltb-of-< d (valueCount s k) (omega (arith, r .1))) (in-inRange s ks v (m .1))
 
-ordered : (s : ℕ) (ks : List Kind) → Ordered (values s ks)
+pub ordered : (s : ℕ) (ks : List Kind) → Ordered (values s ks)
 ordered s [] = tt
 ordered s (k ∷ ks) = ((valueCount s k, refl), ordered s ks)
+
+pub withSize-some : (s : ℕ) (o : Option (List ℕ)) (k : Case) → withSize s o ≡ some k → (s ≡ k .size) × (o ≡ some (k .values))
+withSize-some s none k e = let q : _≡_ {A = ℕ} 0 1 = cc in absurd (omega arith)
+withSize-some s (some v) k e =
+    let q : record { size = s; values = v } ≡ k = Option·some-injective (record { size = s; values = v }) k e in
+    (ap (λ (k : Case). k .size) q, ap (λ (k : Case). some (k .values)) q)
+
+pub withSize-none : (s : ℕ) (o : Option (List ℕ)) → withSize s o ≡ none → o ≡ none
+withSize-none s none e = refl
+withSize-none s (some v) e = cc
 
 module _ (p : Problem) where
   model-in : (s : ℕ) (u : List ℕ) → ModelCells p s u → In u (candidates s (p .symbols))
@@ -61,16 +71,6 @@ module _ (p : Problem) where
   no-least : (s : ℕ) → leastModel s p ≡ none → (u : List ℕ) → ModelCells p s u → ⊥
   unfolding leastModel
   no-least s e u m = both-false (m .model) (none-first (candidates s (p .symbols)) (isModel s (p .symbols) (p .clauses)) e u (model-in s u m))
-
-  withSize-some : (s : ℕ) (o : Option (List ℕ)) (k : Case) → withSize s o ≡ some k → (s ≡ k .size) × (o ≡ some (k .values))
-  withSize-some s none k e = let q : _≡_ {A = ℕ} 0 1 = cc in absurd (omega arith)
-  withSize-some s (some v) k e =
-      let q : record { size = s; values = v } ≡ k = Option·some-injective (record { size = s; values = v }) k e in
-      (ap (λ (k : Case). k .size) q, ap (λ (k : Case). some (k .values)) q)
-
-  withSize-none : (s : ℕ) (o : Option (List ℕ)) → withSize s o ≡ none → o ≡ none
-  withSize-none s none e = refl
-  withSize-none s (some v) e = cc
 
   abbrev atSize : ℕ → Option Case
   atSize s = withSize s (leastModel s p)

@@ -19,7 +19,7 @@ pow-grows s t zero h = omega (arith, pow-zero s, pow-zero t)
 pow-grows s t (suc k) h = let le : s ^ k * s ≤ t ^ k * t = mul-le-mul (pow-grows s t k h) h in omega (arith, pow-suc s k, pow-suc t k)
 
 -- a sum grows with its terms
-sum-grows : {A : Type 0} (f g : A → ℕ) → ((a : A) → f a ≤ g a) → (as′ : List A) → sum (map f as′) ≤ sum (map g as′)
+pub sum-grows : {A : Type 0} (f g : A → ℕ) → ((a : A) → f a ≤ g a) → (as′ : List A) → sum (map f as′) ≤ sum (map g as′)
 sum-grows f g h [] = le-refl 0
 sum-grows f g h (a ∷ as′) = omega (arith, h a, sum-grows f g h as′)
 

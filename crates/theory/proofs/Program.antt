@@ -1,33 +1,24 @@
--- The finder program needs to read no more than 16,398 bytes of its input, and its output buffer is never too short.
-use Prim.Native.Nat.{ℕ, _+_, _-_, _≤_, _<_}
-use mathlib.Core.Path.{_≡_, refl, sym, ap, _∙_}
-use mathlib.Core.Logic.{_⊎_, inl, inr}
-use mathlib.Core.Bool.{Bool, true, false, cond, _&&_, false≢true}
+-- The finder program needs to read no more than 16,406 bytes of its input.
+use Prim.Native.Nat.{ℕ, _+_, _-_, _≤_}
+use mathlib.Core.Path.{_≡_, refl, sym, ap, _∙_, subst}
+use mathlib.Core.Bool.{Bool, true, false, cond, _&&_}
 use mathlib.Core.Option.{Option, none, some}
 use mathlib.Core.List.{List, [], _∷_, _++_, append-assoc}
 use native.Mathlib.Omega.{arith}
-use lib.Dec.{eqb, leb, ltb}
-use lib.ListN.{length, take, drop, take-append-drop}
-use lib.Seq.{take-all, take-append-add, length-take-le}
+use lib.Dec.{leb, ltb}
+use lib.ListN.{take, drop, take-append-drop}
+use lib.Seq.{take-append-add}
 use Rattle.theory.specs.Lists.{all}
 use Rattle.theory.specs.Bytes.{bytes, LF, zeroDigit, isDigit}
 use Rattle.theory.specs.Lines.{cutLine, afterKey}
-use Rattle.theory.specs.Refusals.{Refusal, Answer, answer, refused, unplaced, needing, _>>=_, check}
-use Rattle.theory.specs.PropClauses.{instanceCount, workNeeded}
-use Rattle.theory.specs.Problem.{Problem, maxBytes}
-use Rattle.theory.specs.CaseText.{caseLength}
-use Rattle.theory.specs.Columns.{placedProblem}
-use Rattle.theory.specs.Least.{smallestModel}
-use Rattle.theory.specs.Operations.{maxSize, maxInstances, Search, searchOf, findResult}
-use Rattle.theory.specs.Program.{programWork, programOutput, digitOf, _>>?_, digitLine, sized, answered, printed, program}
-use Rattle.theory.specs.Claims.Program.{inputBytes, Program}
-use Rattle.theory.proofs.Tests.{and-left, and-right, leb-true, leb-of-≤, leb-false, eqb-ne, true-or-false}
+use Rattle.theory.specs.Refusals.{Answer}
+use Rattle.theory.specs.Least.{orElse}
+use Rattle.theory.specs.Operations.{Search}
+use Rattle.theory.specs.Program.{digitOf, _>>?_, digitLine, switchLine, Asked, asked, answered, printed, program}
+use Rattle.theory.specs.Claims.Program.{inputBytes, cutTo, NeedsNoMore, Program}
+use Rattle.theory.proofs.Tests.{and-left, leb-true}
 use Rattle.theory.proofs.Lines.{inLine, digit-inLine, cut-line, cut-only, after-key, key-only}
-use Rattle.theory.proofs.Answers.{bind-step, bind-refused, unrefused, check-true, check-of-true, refused-inj, answer≢refused}
-use Rattle.theory.proofs.PlacedReading.{problem-read, plain-problem}
 use Rattle.theory.proofs.PlacedRefusals as placed
-use Rattle.theory.proofs.SheetRefusals.{sheet-refusal}
-use Rattle.theory.proofs.CaseLengths.{longest-case}
 
 -- a key, a digit and LF
 abbrev digitText : List ℕ → ℕ → List ℕ → List ℕ
@@ -86,106 +77,98 @@ of-line key d rest h t =
     some-bind (cutLine (digitText key d rest)) _ (key ++ v, rest) (some (d, rest)) cut
     (some-bind (afterKey key (key ++ v)) _ v (some (d, rest)) (after-key key v) (some-bind (digitOf v) _ d (some (d, rest)) (of-digit d t) refl))
 
--- the two digit lines, and the sheet after them
-abbrev inputText : ℕ → ℕ → List ℕ → List ℕ
-inputText low high sheet = digitText (bytes "low=") low (digitText (bytes "high=") high sheet)
+-- the line that says yes or no
+abbrev switchText : Bool → List ℕ → List ℕ
+switchText true rest = bytes "sym=yes\n" ++ rest
+switchText false rest = bytes "sym=no\n" ++ rest
 
-record Input (low high : ℕ) : Type 0 where
-  first : isDigit (zeroDigit + low) ≡ true
-  second : isDigit (zeroDigit + high) ≡ true
+switch-only : (text : List ℕ) (r : Bool × List ℕ) → switchLine text ≡ some r → switchText (r .0) (r .1) ≡ text
+unfolding switchLine _>>?_
+switch-only text r e = go (afterKey (bytes "sym=yes\n") text) refl (afterKey (bytes "sym=no\n") text) refl e
+  where
+    go : (o : Option (List ℕ)) → afterKey (bytes "sym=yes\n") text ≡ o → (q : Option (List ℕ)) → afterKey (bytes "sym=no\n") text ≡ q
+        → orElse (o >>? λ rest. some (true, rest)) (q >>? λ rest. some (false, rest)) ≡ some r → switchText (r .0) (r .1) ≡ text
+    go (some rest) h q k e = let same : (true, rest) ≡ r = cc in ap (λ (r : Bool × List ℕ). switchText (r .0) (r .1)) (sym same) ∙ key-only (bytes "sym=yes\n") text rest h
+    go none h (some rest) k e = let same : (false, rest) ≡ r = cc in ap (λ (r : Bool × List ℕ). switchText (r .0) (r .1)) (sym same) ∙ key-only (bytes "sym=no\n") text rest k
+    go none h none k e = let z : _≡_ {A = ℕ} 0 1 = cc in absurd (omega arith)
 
-sized-only : (text : List ℕ) (i : ℕ × ℕ × List ℕ) → sized text ≡ some i → (inputText (i .0) (i .1) (i .2) ≡ text) × Input (i .0) (i .1)
-sized-only text i e =
+of-switch : (b : Bool) (rest : List ℕ) → switchLine (switchText b rest) ≡ some (b, rest)
+unfolding switchLine _>>?_
+of-switch true rest = ap (λ (o : Option (List ℕ)). orElse (o >>? λ rest. some (true, rest)) (afterKey (bytes "sym=no\n") (bytes "sym=yes\n" ++ rest) >>? λ rest. some (false, rest))) (after-key (bytes "sym=yes\n") rest)
+of-switch false rest = ap (λ (o : Option (List ℕ)). o >>? λ rest. some (false, rest)) (after-key (bytes "sym=no\n") rest)
+
+-- the three lines, and the sheet after them
+abbrev inputText : Asked → List ℕ
+inputText a = digitText (bytes "low=") (a .low) (digitText (bytes "high=") (a .high) (switchText (a .symmetry) (a .sheet)))
+
+record Input (a : Asked) : Type 0 where
+  first : isDigit (zeroDigit + a .low) ≡ true
+  second : isDigit (zeroDigit + a .high) ≡ true
+
+asked-only : (text : List ℕ) (a : Asked) → asked text ≡ some a → (inputText a ≡ text) × Input a
+asked-only text i e =
     let a = bind-some (digitLine (bytes "low=") text) _ i e in
     let b = bind-some (digitLine (bytes "high=") (a .0 .1)) _ i (a .2) in
+    let c = bind-some (switchLine (b .0 .1)) _ i (b .2) in
     let la = line-only (bytes "low=") text (a .0) (a .1) in
     let lb = line-only (bytes "high=") (a .0 .1) (b .0) (b .1) in
-    let same : (a .0 .0, b .0 .0, b .0 .1) ≡ i = cc in
-    let x : a .0 .0 ≡ i .0 = ap (λ (q : ℕ × ℕ × List ℕ). q .0) same in
-    let y : b .0 .0 ≡ i .1 = ap (λ (q : ℕ × ℕ × List ℕ). q .1) same in
-    let z : b .0 .1 ≡ i .2 = ap (λ (q : ℕ × ℕ × List ℕ). q .2) same in (
-      ap (λ (n : ℕ). inputText n (i .1) (i .2)) (sym x) ∙ ap (λ (n : ℕ). inputText (a .0 .0) n (i .2)) (sym y) ∙ ap (inputText (a .0 .0) (b .0 .0)) (sym z)
+    let lc = switch-only (b .0 .1) (c .0) (c .1) in
+    let same : record { low = a .0 .0; high = b .0 .0; symmetry = c .0 .0; sheet = c .0 .1 } ≡ i = cc in (
+      ap inputText (sym same)
+          ∙ ap (λ (t : List ℕ). digitText (bytes "low=") (a .0 .0) (digitText (bytes "high=") (b .0 .0) t)) lc
           ∙ ap (digitText (bytes "low=") (a .0 .0)) (lb .0) ∙ la .0,
-      record { first = ap (λ (n : ℕ). isDigit (zeroDigit + n)) (sym x) ∙ la .1; second = ap (λ (n : ℕ). isDigit (zeroDigit + n)) (sym y) ∙ lb .1 },
+      subst Input same (record { first = la .1; second = lb .1 }),
     )
 
-of-sized : (low high : ℕ) (sheet : List ℕ) → Input low high → sized (inputText low high sheet) ≡ some (low, high, sheet)
-of-sized low high sheet d =
-    some-bind (digitLine (bytes "low=") (inputText low high sheet)) _ (low, digitText (bytes "high=") high sheet) (some (low, high, sheet))
-    (of-line (bytes "low=") low (digitText (bytes "high=") high sheet) (digit-inLine′ low) (d .first))
-    (some-bind (digitLine (bytes "high=") (digitText (bytes "high=") high sheet)) _ (high, sheet) (some (low, high, sheet))
-    (of-line (bytes "high=") high sheet (digit-inLine′ high) (d .second)) refl)
+of-asked : (a : Asked) → Input a → asked (inputText a) ≡ some a
+of-asked a d =
+    some-bind (digitLine (bytes "low=") (inputText a)) _ (a .low, digitText (bytes "high=") (a .high) (switchText (a .symmetry) (a .sheet))) (some a)
+    (of-line (bytes "low=") (a .low) (digitText (bytes "high=") (a .high) (switchText (a .symmetry) (a .sheet))) (digit-inLine′ (a .low)) (d .first))
+    (some-bind (digitLine (bytes "high=") (digitText (bytes "high=") (a .high) (switchText (a .symmetry) (a .sheet)))) _ (a .high, switchText (a .symmetry) (a .sheet)) (some a)
+    (of-line (bytes "high=") (a .high) (switchText (a .symmetry) (a .sheet)) (digit-inLine′ (a .high)) (d .second))
+    (some-bind (switchLine (switchText (a .symmetry) (a .sheet))) _ (a .symmetry, a .sheet) (some a) (of-switch (a .symmetry) (a .sheet)) refl))
   where
     digit-inLine′ : (n : ℕ) → (inLine (zeroDigit + n) && true) ≡ true
     digit-inLine′ n = ap (λ (b : Bool). b && true) (digit-inLine n)
 
--- a sheet that is too long is refused, whatever else it is
-too-long : (sheet : List ℕ) (low high work room : ℕ) → maxBytes < length sheet → findResult sheet low high work room ≡ refused (unplaced 1)
-unfolding findResult
-too-long sheet low high work room h = bind-refused (placedProblem sheet) _ (unplaced 1) (placed.too-long sheet h)
+-- how much of the sheet is among the bytes that are read
+abbrev sheetBytes : Bool → ℕ
+sheetBytes true = 16385
+sheetBytes false = 16386
 
--- one byte more than the largest sheet is enough of a sheet
-enough : (sheet : List ℕ) (low high work room : ℕ) → findResult (take 16385 sheet) low high work room ≡ findResult sheet low high work room
-enough sheet low high work room = go (true-or-false (leb (length sheet) 16385))
-  where
-    go : (leb (length sheet) 16385 ≡ true) ⊎ (leb (length sheet) 16385 ≡ false) → findResult (take 16385 sheet) low high work room ≡ findResult sheet low high work room
-    go (inl h) = ap (λ (t : List ℕ). findResult t low high work room) (take-all 16385 sheet (leb-true (length sheet) 16385 h))
-    go (inr h) =
-        let long : 16385 < length sheet = leb-false (length sheet) 16385 h in
-        let cut : length (take 16385 sheet) ≡ 16385 = length-take-le 16385 sheet (omega arith) in
-        too-long (take 16385 sheet) low high work room (omega arith) ∙ sym (too-long sheet low high work room (omega arith))
+take-input : (low high : ℕ) (b : Bool) (sheet : List ℕ)
+    → take inputBytes (inputText (record { low = low; high = high; symmetry = b; sheet = sheet })) ≡ inputText (record { low = low; high = high; symmetry = b; sheet = take (sheetBytes b) sheet })
+take-input low high true sheet = take-append-add (digitText (bytes "low=") low (digitText (bytes "high=") high (switchText true []))) sheet 16385
+take-input low high false sheet = take-append-add (digitText (bytes "low=") low (digitText (bytes "high=") high (switchText false []))) sheet 16386
 
-take-input : (low high : ℕ) (sheet : List ℕ) → take inputBytes (inputText low high sheet) ≡ inputText low high (take 16385 sheet)
-take-input low high sheet =
-    let front : List ℕ = digitText (bytes "low=") low (digitText (bytes "high=") high []) in
-    take-append-add front sheet 16385
+enough-bytes : (b : Bool) → 16385 ≤ sheetBytes b
+enough-bytes true = omega arith
+enough-bytes false = omega arith
 
-reads-enough : (o q : Option (ℕ × ℕ × List ℕ)) (input : List ℕ) → sized input ≡ o → sized (take inputBytes input) ≡ q → answered q ≡ answered o
-reads-enough none none input e f = refl
-reads-enough (some i) q input e f =
-    let s = sized-only input i e in
-    let cut : take inputBytes input ≡ inputText (i .0) (i .1) (take 16385 (i .2)) = ap (take inputBytes) (sym (s .0)) ∙ take-input (i .0) (i .1) (i .2) in
-    ap answered (sym f ∙ ap sized cut ∙ of-sized (i .0) (i .1) (take 16385 (i .2)) (s .1)) ∙ enough (i .2) (i .0) (i .1) programWork programOutput
-reads-enough none (some i) input e f =
-    let s = sized-only (take inputBytes input) i f in
-    let whole : inputText (i .0) (i .1) (i .2 ++ drop inputBytes input) ≡ input = ap (λ (l : List ℕ). l ++ drop inputBytes input) (s .0) ∙ take-append-drop inputBytes input in
-    let z : _≡_ {A = Option (ℕ × ℕ × List ℕ)} none (some (i .0, i .1, i .2 ++ drop inputBytes input)) = sym e ∙ ap sized (sym whole) ∙ of-sized (i .0) (i .1) (i .2 ++ drop inputBytes input) (s .1) in
-    let n : _≡_ {A = ℕ} 0 1 = cc in
-    absurd (omega arith)
+module _ (find : Asked → Answer Search) (needs-no-more : NeedsNoMore find) where
+  reads-enough : (o q : Option Asked) (input : List ℕ) → asked input ≡ o → asked (take inputBytes input) ≡ q → answered find q ≡ answered find o
+  reads-enough none none input e f = refl
+  reads-enough (some a) q input e f =
+      let s = asked-only input a e in
+      let n : ℕ = sheetBytes (a .symmetry) in
+      let cut : take inputBytes input ≡ inputText (cutTo n a) = ap (take inputBytes) (sym (s .0)) ∙ take-input (a .low) (a .high) (a .symmetry) (a .sheet) in
+      ap (answered find) (sym f ∙ ap asked cut ∙ of-asked (cutTo n a) (record { first = s .1 .first; second = s .1 .second })) ∙ needs-no-more a n (enough-bytes (a .symmetry))
+  reads-enough none (some a) input e f =
+      let s = asked-only (take inputBytes input) a f in
+      let whole : Asked = record { low = a .low; high = a .high; symmetry = a .symmetry; sheet = a .sheet ++ drop inputBytes input } in
+      let front : inputText whole ≡ input = longer (a .symmetry) a ∙ ap (λ (l : List ℕ). l ++ drop inputBytes input) (s .0) ∙ take-append-drop inputBytes input in
+      let z : _≡_ {A = Option Asked} none (some whole) = sym e ∙ ap asked (sym front) ∙ of-asked whole (record { first = s .1 .first; second = s .1 .second }) in
+      let n : _≡_ {A = ℕ} 0 1 = cc in
+      absurd (omega arith)
+    where
+      more : (b : Bool) (sheet : List ℕ) → switchText b (sheet ++ drop inputBytes input) ≡ switchText b sheet ++ drop inputBytes input
+      more true sheet = refl
+      more false sheet = refl
 
--- a refusal with another number
-other : (sheet : List ℕ) (r : Refusal) → placedProblem sheet ≡ refused r → r .number ≡ 11 → ⊥
-other sheet r e n =
-    let q = plain-problem sheet r e in
-    let h = sheet-refusal sheet (q .plain) (q .refuses) in
-    let m : q .plain .number ≡ 11 = ap (λ (r : Refusal). r .number) (q .placed) ∙ n in
-    let z : leb 11 7 ≡ true = ap (λ (k : ℕ). leb 1 k && leb k 7) (sym m) ∙ h .number in
-    false≢true z
+      longer : (b : Bool) (a : Asked) → inputText (record { low = a .low; high = a .high; symmetry = a .symmetry; sheet = a .sheet ++ drop inputBytes input }) ≡ inputText a ++ drop inputBytes input
+      longer b a = ap (λ (t : List ℕ). digitText (bytes "low=") (a .low) (digitText (bytes "high=") (a .high) t)) (more (a .symmetry) (a .sheet))
 
--- a check that refuses with another number, and what follows it
-passed : {B C : Type 0} (b : Bool) (q : Refusal) (k : Unit {0} → Answer B) (r : Refusal) → (check b q >>= k) ≡ refused r → eqb (q .number) 11 ≡ false → r .number ≡ 11
-    → (b ≡ true → k tt ≡ refused r → C) → C
-passed {B = B} b q k r e m n f =
-    unrefused (check b q) k r e (λ h. absurd (differs b h)) (λ (u : Unit {0}) h e. f (check-true b q u h) e)
-  where
-    differs : (b : Bool) → check b q ≡ refused r → ⊥
-    differs true h = answer≢refused tt r h
-    differs false h = eqb-ne (q .number) 11 m (ap (λ (r : Refusal). r .number) (refused-inj {A = Unit {0}} q r h) ∙ n)
-
--- what stands before 11 is refused with another number, and 11's condition does not hold
-roomy : (sheet : List ℕ) (low high : ℕ) (r : Refusal) → findResult sheet low high programWork programOutput ≡ refused r → r .number ≡ 11 → ⊥
-unfolding findResult
-roomy sheet low high r e n =
-    unrefused (placedProblem sheet) _ r e (λ h. other sheet r h n) λ (p : Problem) h₁ e₁.
-    passed (leb 1 low && leb high maxSize && leb low high) (unplaced 8) _ r e₁ refl n λ sizes e₂.
-    passed (leb (instanceCount high (p .symbols) (p .clauses)) maxInstances) (unplaced 9) _ r e₂ refl n λ _ e₃.
-    passed (leb (workNeeded high (p .symbols) (p .clauses)) programWork) (needing 10 (workNeeded high (p .symbols) (p .clauses))) _ r e₃ refl n λ _ e₄.
-    let high-8 : high ≤ 8 = leb-true high 8 (and-right (leb 1 low) (leb high 8) (and-left (leb 1 low && leb high 8) (leb low high) sizes)) in
-    let room : leb (caseLength high (p .symbols)) programOutput ≡ true = leb-of-≤ (caseLength high (p .symbols)) programOutput (longest-case sheet p high (problem-read sheet p h₁) high-8) in
-    let found : Answer Search = answer (searchOf p low high (smallestModel p low high)) in
-    answer≢refused (searchOf p low high (smallestModel p low high)) r
-    (sym (bind-step (check (leb (caseLength high (p .symbols)) programOutput) (needing 11 (caseLength high (p .symbols)))) (λ _. found) tt found (check-of-true (leb (caseLength high (p .symbols)) programOutput) (needing 11 (caseLength high (p .symbols))) room) refl) ∙ e₄)
-
+-- the theorem
 pub program-holds : Program
 unfolding program
-program-holds = record { reads = λ input. ap printed (reads-enough (sized input) (sized (take inputBytes input)) input refl refl); roomy = roomy }
+program-holds find h input = ap printed (reads-enough find h (asked input) (asked (take inputBytes input)) input refl refl)

@@ -1,4 +1,4 @@
--- Cell values made by a rule from symbol and arguments: each cell has the value of its symbol at its arguments, and values in range are an interpretation.
+-- Cell values made by a rule from symbol and arguments: each cell has the value of its symbol at its arguments, values in range are an interpretation, and cell values with the same tables are equal.
 use Prim.Native.Nat.{ℕ, suc, _<_}
 use mathlib.Core.Path.{_≡_, refl, sym, ap, _∙_}
 use mathlib.Core.Bool.{Bool, true}
@@ -6,20 +6,16 @@ use mathlib.Core.List.{List, [], _∷_, _++_, map, map-map}
 use native.Mathlib.Omega.{arith}
 use lib.Dec.{eqb, ltb}
 use lib.ListN.{length, getD, take, drop, length-append, length-map}
-use lib.Seq.{take-at, drop-at}
+use lib.Seq.{ext-getD, take-at, drop-at}
 use Rattle.theory.specs.Lists.{all, concatMap, upTo, same}
 use Rattle.theory.specs.Vectors.{vectors, AllBelow}
 use Rattle.theory.specs.Syntax.{Symbol, Signature, symbolAt}
-use Rattle.theory.specs.Cells.{cellCount, cell, valueCount, isInterpretation}
+use Rattle.theory.specs.Cells.{cellCount, cell, valueCount, isInterpretation, tabulated}
 use Rattle.theory.proofs.Tests.{and-join, eqb-true, eqb-of-≡, ltb-of-<}
-use Rattle.theory.proofs.Lists.{all-map, all-upTo, length-upFrom, map-places, map-concatMap, concatMap-cong, concatMap-shift, same-refl, same-true}
+use Rattle.theory.proofs.Lists.{all-map, all-concatMap, all-upTo, upTo-all, length-upFrom, map-places, map-concatMap, concatMap-cong, concatMap-shift, same-refl, same-true}
 use Rattle.theory.proofs.Vectors.{all-vectors, vectors-all, length-vectors}
 use Rattle.theory.proofs.Numbering.{numbering}
 use Rattle.theory.proofs.Tables.{interpretation-join, empty-interpretation}
-
--- the cell values, in cell order, where the symbol at place i has the value t i v at the arguments v
-unfoldable pub tabulated : ℕ → Signature → (ℕ → List ℕ → ℕ) → List ℕ
-tabulated s g t = concatMap (λ i. map (t i) (vectors s (symbolAt g i .arity))) (upTo (length g))
 
 -- blocks of the same lengths one after the other are equal block by block
 blocks-equal : (f h : ℕ → List ℕ) (is : List ℕ) → ((i : ℕ) → length (f i) ≡ length (h i)) → concatMap f is ≡ concatMap h is → all (λ i. same (f i) (h i)) is ≡ true
@@ -51,7 +47,7 @@ module _ (s : ℕ) (g : Signature) where
       let b : List ℕ = concatMap (λ i. map (u i) (arguments i)) is in
       omega (arith, length-append (map (t i) (arguments i)) a, length-append (map (u i) (arguments i)) b, length-map (arguments i) (t i), length-map (arguments i) (u i), same-lengths t u is)
 
-  length-tabulated : (t : ℕ → List ℕ → ℕ) → length (tabulated s g t) ≡ cellCount s g
+  pub length-tabulated : (t : ℕ → List ℕ → ℕ) → length (tabulated s g t) ≡ cellCount s g
   unfolding tabulated
   length-tabulated t = same-lengths t (cell s g) (upTo (length g)) ∙ ap length (numbering .cells s g) ∙ length-upFrom 0 (cellCount s g)
 
@@ -78,6 +74,24 @@ module _ (s : ℕ) (g : Signature) where
       (blocks-equal (λ i. map (u i) (arguments i)) (λ i. map (t i) (arguments i)) (upTo (length g))
       (λ i. length-map (arguments i) (u i) ∙ sym (length-map (arguments i) (t i))) (tabulated-again vs (length-tabulated t))) i l) in
       eqb-true (u i v) (t i v) (all-vectors s (symbolAt g i .arity) (λ v. eqb (u i v) (t i v)) (images-equal (u i) (t i) (arguments i) block) v e b)
+
+  -- a test that each symbol's cell passes at all arguments
+  each-cell : (q : ℕ → Bool) → ((i : ℕ) (v : List ℕ) → i < length g → length v ≡ symbolAt g i .arity → AllBelow s v → q (cell s g i v) ≡ true)
+      → (c : ℕ) → c < cellCount s g → q c ≡ true
+  each-cell q h c lt =
+      all-upTo q (cellCount s g)
+      (ap (all q) (sym (numbering .cells s g))
+      ∙ all-concatMap q (λ i. map (cell s g i) (arguments i)) (upTo (length g))
+      ∙ upTo-all (λ i. all q (map (cell s g i) (arguments i))) (length g)
+      (λ i l. all-map q (cell s g i) (arguments i) ∙ vectors-all s (symbolAt g i .arity) (λ v. q (cell s g i v)) (λ v e b. h i v l e b))) c lt
+
+  -- cell values with the same tables are equal
+  pub same-tables : (us vs : List ℕ) → length us ≡ cellCount s g → length vs ≡ cellCount s g
+      → ((i : ℕ) (v : List ℕ) → i < length g → length v ≡ symbolAt g i .arity → AllBelow s v → getD us (cell s g i v) 0 ≡ getD vs (cell s g i v) 0) → us ≡ vs
+  same-tables us vs l k h =
+      ext-getD 0 us vs (l ∙ sym k)
+      (λ c lt. eqb-true (getD us c 0) (getD vs c 0)
+      (each-cell (λ c. eqb (getD us c 0) (getD vs c 0)) (λ i v a e b. eqb-of-≡ (getD us (cell s g i v) 0) (getD vs (cell s g i v) 0) (h i v a e b)) c (omega arith)))
 
 -- the first symbol's table, and the others
 tabulated-cons : (s : ℕ) (f : Symbol) (g : Signature) (t : ℕ → List ℕ → ℕ) → tabulated s (f ∷ g) t ≡ map (t 0) (vectors s (f .arity)) ++ tabulated s g (λ i. t (suc i))

@@ -24,18 +24,18 @@ use Rattle.theory.proofs.Propagation.{any-order}
 use Rattle.theory.proofs.Walking.{walked-first}
 use Rattle.theory.proofs.Chunks.{chunks, chunks-first, completions-chunks}
 
-readBackFound-map : (s : ℕ) (p : Problem) (o : Option (List ℕ)) → readBackFound s p o ≡ Option·map (readBack s (p .symbols)) o
+pub readBackFound-map : (s : ℕ) (p : Problem) (o : Option (List ℕ)) → readBackFound s p o ≡ Option·map (readBack s (p .symbols)) o
 readBackFound-map s p none = refl
 readBackFound-map s p (some σ) = refl
 
 module _ (s : ℕ) (g : Signature) where
   -- the valuations that the walk tries
-  walk-order : completions (yesFirst s g) (replicate (propCount s g) none) ≡ chunks s (cellKinds s g)
+  pub walk-order : completions (yesFirst s g) (replicate (propCount s g) none) ≡ chunks s (cellKinds s g)
   unfolding yesFirst
   walk-order =
       ap (λ (n : ℕ). completions (yesFirst s g) (replicate n none)) (sym (widths-total s g)) ∙ completions-chunks s (cellKinds s g)
 
-  tried-is-valuation : (σ : List ℕ) → In σ (chunks s (cellKinds s g)) → isValuation s g σ ≡ true
+  pub tried-is-valuation : (σ : List ℕ) → In σ (chunks s (cellKinds s g)) → isValuation s g σ ≡ true
   tried-is-valuation σ m =
       let r = completion-bits (yesFirst s g) (replicate (propCount s g) none) σ (subst (In σ) (sym walk-order) m) in
       isValuation← s g σ (r .0 ∙ length-replicate (propCount s g) none ∙ sym (widths-total s g)) (r .1)

@@ -3,11 +3,11 @@ use Prim.Native.Nat.{ℕ, zero, suc, _+_, _^_}
 use mathlib.Core.Bool.{Bool, true, false, _&&_}
 use mathlib.Core.List.{List, [], _∷_, map}
 use mathlib.Core.Option.{Option}
-use lib.ListN.{getD, take, replicate}
+use lib.ListN.{length, getD, take, replicate}
 use lib.Dec.{eqb, ltb}
-use Rattle.theory.specs.Lists.{concatMap, sum}
-use Rattle.theory.specs.Vectors.{rank}
-use Rattle.theory.specs.Syntax.{Kind, function, predicate, Symbol, Signature, Clause}
+use Rattle.theory.specs.Lists.{concatMap, upTo, sum}
+use Rattle.theory.specs.Vectors.{vectors, rank}
+use Rattle.theory.specs.Syntax.{Kind, function, predicate, Symbol, Signature, symbolAt, Clause}
 use Rattle.theory.specs.Truth.{Interpretation, Failure, firstFailure, noFailure}
 
 -- the number of cells of a symbol
@@ -45,6 +45,10 @@ inRange s (k ∷ ks) (d ∷ ds) = ltb d (valueCount s k) && inRange s ks ds
 -- the cell values are an interpretation of the signature at size s
 unfoldable pub isInterpretation : ℕ → Signature → List ℕ → Bool
 isInterpretation s g vs = inRange s (cellKinds s g) vs
+
+-- the cell values, in cell order, where the symbol at place i has the value t i v at the arguments v
+unfoldable pub tabulated : ℕ → Signature → (ℕ → List ℕ → ℕ) → List ℕ
+tabulated s g t = concatMap (λ i. map (t i) (vectors s (symbolAt g i .arity))) (upTo (length g))
 
 -- the interpretation that the cell values are
 abbrev pub interpretation : ℕ → Signature → List ℕ → Interpretation

@@ -7,7 +7,8 @@ use Rattle.theory.specs.Bytes.{bytes}
 use Rattle.theory.specs.Refusals.{Answer, answer, refused}
 use Rattle.theory.specs.DueLines.{sheetSymbols}
 use Rattle.theory.specs.Columns.{placedProblem, placedCase}
-use Rattle.theory.specs.Program.{program}
+use Rattle.theory.specs.Operations.{findResult}
+use Rattle.theory.specs.Program.{programWork, programOutput, printed}
 
 -- number, line and column of a refusal
 abbrev pub refusalPlace : {A : Type 0} → Answer A → List ℕ
@@ -61,4 +62,4 @@ pub record ColumnExamples : Type 0 where
   pub short : ofCase "case=1\nsize=2\na=2\nf=1\n" ≡ 12 ∷ 4 ∷ 4 ∷ []
   pub long : ofCase "case=1\nsize=2\na=2\nf=1 2 1\n" ≡ 12 ∷ 4 ∷ 6 ∷ []
   pub extra : ofCase "case=1\nsize=1\na=1\nf=1\np=0\n\n" ≡ 12 ∷ 6 ∷ 1 ∷ []
-  pub shown : program (bytes "low=1\nhigh=3\nsheet=2\n") ≡ bytes "answer=refused\nreason=2\nline=1\ncolumn=7\n"
+  pub shown : printed (findResult (bytes "sheet=2\n") 1 3 programWork programOutput) ≡ bytes "answer=refused\nreason=2\nline=1\ncolumn=7\n"

@@ -11,7 +11,6 @@ use Rattle.theory.specs.Flattening.{new, flatPredicate, flatResult, Flat
 use Rattle.theory.specs.Refusals.{Answer, answer, refused, unplaced, needing}
 use Rattle.theory.specs.Problem.{Problem, readProblem}
 use Rattle.theory.specs.Operations.{lengthAnswer, writtenText, readBackText, judgeAnswer, Search, found, nothing, foundCase, findResult, findAnswer, findOutput, findWork}
-use Rattle.theory.specs.Program.{program}
 
 -- document 01's sheet: two constants that differ
 unfoldable pub twoConstants : List ℕ
@@ -79,7 +78,6 @@ pub record Examples : Type 0 where
   pub two-constants-14 : readBackIn twoConstants 2 (1 ∷ 1 ∷ 0 ∷ 0 ∷ []) ≡ refused (unplaced 14)
   pub two-constants-output : findOutput (findWithin twoConstants 1 3) (bytes "a lent buffer of thirty bytes.") ≡ bytes "case=1\nsize=2\na=1\nb=2\ny bytes."
   pub two-constants-work : findWork (findWithin twoConstants 1 3) (7 ∷ 7 ∷ []) ≡ 0 ∷ 0 ∷ []
-  pub two-constants-program : program (bytes "low=1\nhigh=3\n" ++ twoConstants) ≡ bytes "answer=found\ncase=1\nsize=2\na=1\nb=2\n"
   pub nested-flat : flatClauses (readProblem nestedTerms) ≡ nestedFlat ∷ []
   pub equal-1 : judgeAnswer (oneClause "+ = A B") (bytes "case=1\nsize=1\n") ≡ answer true
   pub equal-1-not-2 : judgeAnswer (oneClause "+ = A B") (bytes "case=1\nsize=2\n") ≡ answer false

@@ -6,7 +6,8 @@ use mathlib.Core.List.{List, [], _∷_, _++_}
 use Rattle.theory.specs.Bytes.{bytes, LF, zeroDigit, isDigit, decimal}
 use Rattle.theory.specs.Lines.{cutLine, afterKey}
 use Rattle.theory.specs.Refusals.{Refusal, Answer, answer, refused, unplaced}
-use Rattle.theory.specs.Operations.{Search, found, nothing, findResult}
+use Rattle.theory.specs.Least.{orElse}
+use Rattle.theory.specs.Operations.{Search, found, nothing}
 
 -- the numbers of work
 abbrev pub programWork : ℕ
@@ -32,6 +33,10 @@ _>>?_ (some a) k = k a
 unfoldable pub digitLine : List ℕ → List ℕ → Option (ℕ × List ℕ)
 digitLine key text = cutLine text >>? λ p. afterKey key (p .0) >>? λ v. digitOf v >>? λ d. some (d, p .1)
 
+-- the line that says yes or no to the constant clauses, and the text after it
+unfoldable pub switchLine : List ℕ → Option (Bool × List ℕ)
+switchLine text = orElse (afterKey (bytes "sym=yes\n") text >>? λ rest. some (true, rest)) (afterKey (bytes "sym=no\n") text >>? λ rest. some (false, rest))
+
 -- yes or no
 abbrev pub yesNo : Bool → List ℕ
 yesNo true = bytes "yes"
@@ -48,15 +53,26 @@ printed (answer (found s text)) = bytes "answer=found\n" ++ text
 printed (answer (nothing b)) = bytes "answer=none\nsettled=" ++ (yesNo b ++ (LF ∷ []))
 printed (refused r) = refusalText r
 
--- the two sizes and the sheet
-abbrev pub sized : List ℕ → Option (ℕ × ℕ × List ℕ)
-sized input = digitLine (bytes "low=") input >>? λ a. digitLine (bytes "high=") (a .1) >>? λ b. some (a .0, b .0, b .1)
+-- what is asked: the two sizes, whether the constant clauses are used, and the sheet
+pub record Asked : Type 0 where
+  pub low : ℕ
+  pub high : ℕ
+  pub symmetry : Bool
+  pub sheet : List ℕ
 
--- the answer to the input; a digit line that is not so laid out is 8, before the sheet is read
-abbrev pub answered : Option (ℕ × ℕ × List ℕ) → Answer Search
-answered none = refused (unplaced 8)
-answered (some i) = findResult (i .2) (i .0) (i .1) programWork programOutput
+-- the three lines and the sheet
+abbrev pub asked : List ℕ → Option Asked
+asked input =
+    digitLine (bytes "low=") input >>? λ a.
+    digitLine (bytes "high=") (a .1) >>? λ b.
+    switchLine (b .1) >>? λ c.
+    some (record { low = a .0; high = b .0; symmetry = c .0; sheet = c .1 })
 
--- the output for an input
-unfoldable pub program : List ℕ → List ℕ
-program input = printed (answered (sized input))
+-- the answer to the input, by what Find answers; a line that is not so laid out is 8, before the sheet is read
+abbrev pub answered : (Asked → Answer Search) → Option Asked → Answer Search
+answered find none = refused (unplaced 8)
+answered find (some a) = find a
+
+-- the output for an input, by what Find answers
+unfoldable pub program : (Asked → Answer Search) → List ℕ → List ℕ
+program find input = printed (answered find (asked input))

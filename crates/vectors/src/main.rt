@@ -52,4 +52,8 @@ fn main() {
     run_file(b"write_named", Operation::WriteNamed);
     run_file(b"read_back_named", Operation::ReadBackNamed);
     run_file(b"find_named", Operation::FindNamed);
+    run_file(b"write_symmetry", Operation::WriteSymmetry);
+    run_file(b"find_symmetry", Operation::FindSymmetry);
+    run_file(b"write_named_symmetry", Operation::WriteNamedSymmetry);
+    run_file(b"find_named_symmetry", Operation::FindNamedSymmetry);
 }

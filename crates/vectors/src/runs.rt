@@ -34,6 +34,10 @@ pub enum Operation {
     WriteNamed,
     ReadBackNamed,
     FindNamed,
+    WriteSymmetry,
+    FindSymmetry,
+    WriteNamedSymmetry,
+    FindNamedSymmetry,
 }
 
 fn read(sheet: &[u8]) {
@@ -69,8 +73,8 @@ fn text(answer: WriteAnswer, output: &[u8]) {
     }
 }
 
-fn write(sheet: &[u8], size: u64, named: bool, output: &mut [u8]) {
-    let answer = nesskettle::write(sheet, size, named, output);
+fn write(sheet: &[u8], size: u64, named: bool, symmetry: bool, output: &mut [u8]) {
+    let answer = nesskettle::write(sheet, size, named, symmetry, output);
     text(answer, output);
 }
 
@@ -105,8 +109,16 @@ fn search(answer: FindAnswer, work: &[u32], output: &[u8]) {
     }
 }
 
-fn find(sheet: &[u8], low: u64, high: u64, named: bool, work: &mut [u32], output: &mut [u8]) {
-    let answer = nesskettle::find(sheet, low, high, named, work, output);
+fn find(
+    sheet: &[u8],
+    low: u64,
+    high: u64,
+    named: bool,
+    symmetry: bool,
+    work: &mut [u32],
+    output: &mut [u8],
+) {
+    let answer = nesskettle::find(sheet, low, high, named, symmetry, work, output);
     search(answer, work, output);
 }
 
@@ -198,6 +210,10 @@ fn name(operation: Operation) {
         Operation::WriteNamed => say(b"write_named"),
         Operation::ReadBackNamed => say(b"read_back_named"),
         Operation::FindNamed => say(b"find_named"),
+        Operation::WriteSymmetry => say(b"write_symmetry"),
+        Operation::FindSymmetry => say(b"find_symmetry"),
+        Operation::WriteNamedSymmetry => say(b"write_named_symmetry"),
+        Operation::FindNamedSymmetry => say(b"find_named_symmetry"),
     }
 }
 
@@ -214,17 +230,21 @@ fn answer(
     match operation {
         Operation::Read => read(sheet),
         Operation::Judge => judge(sheet, beside),
-        Operation::Write => write(sheet, x.low, false, output),
+        Operation::Write => write(sheet, x.low, false, false, output),
         Operation::ReadBack => read_back(sheet, x.low, false, beside, output),
-        Operation::Find => find(sheet, x.low, x.high, false, work, output),
+        Operation::Find => find(sheet, x.low, x.high, false, false, work, output),
         Operation::FromTptp => from_tptp(sheet, output),
         Operation::Explain => explain(sheet, beside),
         Operation::Setting => setting(sheet, beside, output),
         Operation::FromSolver => from_solver(sheet, x.low, beside, output),
         Operation::FindPlain => find_plain(sheet, x.low, x.high, output),
-        Operation::WriteNamed => write(sheet, x.low, true, output),
+        Operation::WriteNamed => write(sheet, x.low, true, false, output),
         Operation::ReadBackNamed => read_back(sheet, x.low, true, beside, output),
-        Operation::FindNamed => find(sheet, x.low, x.high, true, work, output),
+        Operation::FindNamed => find(sheet, x.low, x.high, true, false, work, output),
+        Operation::WriteSymmetry => write(sheet, x.low, false, true, output),
+        Operation::FindSymmetry => find(sheet, x.low, x.high, false, true, work, output),
+        Operation::WriteNamedSymmetry => write(sheet, x.low, true, true, output),
+        Operation::FindNamedSymmetry => find(sheet, x.low, x.high, true, true, work, output),
     }
 }
 

@@ -23,7 +23,7 @@ ghost use Rattle.writing.specs.Texts.{Writable, clausesAt, textWithin};
 
 pub fn write_text(sheet: &[u8], p: Problem, s: DomainSize, output: &mut [u8]) -> WriteAnswer
     requires { ⌜ Writable (now sheet) p (s .0) ⌝ }
-    ensures { λ r. ⌜ WritingCall (textWithin (problemIn (now (sheet .entry)) p) (s .0) (length (now (output .entry)))) r (now (output .entry)) (now (output .exit)) ⌝ }
+    ensures { λ r. ⌜ WritingCall (textWithin (p .symmetry) (problemIn (now (sheet .entry)) p) (s .0) (length (now (output .entry)))) r (now (output .entry)) (now (output .exit)) ⌝ }
 {
     let n = numbering_of(p.signature, s);
     let m = measured(sheet, p, n, s);
@@ -39,8 +39,8 @@ pub fn write_text(sheet: &[u8], p: Problem, s: DomainSize, output: &mut [u8]) ->
 // The number of the clauses, and the length of their lines.
 fn measured(sheet: &[u8], p: Problem, n: Numbering, size: DomainSize) -> Progress
     requires { ⌜ Writable (now sheet) p (size .0) × NumberingOf (signatureIn (now sheet) (p .signature)) (size .0) n ⌝ }
-    ensures count { λ r. ⌜ r .count ≡ length (clausesAt (problemIn (now (sheet .entry)) p) (size .0)) ⌝ }
-    ensures length { λ r. ⌜ r .at ≡ length (texts (clausesAt (problemIn (now (sheet .entry)) p) (size .0))) ⌝ }
+    ensures count { λ r. ⌜ r .count ≡ length (clausesAt (p .symmetry) (problemIn (now (sheet .entry)) p) (size .0)) ⌝ }
+    ensures length { λ r. ⌜ r .at ≡ length (texts (clausesAt (p .symmetry) (problemIn (now (sheet .entry)) p) (size .0))) ⌝ }
 {
     let mut out = [0u8; 1];
     let mut work = [0u32; 1];
@@ -58,9 +58,9 @@ fn put_clauses(
     at: usize,
 ) -> usize
     requires { ⌜ Writable (now sheet) p (size .0) × NumberingOf (signatureIn (now sheet) (p .signature)) (size .0) n ⌝ }
-    requires { ⌜ at + length (texts (clausesAt (problemIn (now sheet) p) (size .0))) ≤ length (now output) ⌝ }
-    ensures written { λ r. ⌜ now (output .exit) ≡ put (now (output .entry)) at (texts (clausesAt (problemIn (now (sheet .entry)) p) (size .0))) ⌝ }
-    ensures place { λ r. ⌜ r ≡ at + length (texts (clausesAt (problemIn (now (sheet .entry)) p) (size .0))) ⌝ }
+    requires { ⌜ at + length (texts (clausesAt (p .symmetry) (problemIn (now sheet) p) (size .0))) ≤ length (now output) ⌝ }
+    ensures written { λ r. ⌜ now (output .exit) ≡ put (now (output .entry)) at (texts (clausesAt (p .symmetry) (problemIn (now (sheet .entry)) p) (size .0))) ⌝ }
+    ensures place { λ r. ⌜ r ≡ at + length (texts (clausesAt (p .symmetry) (problemIn (now (sheet .entry)) p) (size .0))) ⌝ }
 {
     let mut work = [0u32; 1];
     let start = Progress { at, count: 0 };

@@ -1,4 +1,4 @@
-// Write: the clauses of a sheet at a size, as a text, plain or with named terms. The refusals in document 01's order, then the text.
+// Write: the clauses of a sheet at a size, as a text, plain or with named terms, with the constant clauses where they are asked for. The refusals in document 01's order, then the text.
 mod clause_text;
 
 use crate::clause_text::write_text;
@@ -16,14 +16,21 @@ ghost use Rattle.answers.specs.Calls.{WriteCall, WritingCall};
 ghost use Rattle.problem.specs.Problems.{problemIn};
 ghost use Rattle.writing.specs.Texts.{Sized, textAt};
 
-pub fn write_clauses(sheet: &[u8], size: u64, named: bool, output: &mut [u8]) -> WriteAnswer
-    ensures { λ r. ⌜ WriteCall (now (sheet .entry)) size named r (now (output .entry)) (now (output .exit)) ⌝ }
+pub fn write_clauses(
+    sheet: &[u8],
+    size: u64,
+    named: bool,
+    symmetry: bool,
+    output: &mut [u8],
+) -> WriteAnswer
+    ensures { λ r. ⌜ WriteCall (now (sheet .entry)) size named symmetry r (now (output .entry)) (now (output .exit)) ⌝ }
 {
     let r = read_in(sheet, named);
     if r.fault != 0 {
         return WriteAnswer::Refused(refusal_in(sheet, named, r.fault, r.line));
     }
-    let p = r.problem;
+    let mut p = r.problem;
+    p.symmetry = symmetry;
     match DomainSize::checked(size as usize) {
         SizeCheck::Refused => WriteAnswer::Refused(at_line(8, 0)),
         SizeCheck::Is(s) => write_at(sheet, p, s, output),
@@ -33,7 +40,7 @@ pub fn write_clauses(sheet: &[u8], size: u64, named: bool, output: &mut [u8]) ->
 // At a checked size.
 fn write_at(sheet: &[u8], p: Problem, s: DomainSize, output: &mut [u8]) -> WriteAnswer
     requires { ⌜ Sized (now sheet) p (s .0) ⌝ }
-    ensures { λ r. ⌜ WritingCall (textAt (problemIn (now (sheet .entry)) p) (s .0) (length (now (output .entry)))) r (now (output .entry)) (now (output .exit)) ⌝ }
+    ensures { λ r. ⌜ WritingCall (textAt (p .symmetry) (problemIn (now (sheet .entry)) p) (s .0) (length (now (output .entry)))) r (now (output .entry)) (now (output .exit)) ⌝ }
 {
     let c = counts_at(sheet, p, s);
     if Counts::MAX_INSTANCES < c.instances {

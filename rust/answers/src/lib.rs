@@ -182,15 +182,63 @@ impl std::error::Error for Refusal {}
 /// What becomes of a sheet's fixed terms: those without variables that are no constants.
 ///
 /// Where neither call is refused, a search answers the same with both.
-#[derive(Clone, Copy, Debug, PartialEq, Eq)]
+#[derive(Clone, Copy, Debug, PartialEq, Eq, Default)]
 pub enum Terms {
     /// They stay as they are written.
+    #[default]
     AsWritten,
     /// Each outermost one is named: a helper constant stands in its place, equal terms share one, and one clause more for
     /// each helper, in front of the sheet's, says that it equals its term. Helpers have cells and propositional variables
     /// after those of all predicates, and are not shown in a case. The limits of a clause are those of the clauses with
     /// the names put in and of the helpers' own.
     Named,
+}
+
+/// What becomes of the renumberings of a case, its twins: whichever of them is a model, all are.
+#[derive(Clone, Copy, Debug, PartialEq, Eq)]
+pub enum Symmetry {
+    /// No clause tells them apart.
+    Kept,
+    /// Constant clauses are added, which few of them obey: of the declared constants in order, each takes a value up to its
+    /// place, and a value d above 1 only if an earlier constant has d - 1. Every model has a renumbering that obeys them, so
+    /// that a size has a model exactly if one obeys them. They count in the number of instances and of work.
+    Reduced,
+}
+
+/// Which clauses Write leaves of a sheet; unless said otherwise, those of terms as they are written, and no constant clauses.
+#[derive(Clone, Copy, Debug, PartialEq, Eq)]
+pub struct WriteOptions {
+    pub terms: Terms,
+    pub symmetry: Symmetry,
+}
+
+impl Default for WriteOptions {
+    fn default() -> WriteOptions {
+        WriteOptions {
+            terms: Terms::default(),
+            symmetry: Symmetry::Kept,
+        }
+    }
+}
+
+/// How Find searches a sheet; unless said otherwise, with terms as they are written, and with the constant clauses.
+///
+/// With [`Symmetry::Kept`] the model found is the least one of its size, with [`Symmetry::Reduced`] the least of those that
+/// obey the constant clauses. None, the smallest size and, where all constants are declared before other functions, the case
+/// are the same where neither search is refused.
+#[derive(Clone, Copy, Debug, PartialEq, Eq)]
+pub struct FindOptions {
+    pub terms: Terms,
+    pub symmetry: Symmetry,
+}
+
+impl Default for FindOptions {
+    fn default() -> FindOptions {
+        FindOptions {
+            terms: Terms::default(),
+            symmetry: Symmetry::Reduced,
+        }
+    }
 }
 
 /// How many functions, predicates and clauses an accepted sheet has.
@@ -237,7 +285,8 @@ impl FirstFailure {
 /// What a search over sizes came to.
 #[derive(Clone, Copy, Debug, PartialEq, Eq)]
 pub enum Search {
-    /// The least model at the smallest size stands in the output's first `length` bytes.
+    /// The least model at the smallest size, of those that [`FindOptions`] speaks of, stands in the output's first `length`
+    /// bytes.
     Found { size: u64, length: usize },
     /// No case of a searched size is a model. Where it is `settled`, no interpretation of any size is one, above 8
     /// included: the search began at size 1, no function has arguments, and high is at least the number of constants.
@@ -264,10 +313,10 @@ pub struct Operations {
     pub read: fn(&[u8]) -> Answer<Counts>,
     pub judge: fn(&[u8], &[u8]) -> Answer<bool>,
     pub explain: fn(&[u8], &[u8]) -> Answer<Option<FirstFailure>>,
-    pub write: fn(&[u8], u64, Terms, &mut [u8]) -> Answer<usize>,
+    pub write: fn(&[u8], u64, WriteOptions, &mut [u8]) -> Answer<usize>,
     pub read_back: fn(&[u8], u64, Terms, &[u8], &mut [u8]) -> Answer<usize>,
     pub setting: fn(&[u8], &[u8], &mut [u8]) -> Answer<usize>,
-    pub find: fn(&[u8], u64, u64, Terms, &mut [u32], &mut [u8]) -> Answer<Search>,
+    pub find: fn(&[u8], u64, u64, FindOptions, &mut [u32], &mut [u8]) -> Answer<Search>,
     pub find_plain: fn(&[u8], u64, u64, &mut [u8]) -> Answer<Search>,
     pub from_tptp: fn(&[u8], &mut [u8]) -> Answer<usize>,
     pub from_solver: fn(&[u8], u64, &[u8], &mut [u8]) -> Answer<SolverAnswer>,
@@ -285,6 +334,14 @@ mod tests {
         }
         assert_eq!(Reason::from_number(0), None);
         assert_eq!(Reason::from_number(22), None);
+    }
+
+    #[test]
+    fn find_uses_constant_clauses_and_write_adds_none() {
+        assert_eq!(FindOptions::default().symmetry, Symmetry::Reduced);
+        assert_eq!(WriteOptions::default().symmetry, Symmetry::Kept);
+        assert_eq!(FindOptions::default().terms, Terms::AsWritten);
+        assert_eq!(WriteOptions::default().terms, Terms::AsWritten);
     }
 
     #[test]

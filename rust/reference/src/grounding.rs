@@ -2,6 +2,7 @@
 
 use crate::flattening::{FlatClause, Shape};
 use crate::problem::Problem;
+use crate::{symmetry, Symmetry};
 use std::ops::Range;
 
 /// Where the propositional variables of each symbol begin, at one size. Variables are counted from 0 here; the texts
@@ -73,10 +74,12 @@ pub struct Counted {
 }
 
 impl Counted {
-    pub fn new(problem: &Problem, size: usize) -> Self {
+    pub fn new(problem: &Problem, size: usize, symmetry: Symmetry) -> Self {
         let s = size as u64;
-        let mut instances = 0;
-        let mut literals = 0;
+        let (mut instances, mut literals) = match symmetry {
+            Symmetry::Kept => (0, 0),
+            Symmetry::Reduced => symmetry::counts(problem, size),
+        };
         for arity in problem.function_arities() {
             let cells = s.pow(arity as u32);
             instances += cells * (1 + s * (s - 1) / 2);
@@ -102,7 +105,7 @@ impl Counted {
 }
 
 /// Hands out every written clause in order, as numbers from 1, negative ones negated.
-pub fn for_each_clause(problem: &Problem, size: usize, mut take: impl FnMut(&[i32])) {
+pub fn for_each_clause(problem: &Problem, size: usize, symmetry: Symmetry, mut take: impl FnMut(&[i32])) {
     let numbering = Numbering::new(problem, size);
     let mut clause = Vec::new();
     for (arity, base) in problem.function_arities().zip(&numbering.function_base) {
@@ -118,6 +121,9 @@ pub fn for_each_clause(problem: &Problem, size: usize, mut take: impl FnMut(&[i3
                 }
             }
         }
+    }
+    if symmetry == Symmetry::Reduced {
+        symmetry::for_each_clause(problem, &numbering, &mut take);
     }
     for flat in &problem.flat {
         Instances::new(flat, &numbering).for_each(&mut take);
@@ -210,10 +216,10 @@ impl Instances {
 }
 
 /// The text that Write leaves.
-pub fn dimacs(problem: &Problem, size: usize) -> Vec<u8> {
+pub fn dimacs(problem: &Problem, size: usize, symmetry: Symmetry) -> Vec<u8> {
     let mut body = Vec::new();
     let mut count = 0;
-    for_each_clause(problem, size, |clause| {
+    for_each_clause(problem, size, symmetry, |clause| {
         count += 1;
         for &number in clause {
             if number < 0 {

@@ -16,11 +16,13 @@ mod program;
 mod search;
 mod sheet;
 mod solver;
+mod symmetry;
 mod syntax;
 mod tptp;
 pub mod vectors;
 
-pub use nesskettle_answers::{Counts, FirstFailure, Operations, Reason, Refusal, Search, SolverAnswer, Terms};
+pub use nesskettle_answers::{Counts, FirstFailure, Operations, Reason, Refusal, Search, SolverAnswer};
+pub use nesskettle_answers::{FindOptions, Symmetry, Terms, WriteOptions};
 pub use program::{explainer, program};
 pub use sheet::sheet_of;
 
@@ -75,11 +77,11 @@ pub fn explain(sheet: &[u8], case: &[u8]) -> Result<Option<FirstFailure>, Refusa
 }
 
 /// Writes the sheet's clauses at a size as DIMACS text; the text's length.
-pub fn write(sheet: &[u8], size: u64, terms: Terms, out: &mut [u8]) -> Result<usize, Refusal> {
-    let problem = Problem::read(sheet, terms)?;
+pub fn write(sheet: &[u8], size: u64, options: WriteOptions, out: &mut [u8]) -> Result<usize, Refusal> {
+    let problem = Problem::read(sheet, options.terms)?;
     let size = checked_size(size)?;
-    few_instances(&Counted::new(&problem, size))?;
-    let text = grounding::dimacs(&problem, size);
+    few_instances(&Counted::new(&problem, size, options.symmetry))?;
+    let text = grounding::dimacs(&problem, size, options.symmetry);
     put(&text, out)
 }
 
@@ -108,11 +110,11 @@ pub fn find(
     sheet: &[u8],
     low: u64,
     high: u64,
-    terms: Terms,
+    options: FindOptions,
     work: &mut [u32],
     out: &mut [u8],
 ) -> Result<Search, Refusal> {
-    find_within(sheet, low, high, terms, work, out, u64::MAX)
+    find_within(sheet, low, high, options, work, out, u64::MAX)
         .map(|search| search.expect("no search makes so many choices"))
 }
 
@@ -121,14 +123,14 @@ pub fn find_within(
     sheet: &[u8],
     low: u64,
     high: u64,
-    terms: Terms,
+    options: FindOptions,
     work: &mut [u32],
     out: &mut [u8],
     allowance: u64,
 ) -> Result<Option<Search>, Refusal> {
-    let problem = Problem::read(sheet, terms)?;
+    let problem = Problem::read(sheet, options.terms)?;
     let top = checked_range(low, high)?;
-    let counted = Counted::new(&problem, top);
+    let counted = Counted::new(&problem, top, options.symmetry);
     few_instances(&counted)?;
     if (work.len() as u64) < counted.work() {
         return Err(short(Reason::WorkTooShort, counted.work()));
@@ -139,7 +141,7 @@ pub fn find_within(
     }
     let mut left = allowance;
     for size in low as usize..=top {
-        match search::least_model(&problem, size, &mut left) {
+        match search::least_model(&problem, size, options.symmetry, &mut left) {
             search::Outcome::Stopped => return Ok(None),
             search::Outcome::None => {}
             search::Outcome::Found(cells) => {
@@ -222,17 +224,17 @@ pub fn from_solver(sheet: &[u8], size: u64, text: &[u8], out: &mut [u8]) -> Resu
 }
 
 /// The needed lengths of a search: work numbers and output bytes at the size, for a sheet that is not refused.
-pub fn needed(sheet: &[u8], size: u64, terms: Terms) -> Result<(u64, u64), Refusal> {
-    let problem = Problem::read(sheet, terms)?;
+pub fn needed(sheet: &[u8], size: u64, options: FindOptions) -> Result<(u64, u64), Refusal> {
+    let problem = Problem::read(sheet, options.terms)?;
     let size = checked_size(size)?;
-    let work = Counted::new(&problem, size).work();
+    let work = Counted::new(&problem, size, options.symmetry).work();
     Ok((work, interpretation::text_length(&problem, size) as u64))
 }
 
 /// The counts I and V of a sheet at a size: instances before dropping, propositional variables.
-pub fn instances_and_variables(sheet: &[u8], size: u64, terms: Terms) -> Result<(u64, u64), Refusal> {
-    let problem = Problem::read(sheet, terms)?;
-    let counted = Counted::new(&problem, checked_size(size)?);
+pub fn instances_and_variables(sheet: &[u8], size: u64, options: WriteOptions) -> Result<(u64, u64), Refusal> {
+    let problem = Problem::read(sheet, options.terms)?;
+    let counted = Counted::new(&problem, checked_size(size)?, options.symmetry);
     Ok((counted.instances, counted.variables))
 }
 

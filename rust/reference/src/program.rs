@@ -1,6 +1,6 @@
 //! The programs as functions from standard input to standard output.
 
-use crate::{explain, find, Reason, Refusal, Search, Terms};
+use crate::{explain, find, FindOptions, Reason, Refusal, Search, Symmetry, Terms};
 
 const WORK: usize = 16_000;
 const OUTPUT: usize = 24_902;
@@ -9,8 +9,9 @@ const OUTPUT: usize = 24_902;
 pub fn program(input: &[u8]) -> Vec<u8> {
     let mut work = vec![0; WORK];
     let mut out = vec![0; OUTPUT];
-    let answer = bounds_and_sheet(input)
-        .and_then(|(low, high, sheet)| find(sheet, low, high, Terms::AsWritten, &mut work, &mut out));
+    let answer = read_input(input)
+        .ok_or(crate::refused(Reason::BadSize))
+        .and_then(|(low, high, options, sheet)| find(sheet, low, high, options, &mut work, &mut out));
     match answer {
         Ok(Search::Found { length, .. }) => {
             let mut text = b"answer=found\n".to_vec();
@@ -51,11 +52,16 @@ fn start_of_case(input: &[u8]) -> usize {
     lines.take_while(|&line| line != b"case=1\n").map(<[u8]>::len).sum()
 }
 
-/// The two digit lines and the sheet after them.
-fn bounds_and_sheet(input: &[u8]) -> Result<(u64, u64, &[u8]), Refusal> {
-    let digits = digit_line(input, b"low=")
-        .and_then(|(low, rest)| digit_line(rest, b"high=").map(|(high, rest)| (low, high, rest)));
-    digits.ok_or(crate::refused(Reason::BadSize))
+/// The two digits, what the third line says, and the sheet after it; nothing where one of the three lines is not as laid out.
+fn read_input(input: &[u8]) -> Option<(u64, u64, FindOptions, &[u8])> {
+    let (low, rest) = digit_line(input, b"low=")?;
+    let (high, rest) = digit_line(rest, b"high=")?;
+    let (symmetry, sheet) = match rest.strip_prefix(b"sym=yes\n") {
+        Some(sheet) => (Symmetry::Reduced, sheet),
+        None => (Symmetry::Kept, rest.strip_prefix(b"sym=no\n")?),
+    };
+    let terms = Terms::AsWritten;
+    Some((low, high, FindOptions { terms, symmetry }, sheet))
 }
 
 /// The digit of the line with this key, and what follows the line.

@@ -5,6 +5,7 @@
 
 use crate::grounding::{for_each_clause, Numbering};
 use crate::problem::Problem;
+use crate::Symmetry;
 use std::ops::Range;
 
 pub enum Outcome {
@@ -15,10 +16,11 @@ pub enum Outcome {
     Stopped,
 }
 
-/// The least model at a size. Each choice is taken from `allowance`.
-pub fn least_model(problem: &Problem, size: usize, allowance: &mut u64) -> Outcome {
+/// The least model at a size, of those that satisfy the constant clauses where symmetry is reduced. Each choice is taken from
+/// `allowance`.
+pub fn least_model(problem: &Problem, size: usize, symmetry: Symmetry, allowance: &mut u64) -> Outcome {
     let numbering = Numbering::new(problem, size);
-    let Some(mut search) = Search::load(problem, size, &numbering) else {
+    let Some(mut search) = Search::load(problem, size, symmetry, &numbering) else {
         return Outcome::None;
     };
     match search.run(allowance) {
@@ -70,13 +72,13 @@ struct Search {
 
 impl Search {
     /// The clauses in memory, one-literal clauses at the front of the trail; nothing where a clause is empty.
-    fn load(problem: &Problem, size: usize, numbering: &Numbering) -> Option<Self> {
+    fn load(problem: &Problem, size: usize, symmetry: Symmetry, numbering: &Numbering) -> Option<Self> {
         let codes = 2 * numbering.variables;
         let mut seen = vec![u32::MAX; codes];
         let mut clauses: Vec<Left> = Vec::new();
         let mut entered: Vec<(Code, u32)> = Vec::new();
         let mut starts = vec![0; codes + 1];
-        for_each_clause(problem, size, |clause| {
+        for_each_clause(problem, size, symmetry, |clause| {
             let index = clauses.len() as u32;
             let mut left = 0;
             for &number in clause {

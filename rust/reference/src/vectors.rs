@@ -3,7 +3,7 @@
 //! One vector a line: the operation, its inputs, `->`, its answer. Each field is `key=value`; a byte string stands in
 //! double quotes, with `\n`, `\"`, `\\` and `\xHH` in it.
 
-use crate::{FirstFailure, Operations, Refusal, Search, SolverAnswer, Terms};
+use crate::{FindOptions, FirstFailure, Operations, Refusal, Search, SolverAnswer, Symmetry, Terms, WriteOptions};
 use std::collections::HashMap;
 
 /// The stored vectors.
@@ -28,11 +28,24 @@ impl Vector {
 
     /// Terms as written where the field `named` is 0 or is not there.
     pub fn terms(&self) -> Terms {
-        if self.inputs.has("named") && self.inputs.number("named") > 0 {
+        if self.is_on("named") {
             Terms::Named
         } else {
             Terms::AsWritten
         }
+    }
+
+    /// Kept where the field `symmetry` is 0 or is not there.
+    pub fn symmetry(&self) -> Symmetry {
+        if self.is_on("symmetry") {
+            Symmetry::Reduced
+        } else {
+            Symmetry::Kept
+        }
+    }
+
+    fn is_on(&self, switch: &str) -> bool {
+        self.inputs.has(switch) && self.inputs.number(switch) > 0
     }
 }
 
@@ -125,7 +138,7 @@ pub fn run(operations: &Operations, vector: &Vector) -> Result<(), String> {
     let sheet = if given.has("sheet") { given.bytes("sheet") } else { &[] };
     let mut out = patterned_bytes(if given.has("output") { given.number("output") } else { 0 });
     let mut work = patterned_numbers(if given.has("work") { given.number("work") } else { 0 });
-    let terms = vector.terms();
+    let (terms, symmetry) = (vector.terms(), vector.symmetry());
     let answered = match vector.operation.as_str() {
         "read" => (operations.read)(sheet).map(|c| {
             format!(
@@ -135,7 +148,10 @@ pub fn run(operations: &Operations, vector: &Vector) -> Result<(), String> {
         }),
         "judge" => (operations.judge)(sheet, given.bytes("case")).map(|yes| format!("judged={}", yes_no(yes))),
         "explain" => (operations.explain)(sheet, given.bytes("case")).map(explained),
-        "write" => (operations.write)(sheet, given.number("size"), terms, &mut out).map(|n| format!("length={n}")),
+        "write" => {
+            let options = WriteOptions { terms, symmetry };
+            (operations.write)(sheet, given.number("size"), options, &mut out).map(|n| format!("length={n}"))
+        }
         "read-back" => {
             let (size, setting) = (given.number("size"), given.bytes("setting"));
             (operations.read_back)(sheet, size, terms, setting, &mut out).map(|n| format!("length={n}"))
@@ -143,7 +159,7 @@ pub fn run(operations: &Operations, vector: &Vector) -> Result<(), String> {
         "setting" => (operations.setting)(sheet, given.bytes("case"), &mut out).map(|n| format!("length={n}")),
         "find" => {
             let (low, high) = (given.number("low"), given.number("high"));
-            (operations.find)(sheet, low, high, terms, &mut work, &mut out).map(found)
+            (operations.find)(sheet, low, high, FindOptions { terms, symmetry }, &mut work, &mut out).map(found)
         }
         "find-plain" => (operations.find_plain)(sheet, given.number("low"), given.number("high"), &mut out).map(found),
         "from-tptp" => (operations.from_tptp)(given.bytes("text"), &mut out).map(|n| format!("length={n}")),

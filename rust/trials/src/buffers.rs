@@ -2,6 +2,7 @@
 
 use crate::random::Random;
 use nesskettle_reference::vectors::{patterned_bytes, patterned_numbers};
+use nesskettle_reference::Refusal;
 
 /// How much stands before and after the lent part.
 const GUARD: usize = 64;
@@ -57,4 +58,15 @@ pub fn length_around(random: &mut Random, needed: u64) -> usize {
         3 => 0,
         _ => needed,
     }
+}
+
+/// What a call that writes leaves in an output that is large enough.
+pub fn left(mut call: impl FnMut(&mut [u8]) -> Result<usize, Refusal>) -> Result<Vec<u8>, Refusal> {
+    let mut output = Vec::new();
+    if let Err(refusal) = call(&mut output) {
+        output = vec![0; refusal.needed as usize];
+    }
+    let length = call(&mut output)?;
+    output.truncate(length);
+    Ok(output)
 }

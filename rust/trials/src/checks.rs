@@ -1,34 +1,70 @@
-//! The calls that take terms as written or named, each on the library and on the reference: the same answer, and every lent
-//! byte and number the same.
+//! The calls that take switches, terms as written or named and constant clauses or none, each on the library and on the
+//! reference: the same answer, and every lent byte and number the same.
 
 use crate::buffers::Lent;
 use crate::expected;
 use crate::tally::Tally;
 use nesskettle::raw;
-use nesskettle_reference::{self as reference, Terms};
+use nesskettle_reference::{self as reference, FindOptions, Symmetry, Terms, WriteOptions};
 
-/// The C interface's number for terms as they are written; every other number names them.
-pub const AS_WRITTEN: u32 = 0;
+/// The C interface's numbers for named terms and for constant clauses: 0 is no, every other number yes.
+#[derive(Clone, Copy, Debug)]
+pub struct Switches {
+    pub named: u32,
+    pub symmetry: u32,
+}
 
-/// What the number says.
-pub fn terms(named: u32) -> Terms {
+/// Terms as written, no constant clauses.
+pub const OFF: Switches = Switches { named: 0, symmetry: 0 };
+
+impl Switches {
+    pub fn write_options(self) -> WriteOptions {
+        let (terms, symmetry) = (terms(self.named), symmetry(self.symmetry));
+        WriteOptions { terms, symmetry }
+    }
+
+    pub fn find_options(self) -> FindOptions {
+        let (terms, symmetry) = (terms(self.named), symmetry(self.symmetry));
+        FindOptions { terms, symmetry }
+    }
+}
+
+fn terms(named: u32) -> Terms {
     match named {
-        AS_WRITTEN => Terms::AsWritten,
+        0 => Terms::AsWritten,
         _ => Terms::Named,
     }
 }
 
-pub fn check_write(tally: &mut Tally, sheet: &[u8], size: u64, named: u32, output_length: usize) {
+fn symmetry(symmetry: u32) -> Symmetry {
+    match symmetry {
+        0 => Symmetry::Kept,
+        _ => Symmetry::Reduced,
+    }
+}
+
+pub fn check_write(tally: &mut Tally, sheet: &[u8], size: u64, switches: Switches, output_length: usize) {
     let mut should = vec![0; output_length];
-    let (expected, front) = expected::text(reference::write(sheet, size, terms(named), &mut should), &should);
+    let written = reference::write(sheet, size, switches.write_options(), &mut should);
+    let (expected, front) = expected::text(written, &should);
     let lent = sheet.to_vec();
     let mut output = Lent::bytes(output_length);
     let out = output.lend();
     // SAFETY: pointers and lengths are slices', and what is lent for writing is lent to this call alone; so below.
-    let answer = unsafe { raw::nk_write(lent.as_ptr(), lent.len(), size, named, out.as_mut_ptr(), out.len()) };
+    let answer = unsafe {
+        raw::nk_write(
+            lent.as_ptr(),
+            lent.len(),
+            size,
+            switches.named,
+            switches.symmetry,
+            out.as_mut_ptr(),
+            out.len(),
+        )
+    };
     let call = || {
         format!(
-            "write, size {size}, named {named}, output {output_length}\n{}",
+            "write, size {size}, {switches:?}, output {output_length}\n{}",
             text(sheet)
         )
     };
@@ -76,14 +112,15 @@ pub fn check_find_within(
     tally: &mut Tally,
     sheet: &[u8],
     (low, high): (u64, u64),
-    named: u32,
+    switches: Switches,
     work_length: usize,
     output_length: usize,
     choices: u64,
 ) {
     let mut should = vec![0; output_length];
     let mut scratch = vec![0; work_length];
-    let within = reference::find_within(sheet, low, high, terms(named), &mut scratch, &mut should, choices);
+    let options = switches.find_options();
+    let within = reference::find_within(sheet, low, high, options, &mut scratch, &mut should, choices);
     let Some(search) = within.transpose() else {
         return tally.add("left out", 0);
     };
@@ -99,7 +136,8 @@ pub fn check_find_within(
             lent.len(),
             low,
             high,
-            named,
+            switches.named,
+            switches.symmetry,
             numbers.as_mut_ptr(),
             numbers.len(),
             out.as_mut_ptr(),
@@ -108,7 +146,7 @@ pub fn check_find_within(
     };
     let call = || {
         format!(
-            "find, {low} to {high}, named {named}, work {work_length}, output {output_length}\n{}",
+            "find, {low} to {high}, {switches:?}, work {work_length}, output {output_length}\n{}",
             text(sheet)
         )
     };

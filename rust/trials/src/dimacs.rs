@@ -45,6 +45,18 @@ impl Dimacs {
         })
     }
 
+    /// The clauses, each as the variables that make it true where they are yes, and where they are no. There are at most 32.
+    pub fn masks(&self) -> Vec<(u32, u32)> {
+        let mask = |clause: Vec<i32>| {
+            let bits = |positive: bool| {
+                let numbers = clause.iter().filter(move |&&n| (n > 0) == positive);
+                numbers.fold(0, |bits, n| bits | 1 << (n.unsigned_abs() - 1))
+            };
+            (bits(true), bits(false))
+        };
+        self.clauses().map(mask).collect()
+    }
+
     /// The clauses, and each of these numbers as one more clause.
     pub fn with_units(&self, units: &[i32]) -> Dimacs {
         let mut text = format!("p cnf {} {}\n", self.variables, self.count + units.len()).into_bytes();

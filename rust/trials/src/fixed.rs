@@ -158,12 +158,12 @@ fn symbol((name, arity): (&str, usize)) -> Symbol {
     Symbol { name, arity }
 }
 
-fn symbols(all: &[(&str, usize)]) -> Vec<Symbol> {
+pub(crate) fn symbols(all: &[(&str, usize)]) -> Vec<Symbol> {
     all.iter().copied().map(symbol).collect()
 }
 
 /// At least so many of them, in their order.
-fn some(random: &mut Random, all: &[(&str, usize)], least: usize) -> Vec<Symbol> {
+pub(crate) fn some(random: &mut Random, all: &[(&str, usize)], least: usize) -> Vec<Symbol> {
     let count = random.between(least, all.len().min(least + 2));
     let mut taken: Vec<(&str, usize)> = all.to_vec();
     while taken.len() > count {
@@ -173,7 +173,7 @@ fn some(random: &mut Random, all: &[(&str, usize)], least: usize) -> Vec<Symbol>
 }
 
 impl Draft {
-    fn with_clauses(mut self, random: &mut Random, clauses: usize, literals: usize, depth: usize) -> Draft {
+    pub(crate) fn with_clauses(mut self, random: &mut Random, clauses: usize, literals: usize, depth: usize) -> Draft {
         let pool: Vec<Term> = (0..random.between(1, 4)).map(|_| self.fixed(random, depth)).collect();
         for _ in 0..clauses {
             let mut clause = Vec::new();

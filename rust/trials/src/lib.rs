@@ -2,15 +2,18 @@
 
 pub mod buffers;
 pub mod checks;
+pub mod constants;
 pub mod damage;
 pub mod dimacs;
 pub mod draft;
 pub mod expected;
 pub mod fixed;
 pub mod models;
+pub mod options;
 pub mod places;
 pub mod problems;
 pub mod random;
+pub mod renumbering;
 pub mod solver;
 pub mod tally;
 pub mod tptp;

@@ -17,11 +17,14 @@ macro_rules! problems {
 
 problems! {
     "two-constants" "group" "exponent-2" "quasigroup-3" "quasigroup-5" "pigeonhole" "serial-order" "tournament"
-    "steiner" "lattice" "million"
+    "steiner" "lattice" "million" "all-different"
 }
 
 /// Exactly 1,000,000 instances at size 8.
 pub const MILLION: &[u8] = include_bytes!("../../data/sheets/million.sheet");
+
+/// The same, with one constant and the constant clauses.
+pub const MILLION_CONSTANT: &[u8] = include_bytes!("../../data/sheets/million-constant.sheet");
 
 /// A group of six elements that do not all commute, as tables.
 pub const GROUP_CASE: &[u8] = include_bytes!("../../data/sheets/group-6.case");

@@ -1,7 +1,8 @@
 //! Truth of a clause's words in a case, read off the case's tables by name.
 
-use crate::draft::Draft;
-use std::collections::HashMap;
+use crate::draft::{Draft, Symbol};
+use std::collections::{BTreeSet, HashMap};
+use std::ops::Range;
 
 /// Letters, each with the element, from 1, that it stands for.
 pub type Choice = [(char, u8)];
@@ -72,6 +73,34 @@ pub fn is_model(draft: &Draft, case: &[u8]) -> bool {
         let mut all = (0..choices(&letters, tables.size)).map(|number| choice(&letters, tables.size, number));
         !all.any(|choice| tables.fails(clause, &choice))
     })
+}
+
+/// The models of the draft at this size: every case is tried, by truth alone.
+pub fn models(draft: &Draft, size: usize) -> BTreeSet<Vec<u8>> {
+    let values = cell_values(draft, size);
+    let count: usize = values.iter().map(|values| values.len()).product();
+    let case = |mut number: usize| {
+        let mut cells = values.iter().map(|values| {
+            let value = values.start + number % values.len();
+            number /= values.len();
+            value.to_string()
+        });
+        let mut text = format!("case=1\nsize={size}\n");
+        for symbol in draft.symbols() {
+            let row: Vec<String> = cells.by_ref().take(size.pow(symbol.arity as u32)).collect();
+            text += &format!("{}={}\n", symbol.name, row.join(" "));
+        }
+        text.into_bytes()
+    };
+    (0..count).map(case).filter(|case| is_model(draft, case)).collect()
+}
+
+/// The values that each cell of a case may have, in order.
+pub fn cell_values(draft: &Draft, size: usize) -> Vec<Range<usize>> {
+    let table = |(symbol, values): (&Symbol, Range<usize>)| vec![values; size.pow(symbol.arity as u32)];
+    let functions = draft.functions.iter().map(|f| (f, 1..size + 1));
+    let predicates = draft.predicates.iter().map(|p| (p, 0..2));
+    functions.chain(predicates).flat_map(table).collect()
 }
 
 /// The letters of a clause in order of first appearance.

@@ -2,6 +2,7 @@
 
 use nesskettle_reference::Terms::{AsWritten, Named};
 use nesskettle_reference::{self as reference, sheet_of, Reason, Refusal};
+use nesskettle_trials::options::{not_asked, told_no};
 use nesskettle_trials::places::marked;
 
 /// Every call refuses the marked sheet with this reason, there.
@@ -26,11 +27,11 @@ fn refused(sheet: &str, reason: Reason) {
             &all
         };
         for &terms in ways {
-            let written = (o.write)(sheet, 0, terms, &mut []);
+            let written = (o.write)(sheet, 0, not_asked(terms), &mut []);
             assert_eq!(written, Err(refusal), "{}: write {shown}", o.name);
             let back = (o.read_back)(sheet, 0, terms, b"x", &mut []);
             assert_eq!(back, Err(refusal), "{}: read back {shown}", o.name);
-            let found = (o.find)(sheet, 0, 0, terms, &mut [], &mut []);
+            let found = (o.find)(sheet, 0, 0, told_no(terms), &mut [], &mut []);
             assert_eq!(found, Err(refusal), "{}: find {shown}", o.name);
         }
     }
@@ -323,13 +324,19 @@ fn no_line_and_no_column() {
     let many = sheet_of(&[], &["q/3"], &["+ q A B C + q D E F"; 4]);
     for o in [nesskettle::OPERATIONS, reference::OPERATIONS] {
         unplaced((o.read)(&[b'x'; 16_385]), Reason::SheetTooLong);
-        unplaced((o.write)(&sheet, 9, AsWritten, &mut []), Reason::BadSize);
-        unplaced((o.write)(&many, 8, AsWritten, &mut []), Reason::TooManyInstances);
+        unplaced((o.write)(&sheet, 9, not_asked(AsWritten), &mut []), Reason::BadSize);
         unplaced(
-            (o.find)(&sheet, 1, 1, AsWritten, &mut [], &mut []),
+            (o.write)(&many, 8, not_asked(AsWritten), &mut []),
+            Reason::TooManyInstances,
+        );
+        unplaced(
+            (o.find)(&sheet, 1, 1, told_no(AsWritten), &mut [], &mut []),
             Reason::WorkTooShort,
         );
-        unplaced((o.write)(&sheet, 2, AsWritten, &mut []), Reason::OutputTooShort);
+        unplaced(
+            (o.write)(&sheet, 2, not_asked(AsWritten), &mut []),
+            Reason::OutputTooShort,
+        );
         unplaced(
             (o.read_back)(&sheet, 2, AsWritten, &[2; 4], &mut []),
             Reason::BadSetting,

@@ -6,11 +6,12 @@
 use nesskettle::raw::{self, ExplainAnswer, JudgeAnswer, ReadAnswer};
 use nesskettle_reference::{self as reference, Terms};
 use nesskettle_trials::buffers::{length_around, Lent};
-use nesskettle_trials::checks::{check_find_within, check_read_back, check_write, text, AS_WRITTEN};
+use nesskettle_trials::checks::{check_find_within, check_read_back, check_write, text, OFF};
 use nesskettle_trials::damage::damaged;
 use nesskettle_trials::draft::{long_sheet, Draft, Style, BROAD, LIMITS, LONG_CLAUSES, SMALL};
 use nesskettle_trials::expected;
 use nesskettle_trials::models::{small_model, CHOICES};
+use nesskettle_trials::options::{not_asked, told_no};
 use nesskettle_trials::places::pointed_at;
 use nesskettle_trials::problems::{self, MILLION};
 use nesskettle_trials::random::Random;
@@ -183,15 +184,7 @@ fn check_setting(tally: &mut Tally, sheet: &[u8], case: &[u8], output_length: us
 }
 
 fn check_find(tally: &mut Tally, sheet: &[u8], low: u64, high: u64, work_length: usize, output_length: usize) {
-    check_find_within(
-        tally,
-        sheet,
-        (low, high),
-        AS_WRITTEN,
-        work_length,
-        output_length,
-        CHOICES,
-    )
+    check_find_within(tally, sheet, (low, high), OFF, work_length, output_length, CHOICES)
 }
 
 /// A draft in one of the styles.
@@ -217,7 +210,8 @@ fn size_of(random: &mut Random, sheet: &[u8], instances: u64) -> u64 {
     }
     let mut size = random.between(1, 8).min(random.between(1, 8)) as u64;
     while size > 1
-        && reference::instances_and_variables(sheet, size, Terms::AsWritten).is_ok_and(|(i, _)| i > instances)
+        && reference::instances_and_variables(sheet, size, not_asked(Terms::AsWritten))
+            .is_ok_and(|(i, _)| i > instances)
     {
         size -= 1;
     }
@@ -380,10 +374,10 @@ fn clauses_are_written_alike() {
         let draft = draft(&mut random, &[SMALL, BROAD, LONG_CLAUSES]);
         let sheet = sheet_of(&mut random, &draft, 10);
         let size = size_of(&mut random, &sheet, 2_000);
-        let needed =
-            reference::write(&sheet, size, Terms::AsWritten, &mut []).map_or_else(|refusal| refusal.needed, |_| 0);
+        let needed = reference::write(&sheet, size, not_asked(Terms::AsWritten), &mut [])
+            .map_or_else(|refusal| refusal.needed, |_| 0);
         let length = length_around(&mut random, needed);
-        check_write(&mut tally, &sheet, size, AS_WRITTEN, length);
+        check_write(&mut tally, &sheet, size, OFF, length);
     }
     tally.covers(50, &["written", "2", "8", "11"]);
 }
@@ -396,12 +390,12 @@ fn many_clauses_are_written_alike() {
         let draft = Draft::around_clause_limits(&mut random);
         let sheet = draft.sheet();
         let size = random.between(1, 8) as u64;
-        let needed = match reference::write(&sheet, size, Terms::AsWritten, &mut []) {
+        let needed = match reference::write(&sheet, size, not_asked(Terms::AsWritten), &mut []) {
             Err(refusal) if refusal.needed < 2_000_000 => refusal.needed,
             _ => 0,
         };
         let length = length_around(&mut random, needed);
-        check_write(&mut tally, &sheet, size, AS_WRITTEN, length);
+        check_write(&mut tally, &sheet, size, OFF, length);
     }
     tally.covers(50, &["written", "7", "9", "11"]);
 }
@@ -410,15 +404,15 @@ fn many_clauses_are_written_alike() {
 #[test]
 fn a_million_instances_are_taken() {
     let mut tally = Tally::default();
-    let needed = reference::write(MILLION, 8, Terms::AsWritten, &mut [])
+    let needed = reference::write(MILLION, 8, not_asked(Terms::AsWritten), &mut [])
         .expect_err("no room")
         .needed as usize;
-    check_write(&mut tally, MILLION, 8, AS_WRITTEN, needed);
-    check_write(&mut tally, MILLION, 8, AS_WRITTEN, needed - 1);
-    let (work, output) = reference::needed(MILLION, 8, Terms::AsWritten).expect("it is a sheet");
+    check_write(&mut tally, MILLION, 8, OFF, needed);
+    check_write(&mut tally, MILLION, 8, OFF, needed - 1);
+    let (work, output) = reference::needed(MILLION, 8, told_no(Terms::AsWritten)).expect("it is a sheet");
     check_find(&mut tally, MILLION, 8, 8, work as usize, output as usize);
     let more = text(MILLION).replace("clauses=15", "clauses=16") + "clause=\n";
-    check_write(&mut tally, more.as_bytes(), 8, AS_WRITTEN, needed + 10);
+    check_write(&mut tally, more.as_bytes(), 8, OFF, needed + 10);
     check_find(&mut tally, more.as_bytes(), 8, 8, work as usize + 2, output as usize);
     tally.covers(1, &["written", "found", "11", "9"]);
 }
@@ -436,9 +430,9 @@ fn settings_are_read_back_alike() {
         if random.once_in(3) {
             damage_setting(&mut random, &mut setting);
         }
-        let needed = reference::needed(&sheet, size, Terms::AsWritten).map_or(20, |(_, output)| output);
+        let needed = reference::needed(&sheet, size, told_no(Terms::AsWritten)).map_or(20, |(_, output)| output);
         let length = length_around(&mut random, needed);
-        check_read_back(&mut tally, &sheet, size, AS_WRITTEN, &setting, length);
+        check_read_back(&mut tally, &sheet, size, OFF.named, &setting, length);
     }
     tally.covers(50, &["written", "2", "8", "11", "13", "14"]);
 }
@@ -487,7 +481,7 @@ fn models_are_found_alike() {
         let sheet = sheet_of(&mut random, &draft, 20);
         let high = size_of(&mut random, &sheet, 3_000);
         let low = bound_below(&mut random, high);
-        let (work, output) = reference::needed(&sheet, high, Terms::AsWritten).unwrap_or((20, 20));
+        let (work, output) = reference::needed(&sheet, high, told_no(Terms::AsWritten)).unwrap_or((20, 20));
         let work = length_around(&mut random, work.min(1_000_000));
         let output = length_around(&mut random, output);
         check_find(&mut tally, &sheet, low, high, work, output);
@@ -504,7 +498,7 @@ fn models_of_long_clauses_are_found_alike() {
         let sheet = draft.sheet();
         let high = random.between(1, 8) as u64;
         let low = bound_below(&mut random, high);
-        let (work, output) = reference::needed(&sheet, high, Terms::AsWritten).unwrap_or((20, 20));
+        let (work, output) = reference::needed(&sheet, high, told_no(Terms::AsWritten)).unwrap_or((20, 20));
         let work = length_around(&mut random, work.min(500_000));
         check_find(&mut tally, &sheet, low, high, work, output as usize);
     }
@@ -516,10 +510,11 @@ fn models_of_named_problems_are_found_alike() {
     let mut tally = Tally::default();
     for problem in problems::ALL {
         for high in 1..=8 {
-            let (work, output) = reference::needed(problem.sheet, high, Terms::AsWritten).expect("it is a sheet");
+            let (work, output) =
+                reference::needed(problem.sheet, high, told_no(Terms::AsWritten)).expect("it is a sheet");
             if work < 2_000_000 {
                 let (work, output) = (work as usize, output as usize);
-                check_find_within(&mut tally, problem.sheet, (1, high), AS_WRITTEN, work, output, 50_000);
+                check_find_within(&mut tally, problem.sheet, (1, high), OFF, work, output, 50_000);
             }
         }
     }

@@ -2,8 +2,9 @@
 
 use nesskettle::Terms::{self, AsWritten, Named};
 use nesskettle::{find, find_plain, from_solver, judge, read, read_back, setting, write};
-use nesskettle::{Counts, Reason, Refusal, Search, SolverAnswer};
+use nesskettle::{Counts, FindOptions, Reason, Refusal, Search, SolverAnswer};
 use nesskettle_reference::sheet_of;
+use nesskettle_trials::options::{asked, not_asked, told_no};
 use nesskettle_trials::problems::{sheet, GROUP_CASE};
 
 /// Line and column of a refusal that names none.
@@ -30,7 +31,7 @@ fn clauses_at(sheet: &[u8], size: u64) -> String {
 }
 
 fn clauses_of(sheet: &[u8], size: u64, terms: Terms) -> String {
-    text_of(|output| write(sheet, size, terms, output)).expect("it is written")
+    text_of(|output| write(sheet, size, not_asked(terms), output)).expect("it is written")
 }
 
 /// The least model from low to high, or the settled mark.
@@ -41,7 +42,7 @@ fn found(sheet: &[u8], low: u64, high: u64) -> Result<String, bool> {
 fn found_of(sheet: &[u8], low: u64, high: u64, terms: Terms) -> Result<String, bool> {
     let mut work = vec![7; 2_000_000];
     let mut output = vec![0; 25_000];
-    model_or_mark(find(sheet, low, high, terms, &mut work, &mut output), &output)
+    model_or_mark(find(sheet, low, high, told_no(terms), &mut work, &mut output), &output)
 }
 
 /// The same by the plain search.
@@ -155,6 +156,46 @@ fn answers_of_solvers() {
     let answer = |text: &[u8]| from_solver(&nothing, 8, text, &mut [0; 14]);
     assert_eq!(answer(b"s SATISFIABLE\nv 0\n"), Ok(SolverAnswer::Case { length: 14 }));
     assert_eq!(answer(b"s SATISFIABLE\n").unwrap_err().reason, Reason::BadAnswer);
+}
+
+/// The clauses on constants come after those of the cells: at size 3 a is 1 to 3, f is 4 to 12, b is 13 to 15, c is 16 to 18.
+#[test]
+fn constant_clauses() {
+    let sheet = sheet_of(&["a/0", "f/1", "b/0", "c/0"], &[], &["- = a b"]);
+    let text = text_of(|output| write(&sheet, 3, asked(AsWritten), output)).expect("it is written");
+    let instances = "-13 -1 0\n-14 -2 0\n-15 -3 0\n";
+    let constants = "1 0\n\
+                     13 14 0\n-14 1 0\n\
+                     16 17 18 0\n-17 1 13 0\n-18 2 14 0\n";
+    assert!(text.starts_with("p cnf 18 33\n"));
+    assert!(text.ends_with(&format!("-17 -18 0\n{constants}{instances}")));
+    // none is asked for
+    assert!(clauses_at(&sheet, 3).starts_with("p cnf 18 27\n"));
+    assert!(clauses_at(&sheet, 3).ends_with(&format!("-17 -18 0\n{instances}")));
+    // more constants than elements
+    let text = text_of(|output| write(&sheet, 2, asked(AsWritten), output)).expect("it is written");
+    let (_, rest) = text.split_once("-9 -10 0\n").expect("the last cell is c");
+    assert!(rest.starts_with("1 0\n7 8 0\n-8 1 0\n9 10 0\n-10 1 7 0\n"));
+    // helpers are no declared constants: at size 1 a is 1, f is 2, f a is 3
+    let deep = sheet_of(&["a/0", "f/1"], &[], &["- = f a a"]);
+    let text = text_of(|output| write(&deep, 1, asked(Named), output)).expect("it is written");
+    assert!(text.starts_with("p cnf 3 6\n1 0\n2 0\n3 0\n1 0\n-1 -2 3 0\n"), "{text}");
+}
+
+/// Where other functions come first, the least case of all may not obey the constant clauses.
+#[test]
+fn least_models_that_obey() {
+    let mapped = sheet_of(&["f/1", "a/0"], &[], &["+ = f A f B", "- = f a a"]);
+    let found_by = |options: FindOptions, low: u64, high: u64| {
+        let (mut work, mut output) = (vec![7; 2_000], vec![0; 100]);
+        model_or_mark(find(&mapped, low, high, options, &mut work, &mut output), &output)
+    };
+    let (yes, no) = (FindOptions::default(), told_no(AsWritten));
+    assert_eq!(found_by(no, 1, 3).as_deref(), Ok("case=1\nsize=2\nf=1 1\na=2\n"));
+    assert_eq!(found_by(yes, 1, 3).as_deref(), Ok("case=1\nsize=2\nf=2 2\na=1\n"));
+    assert_eq!(found_by(yes, 3, 3).as_deref(), Ok("case=1\nsize=3\nf=2 2 2\na=1\n"));
+    assert_eq!(found_by(yes, 1, 1), Err(false));
+    assert_eq!(found_by(no, 1, 1), Err(false));
 }
 
 #[test]
@@ -316,7 +357,8 @@ fn limits_with_named_terms() {
     let sheet = |clauses: &[&str]| sheet_of(&["a/0", "b/0", "f/1"], &["p/1", "r/2"], clauses);
     let deep = |times: usize, constant: &str| "f ".repeat(times) + constant;
     let mut room = vec![0; 100_000];
-    let mut at_one = |clause: &str, terms: Terms| write(&sheet(&["+ p a", clause]), 1, terms, &mut room).map(|_| ());
+    let mut at_one =
+        |clause: &str, terms: Terms| write(&sheet(&["+ p a", clause]), 1, not_asked(terms), &mut room).map(|_| ());
     let too_large = refused(Reason::ClauseTooLarge, (11, 1));
     // eight and eight variables as written, two with the names put in
     let both = format!("+ r {} {}", deep(7, "a"), deep(7, "b"));
@@ -350,7 +392,8 @@ fn limits_of_helpers() {
         sheet_of(&functions, &["p/1"], &clauses)
     };
     let mut room = vec![0; 10_000];
-    let mut reason = |sheet: &[u8], size: u64| write(sheet, size, Named, &mut room).map_err(|refusal| refusal.reason);
+    let mut reason =
+        |sheet: &[u8], size: u64| write(sheet, size, not_asked(Named), &mut room).map_err(|refusal| refusal.reason);
     assert!(reason(&sheet(32, ""), 1).is_ok());
     // a name that is known is no new one
     assert!(reason(&sheet(32, "- p g c0 c0"), 1).is_ok());
@@ -358,7 +401,7 @@ fn limits_of_helpers() {
     assert_eq!(reason(&sheet(33, ""), 9), Err(Reason::TooManyHelpers));
     assert_eq!(reason(&sheet(33, "+ p"), 9), Err(Reason::NotAClause));
     assert_eq!(
-        write(&sheet(33, ""), 9, AsWritten, &mut []),
+        write(&sheet(33, ""), 9, not_asked(AsWritten), &mut []),
         refused(Reason::BadSize, NO_PLACE)
     );
 }
@@ -367,19 +410,19 @@ fn limits_of_helpers() {
 fn limits() {
     let wide = |count: usize| sheet_of(&[], &["q/3"], &vec!["+ q A B C + q D E F"; count]);
     let mut room = vec![0; 20_000_000];
-    assert!(write(&wide(3), 8, AsWritten, &mut room).is_ok());
+    assert!(write(&wide(3), 8, not_asked(AsWritten), &mut room).is_ok());
     assert_eq!(
-        write(&wide(4), 8, AsWritten, &mut room),
+        write(&wide(4), 8, not_asked(AsWritten), &mut room),
         refused(Reason::TooManyInstances, NO_PLACE)
     );
     let nothing = sheet_of(&[], &[], &[]);
-    assert_eq!(write(&nothing, 8, AsWritten, &mut room), Ok(10));
+    assert_eq!(write(&nothing, 8, not_asked(AsWritten), &mut room), Ok(10));
     assert_eq!(
-        write(&nothing, 0, AsWritten, &mut room),
+        write(&nothing, 0, not_asked(AsWritten), &mut room),
         refused(Reason::BadSize, NO_PLACE)
     );
     assert_eq!(
-        write(&nothing, 9, AsWritten, &mut room),
+        write(&nothing, 9, not_asked(AsWritten), &mut room),
         refused(Reason::BadSize, NO_PLACE)
     );
     let literals = |count: usize| sheet_of(&[], &["p/0"], &[&vec!["+ p"; count].join(" ")]);

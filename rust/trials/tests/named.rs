@@ -4,24 +4,27 @@
 //! Inputs are generated from fixed seeds. Each test counts what came out, so that a generator that no longer reaches a
 //! result or a refusal fails.
 
-use nesskettle_reference::{self as reference, sheet_of, Operations, Reason, Refusal, Search, Terms};
+use nesskettle_reference::{
+    self as reference, sheet_of, FindOptions, Operations, Reason, Refusal, Search, Symmetry, Terms,
+};
 use nesskettle_trials::buffers::length_around;
-use nesskettle_trials::checks::{check_find_within, check_read_back, check_write, AS_WRITTEN};
+use nesskettle_trials::checks::{check_find_within, check_read_back, check_write, Switches, OFF};
 use nesskettle_trials::damage::damaged;
-use nesskettle_trials::dimacs::Dimacs;
 use nesskettle_trials::draft::{long_sheet, Draft, BROAD, LIMITS, SMALL};
 use nesskettle_trials::fixed;
-use nesskettle_trials::models::CHOICES;
+use nesskettle_trials::models::{satisfying, searched, CHOICES};
+use nesskettle_trials::options::{not_asked, told_no};
 use nesskettle_trials::problems;
 use nesskettle_trials::random::Random;
 use nesskettle_trials::tally::Tally;
-use nesskettle_trials::truth::is_model;
-use std::collections::BTreeSet;
+use nesskettle_trials::truth::models;
 
 const BOTH: [Operations; 2] = [nesskettle::OPERATIONS, reference::OPERATIONS];
 
 /// Numbers that name terms, those that a narrower number would lose among them.
 const NAMED: [u32; 7] = [1, 2, 255, 256, 65_536, 1 << 31, u32::MAX];
+
+const SYMMETRIES: [Symmetry; 2] = [Symmetry::Kept, Symmetry::Reduced];
 
 const BAD_SIZES: [u64; 5] = [0, 9, 258, (1 << 32) + 2, u64::MAX];
 
@@ -44,10 +47,16 @@ fn sheet(random: &mut Random) -> Vec<u8> {
     }
 }
 
+/// Terms are named, and no constant clauses are added.
+const ON: Switches = Switches {
+    named: NAMED[0],
+    symmetry: 0,
+};
+
 /// Mostly a number that names terms.
 fn named(random: &mut Random) -> u32 {
     if random.once_in(8) {
-        AS_WRITTEN
+        OFF.named
     } else {
         *random.pick(&NAMED)
     }
@@ -62,14 +71,16 @@ fn size(random: &mut Random, sheet: &[u8], instances: u64) -> u64 {
         return 8;
     }
     let mut size = random.between(1, 8).min(random.between(1, 8)) as u64;
-    while size > 1 && reference::instances_and_variables(sheet, size, Terms::Named).is_ok_and(|(i, _)| i > instances) {
+    while size > 1
+        && reference::instances_and_variables(sheet, size, not_asked(Terms::Named)).is_ok_and(|(i, _)| i > instances)
+    {
         size -= 1;
     }
     size
 }
 
 fn needed_to_write(sheet: &[u8], size: u64) -> u64 {
-    match reference::write(sheet, size, Terms::Named, &mut []) {
+    match reference::write(sheet, size, not_asked(Terms::Named), &mut []) {
         Err(refusal) if refusal.needed < 1_000_000 => refusal.needed,
         _ => 0,
     }
@@ -83,8 +94,8 @@ fn clauses_are_written_alike() {
         let sheet = sheet(&mut random);
         let size = size(&mut random, &sheet, 3_000);
         let length = length_around(&mut random, needed_to_write(&sheet, size));
-        let named = named(&mut random);
-        check_write(&mut tally, &sheet, size, named, length);
+        let (named, symmetry) = (named(&mut random), 0);
+        check_write(&mut tally, &sheet, size, Switches { named, symmetry }, length);
     }
     tally.covers(50, &["written", "2", "3", "4", "5", "6", "7", "8", "9", "11", "21"]);
 }
@@ -101,8 +112,8 @@ fn limits_of_clauses_are_met_alike() {
         };
         let sheet = draft.sheet();
         let needed = needed_to_write(&sheet, 1);
-        check_write(&mut tally, &sheet, 1, NAMED[0], needed as usize);
-        check_write(&mut tally, &sheet, 1, AS_WRITTEN, needed as usize);
+        check_write(&mut tally, &sheet, 1, ON, needed as usize);
+        check_write(&mut tally, &sheet, 1, OFF, needed as usize);
     }
     tally.covers(200, &["written", "7", "11", "21"]);
     tally.covers(20, &["5", "6"]);
@@ -119,7 +130,7 @@ fn long_lines_are_taken_alike() {
             fixed::long_line(&mut random).sheet()
         };
         let needed = needed_to_write(&sheet, 1);
-        check_write(&mut tally, &sheet, 1, NAMED[0], needed as usize);
+        check_write(&mut tally, &sheet, 1, ON, needed as usize);
     }
     tally.covers(50, &["written", "1", "7"]);
     tally.covers(10, &["5", "6"]);
@@ -128,7 +139,7 @@ fn long_lines_are_taken_alike() {
 /// A setting of the sheet with its names in which every function cell has one result.
 fn setting(random: &mut Random, draft: &Draft, size: usize) -> Vec<u8> {
     let mut setting = draft.setting(random, size);
-    let with_names = reference::instances_and_variables(&draft.sheet(), size as u64, Terms::Named);
+    let with_names = reference::instances_and_variables(&draft.sheet(), size as u64, not_asked(Terms::Named));
     let variables = with_names.map_or(0, |(_, variables)| variables as usize);
     while setting.len() < variables {
         let result = random.below(size);
@@ -172,7 +183,7 @@ fn settings_are_read_back_alike() {
         if random.once_in(3) {
             damage(&mut random, &mut setting, shaped);
         }
-        let needed = reference::needed(&sheet, size, Terms::Named).map_or(20, |(_, output)| output);
+        let needed = reference::needed(&sheet, size, told_no(Terms::Named)).map_or(20, |(_, output)| output);
         let length = length_around(&mut random, needed);
         let named = named(&mut random);
         check_read_back(&mut tally, &sheet, size, named, &setting, length);
@@ -193,44 +204,21 @@ fn models_are_found_alike() {
             2..=5 => high,
             _ => 1,
         };
-        let (work, output) = reference::needed(&sheet, high, Terms::Named).unwrap_or((20, 20));
+        let (work, output) = reference::needed(&sheet, high, told_no(Terms::Named)).unwrap_or((20, 20));
         let work = length_around(&mut random, work.min(1_000_000));
         let output = length_around(&mut random, output);
-        let named = named(&mut random);
-        check_find_within(&mut tally, &sheet, (low, high), named, work, output, CHOICES);
+        let (named, symmetry) = (named(&mut random), 0);
+        let switches = Switches { named, symmetry };
+        check_find_within(&mut tally, &sheet, (low, high), switches, work, output, CHOICES);
     }
     tally.covers(50, &["found", "none", "2", "5", "6", "7", "8", "10", "11", "21"]);
     tally.covers(10, &["none, settled", "9"]);
 }
 
-/// What a search answers and leaves, with just the room that it needs; the refusal where it is not taken. Nothing where it
-/// is too large.
-fn searched(
-    operations: &Operations,
-    sheet: &[u8],
-    low: u64,
-    high: u64,
-    terms: Terms,
-) -> Option<Result<Found, Refusal>> {
-    let (work, output) = match reference::needed(sheet, high, terms) {
-        Ok((work, output)) if work < 100_000 => (work as usize, output as usize),
-        Ok(_) => return None,
-        Err(_) => (0, 0),
-    };
-    let (mut work, mut output) = (vec![7; work], vec![7; output]);
-    let within = reference::find_within(sheet, low, high, terms, &mut work, &mut output, CHOICES);
-    within.transpose()?.ok();
-    output.fill(7);
-    let search = (operations.find)(sheet, low, high, terms, &mut work, &mut output);
-    Some(search.map(|search| (search, output)))
-}
-
-type Found = (Search, Vec<u8>);
-
-/// Both searches, where neither is refused, answer the same and leave the same output.
-fn check_same(tally: &mut Tally, sheet: &[u8], low: u64, high: u64) {
+/// Both searches, where neither is refused, answer the same and leave the same output, with constant clauses in both or none.
+fn check_same(tally: &mut Tally, sheet: &[u8], low: u64, high: u64, symmetry: Symmetry) {
     for operations in BOTH {
-        let search = |terms| searched(&operations, sheet, low, high, terms);
+        let search = |terms| searched(&operations, sheet, (low, high), FindOptions { terms, symmetry });
         let (Some(named), Some(written)) = (search(Terms::Named), search(Terms::AsWritten)) else {
             return tally.add("left out", 0);
         };
@@ -238,7 +226,7 @@ fn check_same(tally: &mut Tally, sheet: &[u8], low: u64, high: u64) {
             (Ok(named), Ok(written)) => {
                 let call = || {
                     format!(
-                        "{}, {low} to {high}\n{}",
+                        "{}, {low} to {high}, {symmetry:?}\n{}",
                         operations.name,
                         String::from_utf8_lossy(sheet)
                     )
@@ -275,10 +263,14 @@ fn searches_answer_the_same_with_and_without_names() {
         } else {
             1
         };
-        check_same(&mut tally, &sheet, low, high);
+        let symmetry = *random.pick(&SYMMETRIES);
+        check_same(&mut tally, &sheet, low, high, symmetry);
     }
-    for problem in problems::ALL {
-        (1..=4).for_each(|high| check_same(&mut tally, problem.sheet, 1, high));
+    for (problem, symmetry) in problems::ALL
+        .iter()
+        .flat_map(|p| SYMMETRIES.map(|symmetry| (p, symmetry)))
+    {
+        (1..=4).for_each(|high| check_same(&mut tally, problem.sheet, 1, high, symmetry));
     }
     tally.covers(100, &["found at 1", "found at 2", "none", "named alone, not 7"]);
     tally.covers(
@@ -292,53 +284,7 @@ fn searches_answer_the_same_with_and_without_names() {
     );
 }
 
-/// The clauses of a text, each as the variables that make it true where they are yes, and where they are no.
-fn masks(dimacs: &Dimacs) -> Vec<(u32, u32)> {
-    let mask = |clause: Vec<i32>| {
-        let bits = |positive: bool| {
-            let numbers = clause.iter().filter(move |&&n| (n > 0) == positive);
-            numbers.fold(0, |bits, n| bits | 1 << (n.unsigned_abs() - 1))
-        };
-        (bits(true), bits(false))
-    };
-    dimacs.clauses().map(mask).collect()
-}
-
-/// The models of the sheet as it was handed in, at this size: every case is tried, by truth alone.
-fn models(draft: &Draft, size: usize) -> BTreeSet<Vec<u8>> {
-    let tables = |(symbol, least, most): (&nesskettle_trials::draft::Symbol, usize, usize)| {
-        vec![(least, most); size.pow(symbol.arity as u32)]
-    };
-    let functions = draft.functions.iter().map(|f| (f, 1, size));
-    let predicates = draft.predicates.iter().map(|p| (p, 0, 1));
-    let cells: Vec<(usize, usize)> = functions.chain(predicates).flat_map(tables).collect();
-    let count: usize = cells.iter().map(|(least, most)| most - least + 1).product();
-    let case = |mut number: usize| {
-        let mut values = cells.iter().map(|(least, most)| {
-            let values = most - least + 1;
-            let value = least + number % values;
-            number /= values;
-            value.to_string()
-        });
-        let mut text = format!("case=1\nsize={size}\n");
-        for symbol in draft.symbols() {
-            let row: Vec<String> = values.by_ref().take(size.pow(symbol.arity as u32)).collect();
-            text += &format!("{}={}\n", symbol.name, row.join(" "));
-        }
-        text.into_bytes()
-    };
-    (0..count).map(case).filter(|case| is_model(draft, case)).collect()
-}
-
-fn left(mut call: impl FnMut(&mut [u8]) -> Result<usize, Refusal>) -> Result<Vec<u8>, Refusal> {
-    let mut output = vec![0; call(&mut []).map_or_else(|refusal| refusal.needed as usize, |_| 0)];
-    let length = call(&mut output)?;
-    output.truncate(length);
-    Ok(output)
-}
-
-/// Every setting that satisfies the clauses is read back as a model of the sheet, each model from exactly one; and no other
-/// setting than those of one result for each function cell is read back at all.
+/// Every setting that satisfies the clauses is read back as a model of the sheet, each model from exactly one.
 #[test]
 fn the_settings_that_satisfy_are_the_models() {
     for operations in BOTH {
@@ -347,7 +293,7 @@ fn the_settings_that_satisfy_are_the_models() {
         for _ in 0..300 {
             let draft = fixed::tiny(&mut random);
             let (sheet, size) = (draft.sheet(), random.between(1, 2) as u64);
-            let counts = reference::instances_and_variables(&sheet, size, Terms::Named);
+            let counts = reference::instances_and_variables(&sheet, size, not_asked(Terms::Named));
             let variables = match counts {
                 Ok((_, variables)) if variables <= 16 => variables,
                 Ok(_) => continue,
@@ -356,18 +302,7 @@ fn the_settings_that_satisfy_are_the_models() {
                     continue;
                 }
             };
-            let text = left(|output| (operations.write)(&sheet, size, Terms::Named, output)).expect("it is written");
-            let clauses = masks(&Dimacs::new(text));
-            let satisfies = |setting: &u32| clauses.iter().all(|(yes, no)| setting & yes | !setting & no != 0);
-            let bytes = |setting: u32| (0..variables).map(|n| (setting >> n & 1) as u8).collect::<Vec<u8>>();
-            let read = |setting: u32| left(|o| (operations.read_back)(&sheet, size, Terms::Named, &bytes(setting), o));
-            let mut cases = BTreeSet::new();
-            for setting in (0..1 << variables).filter(satisfies) {
-                assert!(
-                    cases.insert(read(setting).expect("it is read back")),
-                    "a model is read back twice"
-                );
-            }
+            let cases = satisfying(&operations, &sheet, size, not_asked(Terms::Named));
             assert_eq!(
                 cases,
                 models(&draft, size as usize),
@@ -405,11 +340,13 @@ fn refusals_come_in_their_order() {
     };
     let too_deep = format!("+ p {}c0", "f ".repeat(10));
     for operations in BOTH {
-        let write = |sheet: &[u8], size: u64| (operations.write)(sheet, size, Terms::Named, &mut []).map(|_| ());
+        let write =
+            |sheet: &[u8], size: u64| (operations.write)(sheet, size, not_asked(Terms::Named), &mut []).map(|_| ());
         let back =
             |sheet: &[u8], size: u64| (operations.read_back)(sheet, size, Terms::Named, &[2], &mut []).map(|_| ());
-        let find =
-            |sheet: &[u8], high: u64| (operations.find)(sheet, 1, high, Terms::Named, &mut [], &mut []).map(|_| ());
+        let find = |sheet: &[u8], high: u64| {
+            (operations.find)(sheet, 1, high, told_no(Terms::Named), &mut [], &mut []).map(|_| ())
+        };
         let reason = |answer: Result<(), Refusal>| {
             let refusal = answer.expect_err("it is refused");
             (refusal.reason, refusal.line, refusal.column)

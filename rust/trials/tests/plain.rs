@@ -10,6 +10,7 @@ use nesskettle_trials::buffers::{length_around, Lent};
 use nesskettle_trials::damage::damaged;
 use nesskettle_trials::draft::{Draft, BROAD, LIMITS, SMALL};
 use nesskettle_trials::expected;
+use nesskettle_trials::options::{not_asked, told_no};
 use nesskettle_trials::problems;
 use nesskettle_trials::random::Random;
 use nesskettle_trials::tally::Tally;
@@ -71,7 +72,7 @@ fn models_are_found_alike() {
             sheet = damaged(&mut random, &sheet);
         }
         let (low, high) = sizes(&mut random);
-        let needed = reference::needed(&sheet, high, Terms::AsWritten).map_or(20, |(_, output)| output);
+        let needed = reference::needed(&sheet, high, told_no(Terms::AsWritten)).map_or(20, |(_, output)| output);
         let length = length_around(&mut random, needed);
         let outcome = check(&sheet, low, high, length);
         tally.add(outcome.as_deref().unwrap_or("left out"), 0);
@@ -90,7 +91,7 @@ fn up_to_64_cells_are_taken() {
         let high = random.between(2, 8);
         let cells = random.between(63, 66);
         let sheet = Draft::with_cells(&mut random, style, high, cells).sheet();
-        let Ok((_, needed)) = reference::needed(&sheet, high as u64, Terms::AsWritten) else {
+        let Ok((_, needed)) = reference::needed(&sheet, high as u64, told_no(Terms::AsWritten)) else {
             continue;
         };
         let length = length_around(&mut random, needed);
@@ -153,19 +154,19 @@ fn both_searches(
     low: u64,
     high: u64,
 ) -> [(Result<Search, Refusal>, Vec<u8>); 2] {
-    let (work, output) = reference::needed(sheet, high, Terms::AsWritten).expect("it is a sheet");
+    let (work, output) = reference::needed(sheet, high, told_no(Terms::AsWritten)).expect("it is a sheet");
     let mut work = vec![7; work as usize];
     let output = vec![7; output as usize];
     let (mut by_clauses, mut plain) = (output.clone(), output);
-    let found = (operations.find)(sheet, low, high, Terms::AsWritten, &mut work, &mut by_clauses);
+    let found = (operations.find)(sheet, low, high, told_no(Terms::AsWritten), &mut work, &mut by_clauses);
     let found_plain = (operations.find_plain)(sheet, low, high, &mut plain);
     [(found, by_clauses), (found_plain, plain)]
 }
 
 /// The same size and case, or none with the same mark; nothing where a search is refused, or the plain one left out.
 fn agreed(sheet: &[u8], low: u64, high: u64) -> Option<Search> {
-    let (instances, _) = reference::instances_and_variables(sheet, high, Terms::AsWritten).ok()?;
-    let (_, output) = reference::needed(sheet, high, Terms::AsWritten).ok()?;
+    let (instances, _) = reference::instances_and_variables(sheet, high, not_asked(Terms::AsWritten)).ok()?;
+    let (_, output) = reference::needed(sheet, high, told_no(Terms::AsWritten)).ok()?;
     if instances > reference::MAX_INSTANCES {
         return None;
     }

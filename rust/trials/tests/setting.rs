@@ -1,26 +1,17 @@
 //! What a setting means, tried on generated cases and settings: setting and case lead to each other, and a setting
 //! satisfies the clauses that Write leaves exactly if its case is a model.
 
-use nesskettle_reference::{self as reference, sheet_of, Operations, Reason, Refusal, Terms};
+use nesskettle_reference::{self as reference, sheet_of, Operations, Reason, Terms};
+use nesskettle_trials::buffers::left;
 use nesskettle_trials::dimacs::Dimacs;
 use nesskettle_trials::draft::{Draft, Style, BROAD, SMALL};
 use nesskettle_trials::models::small_model;
+use nesskettle_trials::options::not_asked;
 use nesskettle_trials::problems::{sheet, GROUP_CASE};
 use nesskettle_trials::random::Random;
 use nesskettle_trials::tally::Tally;
 
 const BOTH: [Operations; 2] = [nesskettle::OPERATIONS, reference::OPERATIONS];
-
-/// What a call that writes leaves in an output that is large enough.
-fn left(mut call: impl FnMut(&mut [u8]) -> Result<usize, Refusal>) -> Result<Vec<u8>, Refusal> {
-    let mut output = Vec::new();
-    if let Err(refusal) = call(&mut output) {
-        output = vec![0; refusal.needed as usize];
-    }
-    let length = call(&mut output)?;
-    output.truncate(length);
-    Ok(output)
-}
 
 fn setting_of(operations: &Operations, sheet: &[u8], case: &[u8]) -> Vec<u8> {
     left(|output| (operations.setting)(sheet, case, output)).expect("it is a case")
@@ -78,7 +69,7 @@ fn a_setting_is_that_of_the_case_that_is_read_back() {
 /// The setting of the case satisfies what Write leaves exactly if Judge says yes.
 fn check_satisfied(operations: &Operations, tally: &mut Tally, sheet: &[u8], case: &[u8]) {
     let size = u64::from(case[12] - b'0');
-    let clauses = match left(|output| (operations.write)(sheet, size, Terms::AsWritten, output)) {
+    let clauses = match left(|output| (operations.write)(sheet, size, not_asked(Terms::AsWritten), output)) {
         Ok(text) => Dimacs::new(text),
         Err(refusal) => return tally.add("", refusal.reason.number()),
     };
@@ -119,8 +110,10 @@ fn every_setting_of_small_sheets() {
     for (operations, sheet) in BOTH.iter().flat_map(|o| sheets.iter().map(move |sheet| (o, sheet))) {
         let mut models = 0;
         let mut satisfying = 0;
-        let (_, variables) = reference::instances_and_variables(sheet, 2, Terms::AsWritten).expect("it is a sheet");
-        let clauses = left(|output| (operations.write)(sheet, 2, Terms::AsWritten, output)).expect("it is written");
+        let (_, variables) =
+            reference::instances_and_variables(sheet, 2, not_asked(Terms::AsWritten)).expect("it is a sheet");
+        let clauses =
+            left(|output| (operations.write)(sheet, 2, not_asked(Terms::AsWritten), output)).expect("it is written");
         let clauses = Dimacs::new(clauses);
         for number in 0..1 << variables {
             let setting: Vec<u8> = (0..variables).map(|n| (number >> n & 1) as u8).collect();

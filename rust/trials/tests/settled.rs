@@ -1,6 +1,6 @@
 //! What settled means, tried on generated sheets: where none is settled, no larger size has a model either.
 
-use nesskettle_reference::{self as reference, Operations, Search, Terms};
+use nesskettle_reference::{self as reference, FindOptions, Operations, Search, Symmetry, Terms, WriteOptions};
 use nesskettle_trials::draft::{Draft, SMALL};
 use nesskettle_trials::models::CHOICES;
 use nesskettle_trials::random::Random;
@@ -20,34 +20,43 @@ fn sheet_of_constants(random: &mut Random) -> (Vec<u8>, u64) {
     (draft.sheet(), draft.functions.len() as u64)
 }
 
+/// The searches that are tried: of both implementations, with and without constant clauses.
+fn searches() -> impl Iterator<Item = (Operations, Symmetry)> {
+    let both = |operations| [Symmetry::Kept, Symmetry::Reduced].map(|symmetry| (operations, symmetry));
+    BOTH.into_iter().flat_map(both)
+}
+
 /// The search, if the reference makes it with few choices.
-fn find(operations: &Operations, sheet: &[u8], low: u64, high: u64) -> Option<Search> {
-    let (instances, _) = reference::instances_and_variables(sheet, high, Terms::AsWritten).ok()?;
-    let (work, output) = reference::needed(sheet, high, Terms::AsWritten).ok()?;
+fn find((operations, symmetry): &(Operations, Symmetry), sheet: &[u8], low: u64, high: u64) -> Option<Search> {
+    let terms = Terms::AsWritten;
+    let symmetry = *symmetry;
+    let options = FindOptions { terms, symmetry };
+    let (instances, _) = reference::instances_and_variables(sheet, high, WriteOptions { terms, symmetry }).ok()?;
+    let (work, output) = reference::needed(sheet, high, options).ok()?;
     if instances > INSTANCES {
         return None;
     }
     let (mut work, mut output) = (vec![0; work as usize], vec![0; output as usize]);
-    let within = reference::find_within(sheet, low, high, Terms::AsWritten, &mut work, &mut output, CHOICES);
+    let within = reference::find_within(sheet, low, high, options, &mut work, &mut output, CHOICES);
     within.expect("the room is enough")?;
-    (operations.find)(sheet, low, high, Terms::AsWritten, &mut work, &mut output).ok()
+    (operations.find)(sheet, low, high, options, &mut work, &mut output).ok()
 }
 
 #[test]
 fn a_settled_none_is_none_at_every_size() {
-    for operations in BOTH {
+    for search in searches() {
         let mut tally = Tally::default();
         let mut random = Random::new(60);
         for _ in 0..5_000 {
             let (sheet, constants) = sheet_of_constants(&mut random);
             let high = constants.max(1);
-            let Some(Search::None { settled }) = find(&operations, &sheet, 1, high) else {
+            let Some(Search::None { settled }) = find(&search, &sheet, 1, high) else {
                 continue;
             };
             assert!(settled);
             tally.add(&format!("none, constants: {constants}"), 0);
             for size in high + 1..=8 {
-                let larger = find(&operations, &sheet, size, size);
+                let larger = find(&search, &sheet, size, size);
                 assert!(!matches!(larger, Some(Search::Found { .. })));
                 tally.add(
                     if larger.is_some() {
@@ -75,7 +84,7 @@ fn a_settled_none_is_none_at_every_size() {
 /// One size less than there are constants is not enough for most sheets, and a search that begins later settles nothing.
 #[test]
 fn a_model_may_stand_beside_an_unsettled_none() {
-    for operations in BOTH {
+    for search in searches() {
         let mut tally = Tally::default();
         let mut random = Random::new(61);
         for _ in 0..5_000 {
@@ -84,11 +93,11 @@ fn a_model_may_stand_beside_an_unsettled_none() {
                 0 if constants > 1 => (1, constants - 1),
                 _ => (constants + 1, constants + 2),
             };
-            let Some(Search::None { settled }) = find(&operations, &sheet, low, high) else {
+            let Some(Search::None { settled }) = find(&search, &sheet, low, high) else {
                 continue;
             };
             assert_eq!(settled, low == 1 && high >= constants);
-            let whole = find(&operations, &sheet, 1, constants.max(1));
+            let whole = find(&search, &sheet, 1, constants.max(1));
             if matches!(whole, Some(Search::Found { .. })) {
                 assert!(!settled);
                 tally.add(if low == 1 { "a larger model" } else { "a smaller model" }, 0);

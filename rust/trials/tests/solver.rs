@@ -9,6 +9,7 @@ use nesskettle_trials::buffers::{length_around, Lent};
 use nesskettle_trials::damage::{damaged, damaged_bytes};
 use nesskettle_trials::draft::{Draft, BROAD, SMALL};
 use nesskettle_trials::models::small_model;
+use nesskettle_trials::options::told_no;
 use nesskettle_trials::random::Random;
 use nesskettle_trials::solver::{claiming_none, near_claiming_none, near_stating, stating, FAULTS};
 use nesskettle_trials::tally::Tally;
@@ -156,7 +157,7 @@ fn answers_are_read_alike() {
             }
             _ => stating(&mut random, &setting),
         };
-        let needed = reference::needed(&sheet, size, Terms::AsWritten).map_or(20, |(_, output)| output);
+        let needed = reference::needed(&sheet, size, told_no(Terms::AsWritten)).map_or(20, |(_, output)| output);
         let length = length_around(&mut random, needed);
         check(&mut tally, &sheet, size, &text, length);
     }

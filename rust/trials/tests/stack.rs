@@ -6,6 +6,7 @@ use nesskettle::{explain, find, find_plain, from_solver, from_tptp, judge, read,
 use nesskettle::{FirstFailure, Reason, Search, SolverAnswer};
 use nesskettle_reference::sheet_of;
 use nesskettle_trials::draft::Draft;
+use nesskettle_trials::options::{asked, told_yes};
 use nesskettle_trials::random::Random;
 use nesskettle_trials::solver::stating;
 
@@ -45,7 +46,7 @@ fn the_deepest_terms_are_refused() {
         );
         for terms in [AsWritten, Named] {
             assert_eq!(
-                write(&sheet, 2, terms, &mut output).unwrap_err().reason,
+                write(&sheet, 2, asked(terms), &mut output).unwrap_err().reason,
                 Reason::ClauseTooLarge
             );
         }
@@ -54,7 +55,7 @@ fn the_deepest_terms_are_refused() {
             Reason::ClauseTooLarge
         );
         assert_eq!(
-            find(&sheet, 1, 2, AsWritten, &mut work, &mut output)
+            find(&sheet, 1, 2, told_yes(AsWritten), &mut work, &mut output)
                 .unwrap_err()
                 .reason,
             Reason::ClauseTooLarge
@@ -81,15 +82,30 @@ fn the_deepest_terms_are_taken() {
         assert_eq!(judge(&sheet, case), Ok(false));
         assert_eq!(explain(&sheet, case), Ok(Some(FirstFailure::new(1, [('A', 2)]))));
         assert_eq!(setting(&sheet, case, &mut output), Ok(6));
-        assert!(write(&sheet, 2, AsWritten, &mut output).is_ok());
+        assert!(write(&sheet, 2, asked(AsWritten), &mut output).is_ok());
         assert!(read_back(&sheet, 1, AsWritten, &[1, 1], &mut output).is_ok());
-        assert!(find(&sheet, 1, 2, AsWritten, &mut work, &mut output).is_ok());
+        assert!(find(&sheet, 1, 2, told_yes(AsWritten), &mut work, &mut output).is_ok());
         assert!(find_plain(&sheet, 1, 2, &mut output).is_ok());
     });
     let sheet = nested(9);
     on_a_stack(LARGE_STACK, move || {
         let answer = from_solver(&sheet, 1, b"s SATISFIABLE\nv 1 2 0\n", &mut [0; 100]);
         assert!(answer.is_ok());
+    });
+}
+
+/// Constant clauses on as many constants as there can be.
+#[test]
+fn the_most_constants_are_taken() {
+    let names: Vec<String> = (1..=12).map(|i| format!("c{i}/0")).collect();
+    let names: Vec<&str> = names.iter().map(String::as_str).collect();
+    let sheet = sheet_of(&names, &[], &["- = c1 c12"]);
+    on_a_small_stack(move || {
+        let (mut work, mut output) = (vec![0; 10_000], vec![0; 10_000]);
+        assert!(write(&sheet, 8, asked(AsWritten), &mut output).is_ok());
+        let found = find(&sheet, 8, 8, told_yes(Named), &mut work, &mut output);
+        assert!(matches!(found, Ok(Search::Found { size: 8, .. })));
+        assert!(output.starts_with(b"case=1\nsize=8\nc1=1\nc2=1\n"));
     });
 }
 
@@ -118,18 +134,23 @@ fn long_lines_are_taken_with_named_terms() {
         let mut work = vec![0; 1_000_000];
         let taken = sheet("- p f a");
         assert!(taken.len() > 4_000);
-        assert!(write(&taken, 2, Named, &mut output).is_ok());
+        assert!(write(&taken, 2, asked(Named), &mut output).is_ok());
         assert!(read_back(&taken, 1, Named, &[1; 12], &mut output).is_ok());
-        assert!(find(&taken, 1, 2, Named, &mut work, &mut output).is_ok());
+        assert!(find(&taken, 1, 2, told_yes(Named), &mut work, &mut output).is_ok());
         let refused = sheet(&many);
         let reason = Reason::ClauseTooLarge;
-        assert_eq!(write(&refused, 2, Named, &mut output).unwrap_err().reason, reason);
+        assert_eq!(
+            write(&refused, 2, asked(Named), &mut output).unwrap_err().reason,
+            reason
+        );
         assert_eq!(
             read_back(&refused, 1, Named, b"", &mut output).unwrap_err().reason,
             reason
         );
         assert_eq!(
-            find(&refused, 1, 2, Named, &mut work, &mut output).unwrap_err().reason,
+            find(&refused, 1, 2, told_yes(Named), &mut work, &mut output)
+                .unwrap_err()
+                .reason,
             reason
         );
     });

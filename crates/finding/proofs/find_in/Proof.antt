@@ -3,7 +3,7 @@ use Prim.Native.Nat.{_≤_}
 use mathlib.Core.Path.{_≡_, refl, ap, _∙_}
 use native.Mathlib.Omega.{arith}
 use lib.ListN.{length}
-use Rattle.theory.specs.PropClauses.{instanceCount, workNeeded}
+use Rattle.symmetry.specs.ConstantClauses.{instanceCountWith, workNeededWith}
 use Rattle.theory.specs.Refusals.{unplaced, needing}
 use Rattle.theory.specs.CaseText.{caseLength}
 use Rattle.theory.specs.Operations.{maxInstances}
@@ -42,8 +42,8 @@ returns c =
     let W = length (a .work .now) in
     let R = length (a .output .now) in
     let k = c .before .before .before .counts-at in
-    ends-refused (foundIn q (a .low .0) (a .high .0)) (c .at-line .result) (unplaced 9) (a .work .now) (a .output .now)
-    (refused-9 q (a .low .0) (a .high .0) W R (omega (arith, k .ensures .0, c .before .if1 .taken))) (c .at-line .ensures)
+    ends-refused (foundIn (a .p .symmetry) q (a .low .0) (a .high .0)) (c .at-line .result) (unplaced 9) (a .work .now) (a .output .now)
+    (refused-9 (a .p .symmetry) q (a .low .0) (a .high .0) W R (omega (arith, k .ensures .0, c .before .if1 .taken))) (c .at-line .ensures)
 
 -- src/lib.rt:68:9
 numbering-of-requires : tie.Need-numbering-of-requires
@@ -80,13 +80,13 @@ returns-2 c =
     let W = length (a .work .now) in
     let R = length (a .output .now) in
     let k = c .before .before .before .before .before .before .before .before .before .counts-at in
-    let few : instanceCount (a .high .0) (q .symbols) (q .clauses) ≤ maxInstances = omega (arith, k .ensures .0, c .before .before .before .before .before .before .before .if1 .left) in
+    let few : instanceCountWith (a .p .symmetry) (a .high .0) (q .symbols) (q .clauses) ≤ maxInstances = omega (arith, k .ensures .0, c .before .before .before .before .before .before .before .if1 .left) in
     let n = c .before .before .before .before .before .numbering-of in
     let w = c .before .before .before .work-needed in
-    let whole : w .result ≡ workNeeded (a .high .0) (q .symbols) (q .clauses) =
+    let whole : w .result ≡ workNeededWith (a .p .symmetry) (a .high .0) (q .symbols) (q .clauses) =
     work-is (a .sheet .now) (a .p) (a .high .0) (n .result .count) (k .result .instances) (k .result .literals) (w .result) (n .ensures (a .sheet .now) .count) (k .ensures .0) (k .ensures .1 .0) (w .ensures) in
-    ends-refused (foundIn q (a .low .0) (a .high .0)) (c .needing .result) (needing 10 (workNeeded (a .high .0) (q .symbols) (q .clauses))) (a .work .now) (a .output .now)
-    (refused-10 q (a .low .0) (a .high .0) W R few (omega (arith, whole, c .before .if2 .taken))) (c .needing .ensures ∙ ap (needing 10) whole)
+    ends-refused (foundIn (a .p .symmetry) q (a .low .0) (a .high .0)) (c .needing .result) (needing 10 (workNeededWith (a .p .symmetry) (a .high .0) (q .symbols) (q .clauses))) (a .work .now) (a .output .now)
+    (refused-10 (a .p .symmetry) q (a .low .0) (a .high .0) W R few (omega (arith, whole, c .before .if2 .taken))) (c .needing .ensures ∙ ap (needing 10) whole)
 
 -- src/lib.rt:75:36
 needing-requires-2 : tie.Need-needing-requires-2
@@ -101,16 +101,16 @@ returns-3 c =
     let W = length (a .work .now) in
     let R = length (a .output .now) in
     let k = c .before .before .before .before .before .before .before .before .before .before .counts-at in
-    let few : instanceCount (a .high .0) (q .symbols) (q .clauses) ≤ maxInstances = omega (arith, k .ensures .0, c .before .before .before .before .before .before .before .before .if1 .left) in
+    let few : instanceCountWith (a .p .symmetry) (a .high .0) (q .symbols) (q .clauses) ≤ maxInstances = omega (arith, k .ensures .0, c .before .before .before .before .before .before .before .before .if1 .left) in
     let n = c .before .before .before .before .before .before .numbering-of in
     let w = c .before .before .before .before .work-needed in
-    let whole : w .result ≡ workNeeded (a .high .0) (q .symbols) (q .clauses) =
+    let whole : w .result ≡ workNeededWith (a .p .symmetry) (a .high .0) (q .symbols) (q .clauses) =
     work-is (a .sheet .now) (a .p) (a .high .0) (n .result .count) (k .result .instances) (k .result .literals) (w .result) (n .ensures (a .sheet .now) .count) (k .ensures .0) (k .ensures .1 .0) (w .ensures) in
-    let enough : workNeeded (a .high .0) (q .symbols) (q .clauses) ≤ W = omega (arith, whole, c .before .before .if2 .left) in
+    let enough : workNeededWith (a .p .symmetry) (a .high .0) (q .symbols) (q .clauses) ≤ W = omega (arith, whole, c .before .before .if2 .left) in
     let m = c .before .before .before .shown-length in
     let case : m .result ≡ caseLength (a .high .0) (shownSymbols (q .symbols)) = length-is (a .sheet .now) (a .p) (a .high .0) (m .result) _ (s .pre .shows) refl (m .ensures (a .sheet .now) (s .pre .accepted .readable)) in
-    ends-refused (foundIn q (a .low .0) (a .high .0)) (c .needing2 .result) (needing 11 (caseLength (a .high .0) (shownSymbols (q .symbols)))) (a .work .now) (a .output .now)
-    (refused-11 q (a .low .0) (a .high .0) W R few enough (omega (arith, case, c .before .if3 .taken))) (c .needing2 .ensures ∙ ap (needing 11) case)
+    ends-refused (foundIn (a .p .symmetry) q (a .low .0) (a .high .0)) (c .needing2 .result) (needing 11 (caseLength (a .high .0) (shownSymbols (q .symbols)))) (a .work .now) (a .output .now)
+    (refused-11 (a .p .symmetry) q (a .low .0) (a .high .0) W R few enough (omega (arith, case, c .before .if3 .taken))) (c .needing2 .ensures ∙ ap (needing 11) case)
 
 -- src/lib.rt:77:5
 search-sizes-requires : tie.Need-search-sizes-requires
@@ -121,12 +121,12 @@ search-sizes-requires c κs =
     let W = length (a .work .now) in
     let R = length (a .output .now) in
     let k = c .before .before .before .before .before .before .before .before .before .before .before .counts-at in
-    let few : instanceCount (a .high .0) (q .symbols) (q .clauses) ≤ maxInstances = omega (arith, k .ensures .0, c .before .before .before .before .before .before .before .before .before .if1 .left) in
+    let few : instanceCountWith (a .p .symmetry) (a .high .0) (q .symbols) (q .clauses) ≤ maxInstances = omega (arith, k .ensures .0, c .before .before .before .before .before .before .before .before .before .if1 .left) in
     let n = c .before .before .before .before .before .before .before .numbering-of in
     let w = c .before .before .before .before .before .work-needed in
-    let whole : w .result ≡ workNeeded (a .high .0) (q .symbols) (q .clauses) =
+    let whole : w .result ≡ workNeededWith (a .p .symmetry) (a .high .0) (q .symbols) (q .clauses) =
     work-is (a .sheet .now) (a .p) (a .high .0) (n .result .count) (k .result .instances) (k .result .literals) (w .result) (n .ensures (a .sheet .now) .count) (k .ensures .0) (k .ensures .1 .0) (w .ensures) in
-    let enough : workNeeded (a .high .0) (q .symbols) (q .clauses) ≤ W = omega (arith, whole, c .before .before .before .if2 .left) in
+    let enough : workNeededWith (a .p .symmetry) (a .high .0) (q .symbols) (q .clauses) ≤ W = omega (arith, whole, c .before .before .before .if2 .left) in
     let m = c .before .before .before .before .shown-length in
     let case : m .result ≡ caseLength (a .high .0) (shownSymbols (q .symbols)) = length-is (a .sheet .now) (a .p) (a .high .0) (m .result) _ (s .pre .shows) refl (m .ensures (a .sheet .now) (s .pre .accepted .readable)) in
     all-sizes (a .sheet .now) (a .p) (a .low .0) (a .high .0) W R (s .pre) few enough (omega (arith, case, c .before .before .if3 .left))
@@ -148,17 +148,17 @@ returns-4 c =
     let W = length (a .work .now) in
     let R = length (a .output .now) in
     let k = c .before .before .before .before .before .before .before .before .before .before .before .before .before .before .before .before .counts-at in
-    let few : instanceCount (a .high .0) (q .symbols) (q .clauses) ≤ maxInstances = omega (arith, k .ensures .0, c .before .before .before .before .before .before .before .before .before .before .before .before .before .before .if1 .left) in
+    let few : instanceCountWith (a .p .symmetry) (a .high .0) (q .symbols) (q .clauses) ≤ maxInstances = omega (arith, k .ensures .0, c .before .before .before .before .before .before .before .before .before .before .before .before .before .before .if1 .left) in
     let n = c .before .before .before .before .before .before .before .before .before .before .before .before .numbering-of in
     let w = c .before .before .before .before .before .before .before .before .before .before .work-needed in
-    let whole : w .result ≡ workNeeded (a .high .0) (q .symbols) (q .clauses) =
+    let whole : w .result ≡ workNeededWith (a .p .symmetry) (a .high .0) (q .symbols) (q .clauses) =
     work-is (a .sheet .now) (a .p) (a .high .0) (n .result .count) (k .result .instances) (k .result .literals) (w .result) (n .ensures (a .sheet .now) .count) (k .ensures .0) (k .ensures .1 .0) (w .ensures) in
-    let enough : workNeeded (a .high .0) (q .symbols) (q .clauses) ≤ W = omega (arith, whole, c .before .before .before .before .before .before .before .before .if2 .left) in
+    let enough : workNeededWith (a .p .symmetry) (a .high .0) (q .symbols) (q .clauses) ≤ W = omega (arith, whole, c .before .before .before .before .before .before .before .before .if2 .left) in
     let m = c .before .before .before .before .before .before .before .before .before .shown-length in
     let case : m .result ≡ caseLength (a .high .0) (shownSymbols (q .symbols)) = length-is (a .sheet .now) (a .p) (a .high .0) (m .result) _ (s .pre .shows) refl (m .ensures (a .sheet .now) (s .pre .accepted .readable)) in
     let t = c .before .before .before .before .search-sizes in
-    ends-as (foundIn q (a .low .0) (a .high .0)) (t .result) (a .work .now) (t .last .1 .1 .1 .1 .0) (a .output .now) (t .last .1 .1 .1 .1 .1 .0) (foundWithin q (a .low .0) (a .high .0))
-    (searches q (a .low .0) (a .high .0) W R few enough (omega (arith, case, c .before .before .before .before .before .before .before .if3 .left))) (t .ensures)
+    ends-as (foundIn (a .p .symmetry) q (a .low .0) (a .high .0)) (t .result) (a .work .now) (t .last .1 .1 .1 .1 .0) (a .output .now) (t .last .1 .1 .1 .1 .1 .0) (foundWithin (a .p .symmetry) q (a .low .0) (a .high .0))
+    (searches (a .p .symmetry) q (a .low .0) (a .high .0) W R few enough (omega (arith, case, c .before .before .before .before .before .before .before .if3 .left))) (t .ensures)
 
 pub find-in-spec : {M : Type 1} → statement M
 find-in-spec =

@@ -1,19 +1,24 @@
--- Program: the finder program needs to read no more than 16,398 bytes of its input, and its output buffer is never too short.
-use Prim.Native.Nat.{ℕ}
+-- Program: the finder program needs to read no more than 16,406 bytes of its input, if Find needs no more of a sheet than one byte more than the largest.
+use Prim.Native.Nat.{ℕ, _≤_}
 use mathlib.Core.Path.{_≡_}
 use mathlib.Core.List.{List}
 use lib.ListN.{take}
-use Rattle.theory.specs.Refusals.{Refusal, refused}
-use Rattle.theory.specs.Operations.{findResult}
-use Rattle.theory.specs.Program.{programWork, programOutput, program}
+use Rattle.theory.specs.Refusals.{Answer}
+use Rattle.theory.specs.Operations.{Search}
+use Rattle.theory.specs.Program.{Asked, program}
 
--- two lines, 13 bytes together, the largest sheet, and one byte more
+-- three lines, at most 21 bytes together, the largest sheet, and one byte more
 abbrev pub inputBytes : ℕ
-inputBytes = 16398
+inputBytes = 16406
+
+-- the same question with the first n bytes of its sheet
+abbrev pub cutTo : ℕ → Asked → Asked
+cutTo n a = record { low = a .low; high = a .high; symmetry = a .symmetry; sheet = take n (a .sheet) }
+
+-- what comes after one byte more than the largest sheet changes nothing
+abbrev pub NeedsNoMore : (Asked → Answer Search) → Type 0
+NeedsNoMore find = (a : Asked) (n : ℕ) → 16385 ≤ n → find (cutTo n a) ≡ find a
 
 -- the theorem
-pub record Program : Type 0 where
-  -- what comes after that many bytes changes nothing
-  pub reads : (input : List ℕ) → program (take inputBytes input) ≡ program input
-  -- 11 does not occur
-  pub roomy : (sheet : List ℕ) (low high : ℕ) (r : Refusal) → findResult sheet low high programWork programOutput ≡ refused r → r .number ≡ 11 → ⊥
+abbrev pub Program : Type 0
+Program = (find : Asked → Answer Search) → NeedsNoMore find → (input : List ℕ) → program find (take inputBytes input) ≡ program find input

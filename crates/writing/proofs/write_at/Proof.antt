@@ -23,9 +23,10 @@ returns c =
     let z = c .before .before .before .before .before .before in
     let p = problemIn (z .args .sheet .now) (z .args .p) in
     let s = z .args .s .0 in
+    let used = z .args .p .symmetry in
     let room = length (z .args .output .now) in
-    let many : maxInstances < instancesAt p s = omega (arith, c .before .if1 .taken, c .before .before .before .counts-at .ensures .0) in
-    refuses (textAt p s room) (unplaced 9) (c .at-line .result) (z .args .output .now) (too-many p s room many) (c .at-line .ensures)
+    let many : maxInstances < instancesAt used p s = omega (arith, c .before .if1 .taken, c .before .before .before .counts-at .ensures .0) in
+    refuses (textAt used p s room) (unplaced 9) (c .at-line .result) (z .args .output .now) (too-many used p s room many) (c .at-line .ensures)
 
 write-text-requires : tie.Need-write-text-requires
 write-text-requires c κs = search needs
@@ -38,10 +39,11 @@ returns-2 c =
     let z = c .before .before .before .before .before .before .before .before .before in
     let p = problemIn (z .args .sheet .now) (z .args .p) in
     let s = z .args .s .0 in
+    let used = z .args .p .symmetry in
     let room = length (z .args .output .now) in
-    let few : instancesAt p s ≤ maxInstances = omega (arith, c .before .before .before .before .if1 .left, c .before .before .before .before .before .before .counts-at .ensures .0) in
+    let few : instancesAt used p s ≤ maxInstances = omega (arith, c .before .before .before .before .if1 .left, c .before .before .before .before .before .before .counts-at .ensures .0) in
     let w = c .before .before .write-text in
-    answers-as (textAt p s room) (textWithin p s room) (w .result) (z .args .output .now) _ (not-too-many p s room few) (w .ensures)
+    answers-as (textAt used p s room) (textWithin used p s room) (w .result) (z .args .output .now) _ (not-too-many used p s room few) (w .ensures)
 
 pub write-at-spec : {M : Type 1} → statement M
 write-at-spec = tie.close (tie.spec counts-at-requires at-line-requires returns write-text-requires same-length returns-2)

@@ -5,10 +5,11 @@ use Prim.Native.Nat.{ℕ}
 use lib.ListN.{length}
 use Rattle.theory.specs.Refusals.{unplaced}
 use Rattle.theory.specs.Problem.{Problem}
-use Rattle.naming.specs.NamedOperations.{writtenTextIn}
+use Rattle.symmetry.specs.SymmetricOperations.{writtenTextWith}
 use Rattle.syntax.proofs.Sizes.{checked-size, refused-size, size-within}
 use Rattle.problem.specs.Problems.{problemIn}
 use Rattle.problem.proofs.ModeRead.{mode-accepted, mode-refused}
+use Rattle.problem.proofs.Told.{told, accepted-told, problem-told}
 use Rattle.writing.specs.Texts.{textAt}
 use Rattle.answers.specs.Answers.{refusalIn}
 use Rattle.answers.proofs.Answering.{refuses, answers-as}
@@ -31,7 +32,7 @@ returns c =
     let sheet = z .args .sheet .now in
     let room = length (z .args .output .now) in
     let q = c .refusal-in .result in
-    refuses (writtenTextIn (z .args .named) sheet (z .args .size) room) (refusalIn q) q (z .args .output .now) (sheet-refusal sheet (z .args .size) room (z .args .named) (refusalIn q) (c .refusal-in .ensures)) refl
+    refuses (writtenTextWith (z .args .named) (z .args .symmetry) sheet (z .args .size) room) (refusalIn q) q (z .args .output .now) (sheet-refusal sheet (z .args .size) room (z .args .named) (z .args .symmetry) (refusalIn q) (c .refusal-in .ensures)) refl
 
 checked-requires : tie.Need-checked-requires
 checked-requires c κs = search needs
@@ -51,7 +52,8 @@ write-at-requires c κs =
     let s = c .before .before .s .given in
     let k = checked-size (z .args .size) (s .0 .0) (sym (c .before .before .before .before .checked .ensures) ∙ s .1) in
     let w = size-within (z .args .size) (k .0) in
-    record { accepted = c .before .before .before .before .before .before .before .before .read-in .ensures .1 (c .before .before .before .before .before .before .if1 .left); positive = rw (k .1) (w .0); within = rw (k .1) (w .1) }
+    let r = c .before .before .before .before .before .before .before .before .read-in in
+    record { accepted = accepted-told (z .args .sheet .now) (r .result .problem) (z .args .symmetry) (r .ensures .1 (c .before .before .before .before .before .before .if1 .left)); positive = rw (k .1) (w .0); within = rw (k .1) (w .1) }
 
 returns-2 : tie.Need-returns-2
 returns-2 c =
@@ -61,8 +63,8 @@ returns-2 c =
     let r = c .before .before .before .before .before .before .before .read-in in
     let no = refused-size (z .args .size) (sym (c .before .before .before .checked .ensures) ∙ c .before .enum-told .given .1) in
     let q = mode-accepted sheet (z .args .named) (r .result) (r .ensures .0) (c .before .before .before .before .before .if1 .left) in
-    refuses (writtenTextIn (z .args .named) sheet (z .args .size) room) (unplaced 8) (c .at-line .result) (z .args .output .now)
-    (size-refusal sheet (z .args .size) room (z .args .named) (q .problem) (q .placed) no) (c .at-line .ensures)
+    refuses (writtenTextWith (z .args .named) (z .args .symmetry) sheet (z .args .size) room) (unplaced 8) (c .at-line .result) (z .args .output .now)
+    (size-refusal sheet (z .args .size) room (z .args .named) (z .args .symmetry) (q .problem) (q .placed) no) (c .at-line .ensures)
 
 same-length : tie.Need-same-length
 same-length c = search needs
@@ -73,14 +75,16 @@ returns-3 c =
     let sheet = z .args .sheet .now in
     let room = length (z .args .output .now) in
     let r = c .before .before .before .before .before .before .before .before .before .before .before .read-in in
-    let p = problemIn sheet (r .result .problem) in
+    let used = z .args .symmetry in
+    let p = problemIn sheet (told used (r .result .problem)) in
     let s = c .before .before .before .before .before .s .given in
     let w = c .before .before .write-at in
     let k = checked-size (z .args .size) (s .0 .0) (sym (c .before .before .before .before .before .before .before .checked .ensures) ∙ s .1) in
     let q = mode-accepted sheet (z .args .named) (r .result) (r .ensures .0) (c .before .before .before .before .before .before .before .before .before .if1 .left) in
-    let t = sized-text sheet (z .args .size) room (z .args .named) (q .problem) (q .placed) (k .0) in
-    let u : writtenTextIn (z .args .named) sheet (z .args .size) room ≡ textAt p (s .0 .0 .0) room = t ∙ ap (λ (q : Problem). textAt q (z .args .size) room) (sym (q .is)) ∙ ap (λ (n : ℕ). textAt p n room) (sym (k .1)) in
-    answers-as (writtenTextIn (z .args .named) sheet (z .args .size) room) (textAt p (s .0 .0 .0) room) (w .result) (z .args .output .now) _ u (w .ensures)
+    let t = sized-text sheet (z .args .size) room (z .args .named) (z .args .symmetry) (q .problem) (q .placed) (k .0) in
+    let u : writtenTextWith (z .args .named) used sheet (z .args .size) room ≡ textAt used p (s .0 .0 .0) room =
+    t ∙ ap (λ (q : Problem). textAt used q (z .args .size) room) (sym (q .is) ∙ sym (problem-told sheet (r .result .problem) used)) ∙ ap (λ (n : ℕ). textAt used p n room) (sym (k .1)) in
+    answers-as (writtenTextWith (z .args .named) (z .args .symmetry) sheet (z .args .size) room) (textAt used p (s .0 .0 .0) room) (w .result) (z .args .output .now) _ u (w .ensures)
 
 pub write-clauses-spec : {M : Type 1} → statement M
 write-clauses-spec =

@@ -4,7 +4,7 @@ use crate::options::Sheet;
 use crate::report::{Failure, File};
 use crate::room::{Engine, Room};
 use crate::{named, print, read_sheet, szs, tables, NO, YES};
-use nesskettle::{Reason, Refusal, Search};
+use nesskettle::{FindOptions, Reason, Refusal, Search, Symmetry};
 use std::io::IsTerminal;
 use std::time::Instant;
 
@@ -54,8 +54,10 @@ pub fn find(sheet: &Sheet, low: u64, high: u64, engine: Engine, layout: Layout) 
 fn search(sheet: File, low: u64, high: u64, engine: Engine) -> Result<(File, Search, Room), Failure> {
     let room = Room::new(engine, &sheet.bytes, low, high);
     let mut room = room.map_err(|r| match (engine, r.reason) {
-        (Engine::Clauses(terms), _) => named::refused(&sheet, r, terms, |other| {
-            let highest = highest(Engine::Clauses(other), &sheet.bytes, low, high)?;
+        (Engine::Clauses(options), Reason::TooManyInstances) => too_many_instances(&sheet, r, low, high, options),
+        (Engine::Clauses(options), _) => named::refused(&sheet, r, options.terms, |terms| {
+            let other = Engine::Clauses(FindOptions { terms, ..options });
+            let highest = highest(other, &sheet.bytes, low, high)?;
             Some(if highest < high { up_to(highest) } else { String::new() })
         }),
         (Engine::Plain, Reason::TooManyCells) => sheet.refused(r).with(&fewer_cells(&sheet.bytes, low, high)),
@@ -68,6 +70,20 @@ fn search(sheet: File, low: u64, high: u64, engine: Engine) -> Result<(File, Sea
     };
     let search = search(&mut room, &sheet.bytes, low, high).map_err(|r| sheet.refused(r))?;
     Ok((sheet, search, room))
+}
+
+/// The constant clauses may be the ones that are too many.
+fn too_many_instances(sheet: &File, refusal: Refusal, low: u64, high: u64, options: FindOptions) -> Failure {
+    let failure = sheet.refused(refusal);
+    let without = FindOptions {
+        symmetry: Symmetry::Kept,
+        ..options
+    };
+    if Room::new(Engine::Clauses(without), &sheet.bytes, low, high).is_ok() {
+        failure.with("--no-symmetry takes this sheet: the constant clauses are not among its instances")
+    } else {
+        failure
+    }
 }
 
 /// What to do about too many cells.

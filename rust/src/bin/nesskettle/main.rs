@@ -15,7 +15,7 @@ mod szs;
 mod tables;
 mod values;
 
-use nesskettle::Terms;
+use nesskettle::{Terms, WriteOptions};
 use options::{Command, Sheet};
 use report::{Failure, File};
 use std::io::Write;
@@ -47,7 +47,7 @@ fn run(command: Command) -> Result<u8, Failure> {
         Command::Check { sheet } => check(&read_sheet(&sheet)?),
         Command::Judge { sheet, case } => judge(&read_sheet(&sheet)?, &File::read(&case)?),
         Command::Explain { sheet, case } => explain::explain(&read_sheet(&sheet)?, &File::read(&case)?),
-        Command::Clauses { sheet, size, terms } => clauses(&read_sheet(&sheet)?, size, terms),
+        Command::Clauses { sheet, size, options } => clauses(&read_sheet(&sheet)?, size, options),
         Command::ReadBack {
             sheet,
             size,
@@ -111,11 +111,11 @@ fn judge(sheet: &File, case: &File) -> Result<u8, Failure> {
     Ok(if yes { YES } else { NO })
 }
 
-fn clauses(sheet: &File, size: u64, terms: Terms) -> Result<u8, Failure> {
-    let written = |terms: Terms, output: &mut [u8]| nesskettle::write(&sheet.bytes, size, terms, output);
-    let taken = |terms: Terms| named::without_limit(written(terms, &mut []));
-    let text = room::text(|output| written(terms, output));
-    print(&text.map_err(|r| named::refused(sheet, r, terms, taken))?)
+fn clauses(sheet: &File, size: u64, options: WriteOptions) -> Result<u8, Failure> {
+    let written = |options: WriteOptions, output: &mut [u8]| nesskettle::write(&sheet.bytes, size, options, output);
+    let taken = |terms: Terms| named::without_limit(written(WriteOptions { terms, ..options }, &mut []));
+    let text = room::text(|output| written(options, output));
+    print(&text.map_err(|r| named::refused(sheet, r, options.terms, taken))?)
 }
 
 fn read_back(sheet: &File, size: u64, terms: Terms, setting: &File, tables: bool) -> Result<u8, Failure> {

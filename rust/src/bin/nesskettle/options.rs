@@ -3,22 +3,24 @@
 use crate::find::Layout;
 use crate::report::Failure;
 use crate::room::Engine;
-use nesskettle::Terms;
+use nesskettle::{FindOptions, Symmetry, Terms, WriteOptions};
 
 pub const HELP: &str = "\
 nesskettle: a finite model finder. Every answer is the proved library's.
 
-  nesskettle find SHEET [--low N] [--high N] [--named or --plain] [--tables or --szs]
-      the least model at the smallest size from low to high (1 and 8 if not given):
-      prints answer=found and the case, or answer=none and settled=yes (there is no
-      model of any size) or settled=no (none of the sizes that were searched)
+  nesskettle find SHEET [--low N] [--high N] [--named or --plain] [--no-symmetry]
+                        [--tables or --szs]
+      the least model at the smallest size from low to high (1 and 8 if not given), of
+      those whose elements are numbered as said below: prints answer=found and the
+      case, or answer=none and settled=yes (there is no model of any size) or
+      settled=no (none of the sizes that were searched)
   nesskettle judge SHEET CASE
       is the case a model of the sheet? prints yes or no
   nesskettle explain SHEET CASE
       why is the case no model? prints answer=no, the first clause that fails, its
       letters with the first choice of values under which it does, and what its
       terms and literals come to; or answer=yes
-  nesskettle clauses SHEET --size N [--named]
+  nesskettle clauses SHEET --size N [--named] [--symmetry]
       prints the sheet's clauses at a size, as DIMACS text for a SAT solver
   nesskettle read-back SHEET --size N SETTING [--named] [--tables]
       prints the case that a setting of the propositional variables stands for
@@ -71,11 +73,24 @@ variables come last, after all predicates, and a SETTING for read-back --named h
 their digits. The other commands, --plain, and a TPTP file when it is read into a
 sheet take terms as they are written.
 
+A case whose elements are numbered otherwise is a model exactly if the case is. So
+that find need not try every renumbering, it adds clauses on the constants, in the
+order in which they are declared: the first is 1, and each other has a value of an
+earlier one or the value after the highest of these. Every model has a renumbering
+that obeys them, so that none and the smallest size stay what they are. The case
+that is found is the least of those that obey; it is the least of all where the
+constants are declared before the other functions.
+--no-symmetry leaves the clauses out: the case that is found is the least of all, and
+time is longer, above all where there is none. The clauses count as instances
+(refusal 9).
+--symmetry adds them to what clauses prints. A solver's answer to that text is read
+as always, by from-solver or read-back.
+
 --plain searches as one would on a whiteboard: it fills the cells of the tables in
 order, the least value first, and looks at the clauses once all are filled. Where
-both take a sheet, it answers what find answers without it. It goes together with
-every other option of find but --named; other commands do not search and take no
---plain. A case of size --high may have at most 64 cells (refusal 20), and time
+both take a sheet, it answers what find answers with --no-symmetry. It goes together
+with every other option of find but --named; other commands do not search and take
+no --plain. A case of size --high may have at most 64 cells (refusal 20), and time
 grows with the number of cases: at size N a cell of a function has N values, one of
 a predicate 2.
 
@@ -129,7 +144,7 @@ pub enum Command {
     Clauses {
         sheet: Sheet,
         size: u64,
-        terms: Terms,
+        options: WriteOptions,
     },
     ReadBack {
         sheet: Sheet,
@@ -194,12 +209,12 @@ pub fn parse(arguments: impl Iterator<Item = String>) -> Result<Command, Failure
         }
         "clauses" => {
             let size = rest.size()?;
-            let terms = rest.terms();
+            let options = rest.write_options();
             let [sheet] = rest.files("SHEET")?;
             Ok(Command::Clauses {
                 sheet: sheet_in(sheet),
                 size,
-                terms,
+                options,
             })
         }
         "read-back" => {
@@ -283,10 +298,27 @@ impl Rest {
         }
     }
 
-    /// Takes the flags of a search out.
+    /// Takes the flags of written clauses out.
+    fn write_options(&mut self) -> WriteOptions {
+        let mut options = WriteOptions {
+            terms: self.terms(),
+            ..WriteOptions::default()
+        };
+        if self.flag("--symmetry") {
+            options.symmetry = Symmetry::Reduced;
+        }
+        options
+    }
+
+    /// Takes the flags of a search out. The plain search has no constant clauses to leave out, and takes that flag all the
+    /// same, so that both can be called alike.
     fn engine(&mut self) -> Result<Engine, Failure> {
+        let mut options = FindOptions::default();
+        if self.flag("--no-symmetry") {
+            options.symmetry = Symmetry::Kept;
+        }
         match (self.flag("--plain"), self.terms()) {
-            (false, terms) => Ok(Engine::Clauses(terms)),
+            (false, terms) => Ok(Engine::Clauses(FindOptions { terms, ..options })),
             (true, Terms::AsWritten) => Ok(Engine::Plain),
             (true, Terms::Named) => Err(wrong("--plain and --named are not for one search")),
         }

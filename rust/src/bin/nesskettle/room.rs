@@ -1,6 +1,6 @@
 //! Buffers as long as a call says that it needs, and the searches that are lent them.
 
-use nesskettle::{Reason, Refusal, Search, Terms};
+use nesskettle::{FindOptions, Reason, Refusal, Search};
 
 /// The text of a call that writes one: called once to be told the length, and once more.
 pub fn text(mut call: impl FnMut(&mut [u8]) -> Result<usize, Refusal>) -> Result<Vec<u8>, Refusal> {
@@ -20,14 +20,14 @@ pub fn text(mut call: impl FnMut(&mut [u8]) -> Result<usize, Refusal>) -> Result
 /// Which of the two searches.
 #[derive(Clone, Copy, Debug, PartialEq, Eq)]
 pub enum Engine {
-    Clauses(Terms),
+    Clauses(FindOptions),
     Plain,
 }
 
 impl Engine {
     fn find(self, sheet: &[u8], low: u64, high: u64, work: &mut [u32], output: &mut [u8]) -> Result<Search, Refusal> {
         match self {
-            Engine::Clauses(terms) => nesskettle::find(sheet, low, high, terms, work, output),
+            Engine::Clauses(options) => nesskettle::find(sheet, low, high, options, work, output),
             Engine::Plain => nesskettle::find_plain(sheet, low, high, output),
         }
     }

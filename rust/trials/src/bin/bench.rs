@@ -6,11 +6,12 @@
 
 use nesskettle_reference as reference;
 use nesskettle_trials::draft::Draft;
+use nesskettle_trials::options::{asked, not_asked, told_no, told_yes};
 use nesskettle_trials::problems::{sheet, GROUP_CASE, MILLION};
 use nesskettle_trials::random::Random;
 use nesskettle_trials::solver::stating;
-use reference::Terms::{self, AsWritten, Named};
-use reference::{sheet_of, Operations, Search, SolverAnswer};
+use reference::Terms::{AsWritten, Named};
+use reference::{sheet_of, FindOptions, Operations, Search, SolverAnswer, Symmetry, WriteOptions};
 use std::time::Duration;
 
 /// Terms that are refused as written.
@@ -30,6 +31,7 @@ fn main() {
     find(&bench);
     find_plain(&bench);
     named(&bench);
+    symmetry(&bench);
     from_tptp(&bench);
 }
 
@@ -139,18 +141,19 @@ fn judge(bench: &Bench) {
 }
 
 fn write(bench: &Bench) {
-    write_row(bench, "write, group at size 4", sheet("group"), 4, AsWritten, 100);
-    write_row(bench, "write, lattice at size 6", sheet("lattice"), 6, AsWritten, 3);
-    write_row(bench, "write, 1,000,000 instances", MILLION, 8, AsWritten, 1);
+    let options = not_asked(AsWritten);
+    write_row(bench, "write, group at size 4", sheet("group"), 4, options, 100);
+    write_row(bench, "write, lattice at size 6", sheet("lattice"), 6, options, 3);
+    write_row(bench, "write, 1,000,000 instances", MILLION, 8, options, 1);
 }
 
-fn write_row(bench: &Bench, name: &str, sheet: &[u8], size: u64, terms: Terms, times: u32) {
-    let length = reference::write(sheet, size, terms, &mut [])
+fn write_row(bench: &Bench, name: &str, sheet: &[u8], size: u64, options: WriteOptions, times: u32) {
+    let length = reference::write(sheet, size, options, &mut [])
         .expect_err("no room")
         .needed as usize;
     let mut output = vec![0; length];
     bench.row(name, times, Some((length as f64 / 1e6, "MB")), |o| {
-        assert_eq!((o.write)(sheet, size, terms, &mut output), Ok(length));
+        assert_eq!((o.write)(sheet, size, options, &mut output), Ok(length));
     });
 }
 
@@ -195,45 +198,68 @@ fn find(bench: &Bench) {
         ("lattice", 4, 1),
         ("lattice", 5, 1),
     ] {
-        find_row(bench, name, sheet(name), size, AsWritten, times);
+        find_row(bench, name, sheet(name), size, told_no(AsWritten), times);
     }
 }
 
-fn find_row(bench: &Bench, name: &str, sheet: &[u8], size: u64, terms: Terms, times: u32) {
-    let (work, output) = reference::needed(sheet, size, terms).expect("it is a sheet");
+fn find_row(bench: &Bench, name: &str, sheet: &[u8], size: u64, options: FindOptions, times: u32) {
+    let (work, output) = reference::needed(sheet, size, options).expect("it is a sheet");
     let mut work = vec![0; work as usize];
     let mut output = vec![0; output as usize];
-    let expected = reference::find(sheet, size, size, terms, &mut work, &mut output);
+    let expected = reference::find(sheet, size, size, options, &mut work, &mut output);
     let outcome = if matches!(expected, Ok(Search::Found { .. })) {
         "found"
     } else {
         "none"
     };
-    let call = if terms == Named { "find named" } else { "find" };
+    let call = match (options.terms, options.symmetry) {
+        (AsWritten, Symmetry::Kept) => "find",
+        (Named, Symmetry::Kept) => "find named",
+        (_, Symmetry::Reduced) => "find sym",
+    };
     bench.row(&format!("{call}, {name} at size {size}, {outcome}"), times, None, |o| {
-        assert_eq!((o.find)(sheet, size, size, terms, &mut work, &mut output), expected);
+        assert_eq!((o.find)(sheet, size, size, options, &mut work, &mut output), expected);
     });
 }
 
 /// Named terms: sheets that have none of them, as in the rows above; the example that is refused as written; and both ways
 /// on the same sheet of fixed terms.
 fn named(bench: &Bench) {
-    write_row(bench, "write named, group at size 4", sheet("group"), 4, Named, 100);
-    find_row(bench, "group", sheet("group"), 5, Named, 1);
-    find_row(bench, "steiner", sheet("steiner"), 7, Named, 20);
-    write_row(bench, "write named, counter at size 4", COUNTER, 4, Named, 10);
-    find_row(bench, "counter", COUNTER, 3, Named, 20);
-    find_row(bench, "counter", COUNTER, 5, Named, 1);
+    let (write, find) = (not_asked(Named), told_no(Named));
+    write_row(bench, "write named, group at size 4", sheet("group"), 4, write, 100);
+    find_row(bench, "group", sheet("group"), 5, find, 1);
+    find_row(bench, "steiner", sheet("steiner"), 7, find, 20);
+    write_row(bench, "write named, counter at size 4", COUNTER, 4, write, 10);
+    find_row(bench, "counter", COUNTER, 3, find, 20);
+    find_row(bench, "counter", COUNTER, 5, find, 1);
     // ten variables as written, five and five in the helpers' own clauses
     let clause = "+ r s s s s y s s s s z";
     let steps = sheet_of(&["y/0", "z/0", "s/1"], &["r/2"], &[clause, "- r A A"]);
-    write_row(bench, "write, four steps twice at size 3", &steps, 3, AsWritten, 3);
-    write_row(bench, "write named, four steps twice at size 3", &steps, 3, Named, 100);
-    find_row(bench, "four steps twice", &steps, 3, AsWritten, 3);
-    find_row(bench, "four steps twice", &steps, 3, Named, 100);
+    let as_written = not_asked(AsWritten);
+    write_row(bench, "write, four steps twice at size 3", &steps, 3, as_written, 3);
+    write_row(bench, "write named, four steps twice at size 3", &steps, 3, write, 100);
+    find_row(bench, "four steps twice", &steps, 3, told_no(AsWritten), 3);
+    find_row(bench, "four steps twice", &steps, 3, find, 100);
     let words = long_line();
     let name = format!("write named, a line of {:.1} kB at size 1", words.len() as f64 / 1e3);
-    write_row(bench, &name, &words, 1, Named, 100);
+    write_row(bench, &name, &words, 1, write, 100);
+}
+
+/// Constant clauses, on sheets of the rows above.
+fn symmetry(bench: &Bench) {
+    let options = asked(AsWritten);
+    write_row(bench, "write sym, group at size 4", sheet("group"), 4, options, 100);
+    for (name, size, times) in [
+        ("group", 5, 5),
+        ("group", 7, 1),
+        ("exponent-2", 6, 5),
+        ("exponent-2", 8, 1),
+        ("pigeonhole", 8, 1),
+        ("lattice", 4, 5),
+        ("lattice", 5, 1),
+    ] {
+        find_row(bench, name, sheet(name), size, told_yes(AsWritten), times);
+    }
 }
 
 /// Twelve literals of three terms of 61 words each.
@@ -254,12 +280,15 @@ fn find_plain(bench: &Bench) {
         ("pigeonhole", 6, 279_936),
     ] {
         let sheet = sheet(name);
-        let (work, output) = reference::needed(sheet, size, AsWritten).expect("it is a sheet");
+        let (work, output) = reference::needed(sheet, size, told_no(AsWritten)).expect("it is a sheet");
         let mut work = vec![0; work as usize];
         let mut output = vec![0; output as usize];
         let none = Ok(Search::None { settled: false });
         bench.row(&format!("find, {name} at size {size}, none"), 10, None, |o| {
-            assert_eq!((o.find)(sheet, size, size, AsWritten, &mut work, &mut output), none);
+            assert_eq!(
+                (o.find)(sheet, size, size, told_no(AsWritten), &mut work, &mut output),
+                none
+            );
         });
         let amount = Some((cases as f64 / 1e3, "thousand cases"));
         bench.row(&format!("find plain, {name} at size {size}, none"), 1, amount, |o| {

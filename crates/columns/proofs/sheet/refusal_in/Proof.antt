@@ -3,8 +3,7 @@ use mathlib.Core.Path.{sym, ap, _∙_}
 use mathlib.Core.Bool.{Bool}
 use borrow.Author.Needs.{needs}
 use Rattle.theory.specs.Refusals.{refused}
-use Rattle.naming.specs.NamedOperations.{readProblemIn}
-use Rattle.problem.specs.Modes.{placedIn}
+use Rattle.naming.specs.NamedOperations.{placedIn, readProblemIn}
 use Rattle.columns.proofs.SheetRefused.{named-placed}
 use Rattle.columns.proofs.sheet.refusal_in.Statement.{statement}
 use Rattle.columns.proofs.sheet.refusal_in.Tie as tie

@@ -6,7 +6,7 @@ use mathlib.Core.Bool.{Bool, true}
 use native.Mathlib.Omega.{arith}
 use lib.ListN.{length, take, replicate}
 use Rattle.theory.specs.Valuation.{settingOf}
-use Rattle.theory.specs.Least.{smallestModel}
+use Rattle.symmetry.specs.Obeying.{smallestWith}
 use Rattle.syntax.specs.declared.size.DomainSize.{DomainSize}
 use Rattle.problem.specs.Problems.{problemIn}
 use Rattle.search.specs.Search.{searchAnswer}
@@ -32,7 +32,7 @@ Inv-loop sheet p low high work₀ output₀ signature size₀ work output size =
     × (length work ≡ length work₀)
     × (output ≡ output₀)
     × (length output ≡ length output₀)
-    × (smallestModel (problemIn sheet p) (low .0) (high .0) ≡ remaining (problemIn sheet p) (high .0) (size .0))
+    × (smallestWith (p .symmetry) (problemIn sheet p) (low .0) (high .0) ≡ remaining (p .symmetry) (problemIn sheet p) (high .0) (size .0))
 
 abbrev μ-loop : tie.MeasureT-loop
 μ-loop sheet p low high work₀ output₀ signature size₀ work output size = high .0 - size .0
@@ -42,7 +42,7 @@ loop-holds : tie.Need-loop-holds Inv-loop μ-loop
 loop-holds c =
     let s = c .before .before .before .before in
     let a = s .args in
-    (omega arith, s .pre .ordered, refl, refl, refl, remaining-all (problemIn (a .sheet .now) (a .p)) (a .high .0) (a .low .0))
+    (omega arith, s .pre .ordered, refl, refl, refl, remaining-all (a .p .symmetry) (problemIn (a .sheet .now) (a .p)) (a .high .0) (a .low .0))
 
 -- src/sizes.rt:39:13
 numbering-of-requires : tie.Need-numbering-of-requires Inv-loop μ-loop
@@ -102,10 +102,10 @@ returns c =
     let t = c .before .before .before .before .before .before .before .before .before .before .search-size in
     let f = c .before .before .before .before .put-found in
     let h = size-searchable (a .sheet .now) (a .p) (a .low .0) (a .high .0) W R (s .pre) (l .size .0) (l .inv .0) (l .inv .1) in
-    let least = found-at (l .size .0) q (h .positive) (clauses-over (a .sheet .now) (a .p) (l .size .0) W h) (settingOf (take (n .result .count) (t .last .1 .1 .1 .1 .0)))
+    let least = found-at (a .p .symmetry) (l .size .0) q (h .positive) (clauses-over (a .sheet .now) (a .p) (l .size .0) W h) (settingOf (take (n .result .count) (t .last .1 .1 .1 .1 .0)))
     (t .ensures ∙ ap (λ (b : Bool). searchAnswer b (take (n .result .count) (t .last .1 .1 .1 .1 .0))) (c .before .before .before .before .before .before .before .if1 .taken)) .least in
-    ends-whole q (a .low .0) (a .high .0) (l .size .0) _ (f .result) (a .work .now) (t .last .1 .1 .1 .1 .0) (f .last .1 .1 .1 .0) (a .output .now) (l .output) (f .last .1 .1 .1 .1 .0)
-    least (l .inv .5 ∙ remaining-found q (a .high .0) (l .size .0) _ (l .inv .1) least) (t .kept .1 .1 .1 .1 .0 ∙ l .inv .2) (l .inv .3) (f .ensures)
+    ends-whole (a .p .symmetry) q (a .low .0) (a .high .0) (l .size .0) _ (f .result) (a .work .now) (t .last .1 .1 .1 .1 .0) (f .last .1 .1 .1 .0) (a .output .now) (l .output) (f .last .1 .1 .1 .1 .0)
+    least (l .inv .5 ∙ remaining-found (a .p .symmetry) q (a .high .0) (l .size .0) _ (l .inv .1) least) (t .kept .1 .1 .1 .1 .0 ∙ l .inv .2) (l .inv .3) (f .ensures)
 
 -- src/sizes.rt:44:13
 clear-all-requires : tie.Need-clear-all-requires Inv-loop μ-loop
@@ -136,10 +136,10 @@ returns-2 c =
     let t = c .before .before .before .before .before .before .before .before .before .before .before .search-size in
     let h = size-searchable (a .sheet .now) (a .p) (a .low .0) (a .high .0) W R (s .pre) (l .size .0) (l .inv .0) (l .inv .1) in
     let none = missed (a .sheet .now) (a .p) (l .size .0) W h (t .ensures ∙ ap (λ (b : Bool). searchAnswer b (take (n .result .count) (t .last .1 .1 .1 .1 .0))) (c .before .before .before .before .before .before .before .before .if1 .left)) in
-    let on = l .inv .5 ∙ remaining-missed q (a .high .0) (l .size .0) (l .inv .1) none in
+    let on = l .inv .5 ∙ remaining-missed (a .p .symmetry) q (a .high .0) (l .size .0) (l .inv .1) none in
     let k = c .before .before .before .clear-all in
-    ends-none q (a .low .0) (a .high .0) (a .work .now) (k .last .0) (a .output .now) (l .output) (c .is-settled .result)
-    (on ∙ remaining-none q (a .high .0) (suc (l .size .0)) (omega (arith, c .before .before .before .before .before .if2 .taken)))
+    ends-none (a .p .symmetry) q (a .low .0) (a .high .0) (a .work .now) (k .last .0) (a .output .now) (l .output) (c .is-settled .result)
+    (on ∙ remaining-none (a .p .symmetry) q (a .high .0) (suc (l .size .0)) (omega (arith, c .before .before .before .before .before .if2 .taken)))
     (c .is-settled .ensures (a .sheet .now) (s .pre .searchable .accepted))
     (k .ensures ∙ ap (λ (m : ℕ). replicate m 0) (t .kept .1 .1 .1 .1 .0 ∙ l .inv .2))
     (l .inv .3)
@@ -167,14 +167,14 @@ loop-again c =
     let t = c .before .before .before .before .before .before .before .search-size in
     let h = size-searchable (a .sheet .now) (a .p) (a .low .0) (a .high .0) W R (s .pre) (l .size .0) (l .inv .0) (l .inv .1) in
     let none = missed (a .sheet .now) (a .p) (l .size .0) W h (t .ensures ∙ ap (λ (b : Bool). searchAnswer b (take (n .result .count) (t .last .1 .1 .1 .1 .0))) (c .before .before .before .before .if1 .left)) in
-    let on = l .inv .5 ∙ remaining-missed q (a .high .0) (l .size .0) (l .inv .1) none in
+    let on = l .inv .5 ∙ remaining-missed (a .p .symmetry) q (a .high .0) (l .size .0) (l .inv .1) none in
     let e : suc (l .size .0) ≡ c .next .result .0 = omega (arith, ap (λ (x : DomainSize). x .0) (c .next .ensures)) in (
       omega (arith, e, l .inv .0),
       omega (arith, e, c .before .if2 .left),
       t .kept .1 .1 .1 .1 .0 ∙ l .inv .2,
       l .inv .3,
       l .inv .4,
-      on ∙ ap (remaining q (a .high .0)) e,
+      on ∙ ap (remaining (a .p .symmetry) q (a .high .0)) e,
     )
 
 pub search-sizes-spec : {M : Type 1} → statement M

@@ -1,6 +1,7 @@
 -- `search_sizes` meets its contract: no size before this one has a model.
 use Prim.Native.Nat.{suc, _+_, _-_, _≤_}
 use mathlib.Core.Path.{_≡_, refl, ap, _∙_}
+use mathlib.Core.Bool.{false}
 use native.Mathlib.Omega.{arith}
 use lib.ListN.{length}
 use Rattle.theory.specs.CaseText.{caseText}
@@ -9,7 +10,7 @@ use Rattle.theory.specs.Operations.{over}
 use Rattle.syntax.specs.declared.size.DomainSize.{DomainSize}
 use Rattle.problem.specs.Problems.{problemIn}
 use Rattle.judging.specs.Cases.{cellsOf}
-use Rattle.finding.proofs.SizeBySize.{remaining, remaining-all, remaining-found, remaining-missed, remaining-none}
+use Rattle.finding.proofs.SizeBySize.{remaining, remaining-found, remaining-missed, remaining-none}
 use Rattle.plain.proofs.Models.{model-found, model-missed, size-searchable, size-case}
 use Rattle.plain.proofs.Endings.{ends-found, ends-none}
 use borrow.Author.Needs.{needs}
@@ -22,16 +23,14 @@ Inv-loop sheet p low high output₀ size₀ output size =
     × (size .0 ≤ high .0)
     × (output ≡ output₀)
     × (length output ≡ length output₀)
-    × (smallestModel (problemIn sheet p) (low .0) (high .0) ≡ remaining (problemIn sheet p) (high .0) (size .0))
+    × (smallestModel (problemIn sheet p) (low .0) (high .0) ≡ remaining false (problemIn sheet p) (high .0) (size .0))
 
 abbrev μ-loop : tie.MeasureT-loop
 μ-loop sheet p low high output₀ size₀ output size = high .0 - size .0
 
 loop-holds : tie.Need-loop-holds Inv-loop μ-loop
-loop-holds c =
-    let s = c .before .before in
-    let a = s .args in
-    (omega arith, s .pre .ordered, refl, refl, remaining-all (problemIn (a .sheet .now) (a .p)) (a .high .0) (a .low .0))
+unfolding smallestModel
+loop-holds c = (omega arith, c .before .before .pre .ordered, refl, refl, refl)
 
 least-model-requires : tie.Need-least-model-requires Inv-loop μ-loop
 least-model-requires c κs =
@@ -61,7 +60,7 @@ returns c =
     let w = c .before .before .put-model in
     let least = model-found (a .sheet .now) (a .p) (l .size .0) (m .result) (m .ensures) (c .before .before .before .before .before .if1 .taken) in
     ends-found q (a .low .0) (a .high .0) (a .output .now) (w .last .1 .1 .1 .1 .0) (l .size .0) (w .result) _ (omega (arith, s .pre .positive, l .inv .0)) least (w .ensures .1)
-    (w .ensures .0 ∙ ap (over (caseText (l .size .0) (q .symbols) (cellsOf (a .sheet .now) (a .p) (m .result .cells .values) (l .size .0)))) (l .inv .2)) (l .inv .4 ∙ remaining-found q (a .high .0) (l .size .0) _ (l .inv .1) least)
+    (w .ensures .0 ∙ ap (over (caseText (l .size .0) (q .symbols) (cellsOf (a .sheet .now) (a .p) (m .result .cells .values) (l .size .0)))) (l .inv .2)) (l .inv .4 ∙ remaining-found false q (a .high .0) (l .size .0) _ (l .inv .1) least)
 
 is-settled-requires : tie.Need-is-settled-requires Inv-loop μ-loop
 is-settled-requires c κs = c .before .before .before .before .before .before .before .before .pre .searchable .accepted .readable .limited
@@ -77,8 +76,8 @@ returns-2 c =
     let q = problemIn (a .sheet .now) (a .p) in
     let m = c .before .before .before .before .before .least-model in
     let none = model-missed (a .sheet .now) (a .p) (l .size .0) (m .result) (m .ensures) (c .before .before .before .before .if1 .left) in
-    let on = l .inv .4 ∙ remaining-missed q (a .high .0) (l .size .0) (l .inv .1) none in
-    ends-none q (a .low .0) (a .high .0) (a .output .now) (l .output) (c .is-settled .result) (on ∙ remaining-none q (a .high .0) (suc (l .size .0)) (omega (arith, c .before .if2 .taken)))
+    let on = l .inv .4 ∙ remaining-missed false q (a .high .0) (l .size .0) (l .inv .1) none in
+    ends-none q (a .low .0) (a .high .0) (a .output .now) (l .output) (c .is-settled .result) (on ∙ remaining-none false q (a .high .0) (suc (l .size .0)) (omega (arith, c .before .if2 .taken)))
     (c .is-settled .ensures (a .sheet .now) (s .pre .searchable .accepted)) (l .inv .2)
 
 next-requires : tie.Need-next-requires Inv-loop μ-loop
@@ -97,9 +96,9 @@ loop-again c =
     let q = problemIn (a .sheet .now) (a .p) in
     let m = c .before .before .before .before .before .least-model in
     let none = model-missed (a .sheet .now) (a .p) (l .size .0) (m .result) (m .ensures) (c .before .before .before .before .if1 .left) in
-    let on = l .inv .4 ∙ remaining-missed q (a .high .0) (l .size .0) (l .inv .1) none in
+    let on = l .inv .4 ∙ remaining-missed false q (a .high .0) (l .size .0) (l .inv .1) none in
     let e : suc (l .size .0) ≡ c .next .result .0 = omega (arith, ap (λ (x : DomainSize). x .0) (c .next .ensures)) in
-    (omega (arith, e, l .inv .0), omega (arith, e, c .before .if2 .left), l .inv .2, l .inv .3, on ∙ ap (remaining q (a .high .0)) e)
+    (omega (arith, e, l .inv .0), omega (arith, e, c .before .if2 .left), l .inv .2, l .inv .3, on ∙ ap (remaining false q (a .high .0)) e)
 
 pub search-sizes-spec : {M : Type 1} → statement M
 search-sizes-spec =

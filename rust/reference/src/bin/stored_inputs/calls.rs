@@ -1,6 +1,13 @@
 //! The inputs of a call, and how they are stored.
 
-use nesskettle_reference::{needed, Terms};
+use crate::{MOST_OUTPUT, MOST_WORK};
+use nesskettle_reference::{needed, write, FindOptions, Symmetry, Terms, WriteOptions};
+
+/// A search of terms as written that is told no.
+pub const TOLD_NO: FindOptions = FindOptions {
+    terms: Terms::AsWritten,
+    symmetry: Symmetry::Kept,
+};
 
 #[derive(Clone, Default)]
 pub struct Call {
@@ -93,15 +100,36 @@ pub fn importing(clauses: impl AsRef<[u8]>, output: u64) -> Call {
     }
 }
 
-/// A search with just the work and output that it needs, of terms as written.
+/// A search with just the work and output that it needs, of terms as written, told no.
 pub fn searching(sheet: impl AsRef<[u8]>, low: u64, high: u64) -> Call {
-    searching_of(sheet, low, high, Terms::AsWritten)
+    searching_of(sheet, low, high, TOLD_NO)
 }
 
-/// As [`searching`], with terms taken as said.
-pub fn searching_of(sheet: impl AsRef<[u8]>, low: u64, high: u64, terms: Terms) -> Call {
-    let (work, output) = needed(sheet.as_ref(), high, terms).expect("the sheet is taken");
+/// As [`searching`], with other options.
+pub fn searching_of(sheet: impl AsRef<[u8]>, low: u64, high: u64, options: FindOptions) -> Call {
+    let (work, output) = needed(sheet.as_ref(), high, options).expect("the sheet is taken");
     finding(sheet, low, high, work, output)
+}
+
+/// The search with just what it needs, or with little where the sheet is refused.
+pub fn taken_or(sheet: &[u8], low: u64, high: u64, options: FindOptions) -> Call {
+    match needed(sheet, high, options) {
+        Ok((work, _)) if work <= MOST_WORK => searching_of(sheet, low, high, options),
+        _ => finding(sheet, low, high, 100, 100),
+    }
+}
+
+/// Writing with an output of the length that the text needs, and where it is short with one byte less and with more.
+pub fn with_lengths(sheet: &[u8], size: u64, options: WriteOptions) -> Vec<Call> {
+    let needed = write(sheet, size, options, &mut []).map_or_else(|refusal| refusal.needed, |length| length as u64);
+    match needed {
+        0 => vec![writing(sheet, size, 1_000)],
+        1..100 => [needed, needed - 1, needed + 9]
+            .map(|n| writing(sheet, size, n))
+            .to_vec(),
+        100..=MOST_OUTPUT => vec![writing(sheet, size, needed)],
+        _ => vec![writing(sheet, size, 1_000)],
+    }
 }
 
 /// One of the sheets of `rust/data/sheets`, or a case there.

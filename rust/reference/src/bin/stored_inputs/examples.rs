@@ -1,11 +1,13 @@
 //! Good inputs: the specification's examples, the limits from both sides, and sheets whose answer a usual mistake changes.
 
-use crate::calls::Call;
 use crate::calls::{
     answered, file, finding, finding_plain, importing, judging, reading, reading_back, searching, setting_of, writing,
 };
+use crate::calls::{Call, TOLD_NO};
 use nesskettle_reference::sheet_of;
-use nesskettle_reference::{find_plain_within, from_tptp, instances_and_variables, needed, setting, write, Terms};
+use nesskettle_reference::{
+    find_plain_within, from_tptp, instances_and_variables, needed, setting, write, WriteOptions,
+};
 
 pub fn of(operation: &str) -> Vec<Call> {
     match operation {
@@ -251,7 +253,7 @@ fn writes() -> Vec<Call> {
     let mut calls = Vec::new();
     for (sheet, size) in written() {
         // a refusal 11 also tells the length, so that no text has to be written to see that it is taken
-        let length = match write(&sheet, size, Terms::AsWritten, &mut []) {
+        let length = match write(&sheet, size, WriteOptions::default(), &mut []) {
             Err(refusal) => refusal.needed,
             Ok(length) => length as u64,
         };
@@ -278,7 +280,7 @@ fn read_backs() -> Vec<Call> {
     let two = two_constants();
     let back = |setting: &[u8], output: u64| reading_back(&two, 2, setting, output);
     let mixed = sheet_of(&["a/0", "f/1"], &["p/0", "r/2"], &["+ p"]);
-    let variables = instances_and_variables(&mixed, 3, Terms::AsWritten)
+    let variables = instances_and_variables(&mixed, 3, WriteOptions::default())
         .expect("the sheet is taken")
         .1 as usize;
     let third = |cells: [usize; 4], tail: u8| {
@@ -293,7 +295,7 @@ fn read_backs() -> Vec<Call> {
             .for_each(|(i, b)| *b = (tail >> (i % 8)) & 1);
         setting
     };
-    let length = needed(&mixed, 3, Terms::AsWritten).expect("the sheet is taken").1;
+    let length = needed(&mixed, 3, TOLD_NO).expect("the sheet is taken").1;
     let mut calls = vec![
         back(&[0, 1, 1, 0], 22),
         back(&[0, 1, 1, 0], 23),
@@ -483,7 +485,7 @@ fn settled_marks() -> Vec<Call> {
 /// Low and high, and what is lent one short, exact and more than needed.
 fn limits_of_find() -> Vec<Call> {
     let two = two_constants();
-    let (work, output) = needed(&two, 3, Terms::AsWritten).expect("the sheet is taken");
+    let (work, output) = needed(&two, 3, TOLD_NO).expect("the sheet is taken");
     vec![
         finding(&two, 1, 3, work - 1, output),
         finding(&two, 1, 3, work, output),
@@ -573,7 +575,7 @@ fn limits_of_cells() -> Vec<Call> {
     for (high, functions, predicates, clause) in shapes {
         for more in [&[][..], &["more/0"]] {
             let sheet = sheet_of(functions, &[more, predicates].concat(), &[clause]);
-            let (_, needed) = needed(&sheet, high, Terms::AsWritten).expect("the sheet is taken");
+            let (_, needed) = needed(&sheet, high, TOLD_NO).expect("the sheet is taken");
             calls.extend([needed, needed - 1, needed + 9].map(|output| finding_plain(&sheet, high, high, output)));
             calls.push(finding_plain(&sheet, 1, high, needed));
         }
@@ -672,7 +674,8 @@ fn answers() -> Vec<Call> {
         },
     ) in [(6, group), (4, full_case(4))]
     {
-        let (_, variables) = instances_and_variables(&sheet, size, Terms::AsWritten).expect("the sheet is taken");
+        let (_, variables) =
+            instances_and_variables(&sheet, size, WriteOptions::default()).expect("the sheet is taken");
         let mut bytes = vec![0; variables as usize];
         setting(&sheet, &case, &mut bytes).expect("it is a case");
         let (text, needed) = (stating(&bytes), case.len() as u64);

@@ -10,11 +10,13 @@ mod calls;
 mod damaged;
 mod examples;
 mod named;
+mod symmetry;
 
 use calls::Call;
 use nesskettle_reference::vectors::{self, patterned_bytes, patterned_numbers, Vector};
 use nesskettle_reference::{explain, find, find_plain, from_solver, from_tptp, judge, read, read_back, setting, write};
-use nesskettle_reference::{FirstFailure, Refusal, Search, SolverAnswer, Terms, OPERATIONS};
+use nesskettle_reference::{FindOptions, Symmetry, Terms, WriteOptions};
+use nesskettle_reference::{FirstFailure, Refusal, Search, SolverAnswer, OPERATIONS};
 use std::path::Path;
 use std::{fs, io};
 
@@ -27,7 +29,7 @@ const MOST_STORED: usize = 100;
 const MOST_SHEET: usize = 700;
 
 /// The files of inputs, in the order in which the program takes them.
-const OPERATIONS_IN_ORDER: [&str; 13] = [
+const OPERATIONS_IN_ORDER: [&str; 17] = [
     "read",
     "judge",
     "write",
@@ -41,18 +43,20 @@ const OPERATIONS_IN_ORDER: [&str; 13] = [
     "write_named",
     "read_back_named",
     "find_named",
+    "write_symmetry",
+    "find_symmetry",
+    "write_named_symmetry",
+    "find_named_symmetry",
 ];
-
-/// What the name of an operation with named terms ends in.
-const NAMED: &str = "_named";
 
 fn main() -> io::Result<()> {
     let folder = Path::new(env!("CARGO_MANIFEST_DIR")).join("../../crates/vectors");
     let mut printed = Vec::new();
     for operation in OPERATIONS_IN_ORDER {
-        let mut inputs = match operation.strip_suffix(NAMED) {
-            Some(operation) => named::of(operation),
-            None => [examples::of(operation), damaged::of(operation)].concat(),
+        let mut inputs = match switches(operation) {
+            (call, Terms::AsWritten, Symmetry::Kept) => [examples::of(call), damaged::of(call)].concat(),
+            (call, Terms::Named, Symmetry::Kept) => named::of(call),
+            (call, terms, Symmetry::Reduced) => symmetry::of(call, terms),
         };
         inputs.extend(stored(operation));
         let mut data = Vec::new();
@@ -68,6 +72,18 @@ fn main() -> io::Result<()> {
         fs::write(folder.join("data").join(operation), data)?;
     }
     fs::write(folder.join("stdout"), printed)
+}
+
+/// The call of an operation, and its switches: those that are on stand at the name's end.
+fn switches(operation: &str) -> (&str, Terms, Symmetry) {
+    let (operation, symmetry) = match operation.strip_suffix("_symmetry") {
+        Some(operation) => (operation, Symmetry::Reduced),
+        None => (operation, Symmetry::Kept),
+    };
+    match operation.strip_suffix("_named") {
+        Some(call) => (call, Terms::Named, symmetry),
+        None => (operation, Terms::AsWritten, symmetry),
+    }
 }
 
 /// Some of the stored vectors that the program has room for, evenly spread over them.
@@ -105,13 +121,16 @@ fn stored(operation: &str) -> Vec<Call> {
     calls.into_iter().step_by(step).collect()
 }
 
-/// Is it a vector of this operation? Those that say how terms are taken, and take them as written, are of none here.
+/// Is it a vector of this operation? Those that have a switch in which none is on, or not the last one, are of none here.
 fn is_of(vector: &Vector, operation: &str) -> bool {
-    let name = vector.operation.replace('-', "_");
-    match operation.strip_suffix(NAMED) {
-        Some(operation) => name == operation && vector.terms() == Terms::Named,
-        None => name == operation && !vector.inputs.has("named"),
-    }
+    let (call, terms, symmetry) = switches(operation);
+    let has = |switch: &str| vector.inputs.has(switch);
+    let is_switched = match (terms, symmetry) {
+        (Terms::AsWritten, Symmetry::Kept) => !has("named"),
+        (Terms::Named, Symmetry::Kept) => vector.terms() == terms && !has("symmetry"),
+        (_, Symmetry::Reduced) => vector.terms() == terms && vector.symmetry() == symmetry,
+    };
+    vector.operation.replace('-', "_") == call && is_switched
 }
 
 /// What is printed of a call after its number.
@@ -119,10 +138,7 @@ fn answer(operation: &str, call: &Call) -> Vec<u8> {
     let mut work = patterned_numbers(call.work);
     let mut output = patterned_bytes(call.output);
     let (sheet, beside) = (&call.sheet[..], &call.beside[..]);
-    let (operation, terms) = match operation.strip_suffix(NAMED) {
-        Some(operation) => (operation, Terms::Named),
-        None => (operation, Terms::AsWritten),
-    };
+    let (operation, terms, symmetry) = switches(operation);
     let told = match operation {
         "read" => {
             let told =
@@ -131,12 +147,15 @@ fn answer(operation: &str, call: &Call) -> Vec<u8> {
         }
         "judge" => return line(judge(sheet, beside).map_or_else(refusal, |yes| format!(" {}", yes_no(yes)))),
         "explain" => return line(explain(sheet, beside).map_or_else(refusal, explained)),
-        "write" => write(sheet, call.low, terms, &mut output).map(written),
+        "write" => write(sheet, call.low, WriteOptions { terms, symmetry }, &mut output).map(written),
         "read_back" => read_back(sheet, call.low, terms, beside, &mut output).map(written),
         "setting" => setting(sheet, beside, &mut output).map(written),
         "from_tptp" => from_tptp(sheet, &mut output).map(written),
         "from_solver" => from_solver(sheet, call.low, beside, &mut output).map(solved),
-        "find" => find(sheet, call.low, call.high, terms, &mut work, &mut output).map(found),
+        "find" => {
+            let options = FindOptions { terms, symmetry };
+            find(sheet, call.low, call.high, options, &mut work, &mut output).map(found)
+        }
         "find_plain" => find_plain(sheet, call.low, call.high, &mut output).map(found),
         other => panic!("no operation {other}"),
     };

@@ -1,11 +1,20 @@
 //! Inputs of the operations that name fixed terms: examples, limits from both sides, settings with helper cells, and what a
 //! usual mistake about helpers would change.
 
-use crate::calls::{file, finding, reading_back, searching_of, writing, Call};
+use crate::calls::{file, finding, reading_back, searching_of, taken_or, with_lengths, writing, Call, TOLD_NO};
 use crate::damaged::one_of_each;
 use crate::examples::two_constants;
-use crate::{MOST_OUTPUT, MOST_WORK};
-use nesskettle_reference::{find, instances_and_variables, needed, read_back, sheet_of, write, Terms};
+use nesskettle_reference::{find, instances_and_variables, needed, read_back, sheet_of};
+use nesskettle_reference::{FindOptions, Symmetry, Terms, WriteOptions};
+
+const WRITTEN: WriteOptions = WriteOptions {
+    terms: Terms::Named,
+    symmetry: Symmetry::Kept,
+};
+const SEARCHED: FindOptions = FindOptions {
+    terms: Terms::Named,
+    symmetry: Symmetry::Kept,
+};
 
 pub fn of(operation: &str) -> Vec<Call> {
     match operation {
@@ -185,29 +194,15 @@ fn around_helpers() -> Vec<Vec<u8>> {
     ]
 }
 
-/// The call with an output of the length that its text needs, one byte less, and more.
-fn with_lengths(sheet: &[u8], size: u64) -> Vec<Call> {
-    let needed =
-        write(sheet, size, Terms::Named, &mut []).map_or_else(|refusal| refusal.needed, |length| length as u64);
-    match needed {
-        0 => vec![writing(sheet, size, 1_000)],
-        1..100 => [needed, needed - 1, needed + 9]
-            .map(|n| writing(sheet, size, n))
-            .to_vec(),
-        100..=MOST_OUTPUT => vec![writing(sheet, size, needed)],
-        _ => vec![writing(sheet, size, 1_000)],
-    }
-}
-
 fn writes() -> Vec<Call> {
     let mut calls = Vec::new();
     for sheet in naming() {
-        calls.extend((1..=3).flat_map(|size| with_lengths(&sheet, size)));
+        calls.extend((1..=3).flat_map(|size| with_lengths(&sheet, size, WRITTEN)));
     }
     for sheet in around_limits().iter().chain(&around_helpers()) {
-        calls.extend(with_lengths(sheet, 1));
+        calls.extend(with_lengths(sheet, 1, WRITTEN));
     }
-    calls.extend(with_lengths(&helpers(32, &[]), 2));
+    calls.extend(with_lengths(&helpers(32, &[]), 2, WRITTEN));
     // the instances count the helpers' own clauses and cells
     let deepest = over(&[&format!("+ p {}", deep(9, "a"))]);
     calls.extend([2, 3, 4].map(|size| writing(&deepest, size, 1_000)));
@@ -233,9 +228,9 @@ fn read_backs() -> Vec<Call> {
     // a, b and two cells of f; two cells of p and o; three helpers
     let sheet = small(&["+ p f a - p f f b", "+ = f b a"]);
     let setting = some_setting(4, 3, 3, 2);
-    let (_, variables) = instances_and_variables(&sheet, 2, Terms::Named).expect("the sheet is taken");
+    let (_, variables) = instances_and_variables(&sheet, 2, WRITTEN).expect("the sheet is taken");
     assert_eq!(setting.len() as u64, variables);
-    let (_, output) = needed(&sheet, 2, Terms::Named).expect("the sheet is taken");
+    let (_, output) = needed(&sheet, 2, SEARCHED).expect("the sheet is taken");
     assert!(read_back(&sheet, 2, Terms::Named, &setting, &mut vec![0; output as usize]).is_ok());
     let back = |setting: &[u8]| reading_back(&sheet, 2, setting, output);
     let mut calls: Vec<Call> = [output, output - 1, output + 9, 0]
@@ -300,29 +295,22 @@ fn other_read_backs() -> Vec<Call> {
 fn finds() -> Vec<Call> {
     let mut calls = Vec::new();
     for sheet in naming() {
-        calls.push(searching_of(&sheet, 1, 3, Terms::Named));
-        calls.push(searching_of(&sheet, 2, 2, Terms::Named));
+        calls.push(searching_of(&sheet, 1, 3, SEARCHED));
+        calls.push(searching_of(&sheet, 2, 2, SEARCHED));
     }
     for sheet in around_limits().iter().chain(&around_helpers()) {
-        calls.push(taken_or(sheet, 1, 1));
+        calls.push(taken_or(sheet, 1, 1, SEARCHED));
     }
     calls.push(taken_or(
         &helpers(32, &["- p f a", "- p f b", "- p f f a + = f a a"]),
         1,
         2,
+        SEARCHED,
     ));
     calls.extend(limits_of_find());
     calls.extend(searches());
     calls.extend(one_of_each().into_iter().map(|sheet| finding(sheet, 0, 9, 3, 10)));
     calls
-}
-
-/// The search with just what it needs, or with little where the sheet is refused.
-fn taken_or(sheet: &[u8], low: u64, high: u64) -> Call {
-    match needed(sheet, high, Terms::Named) {
-        Ok((work, _)) if work <= MOST_WORK => searching_of(sheet, low, high, Terms::Named),
-        _ => finding(sheet, low, high, 100, 100),
-    }
 }
 
 /// Sheets whose least model a mistake about helpers changes, and such that have none.
@@ -364,20 +352,20 @@ fn searches() -> Vec<Call> {
     ];
     sheets
         .iter()
-        .map(|(sheet, low, high)| taken_or(sheet, *low, *high))
+        .map(|(sheet, low, high)| taken_or(sheet, *low, *high, SEARCHED))
         .collect()
 }
 
 /// Low and high, and what is lent one short, exact and more than needed; which refusal comes first.
 fn limits_of_find() -> Vec<Call> {
     let sheet = small(&["+ p f a", "- p f f b"]);
-    let (work, output) = needed(&sheet, 3, Terms::Named).expect("the sheet is taken");
-    let plain = needed(&sheet, 3, Terms::AsWritten).expect("the sheet is taken").0;
+    let (work, output) = needed(&sheet, 3, SEARCHED).expect("the sheet is taken");
+    let plain = needed(&sheet, 3, TOLD_NO).expect("the sheet is taken").0;
     assert!(find(
         &sheet,
         1,
         3,
-        Terms::Named,
+        SEARCHED,
         &mut vec![0; work as usize],
         &mut vec![0; output as usize]
     )

@@ -12,6 +12,9 @@
 //! for each TPTP text that what Find says of the sheet left is what cvc5 says of the text: whether there is a model, and
 //! its smallest size.
 //!
+//! The same of the clauses with constant clauses, and that they are satisfied exactly if those without are; the model found
+//! with them is the least of those that obey them.
+//!
 //! The same of sheets with named terms, those among them that are refused as they are written too: solvers on the clauses
 //! that Write leaves, Find, Read back, leastness, cvc5 on the sheet's own clauses; and where terms as written are taken as
 //! well, both texts are satisfied by equally many settings.
@@ -23,22 +26,26 @@ mod sheet;
 mod solvers;
 
 use nesskettle::Terms::{self, AsWritten, Named};
-use nesskettle::{Reason, Search, SolverAnswer};
+use nesskettle::{FindOptions, Reason, Search, SolverAnswer, WriteOptions};
+use nesskettle_trials::buffers::left;
+use nesskettle_trials::constants;
 use nesskettle_trials::dimacs::Dimacs;
 use nesskettle_trials::draft::{Draft, BROAD, SMALL};
 use nesskettle_trials::fixed;
+use nesskettle_trials::options::{asked, not_asked, told_no, told_yes};
 use nesskettle_trials::problems;
 use nesskettle_trials::random::Random;
 use nesskettle_trials::solver::stating;
 use nesskettle_trials::tptp::clauses::{statements, KNOWN};
 use nesskettle_trials::tptp::layout;
 use nesskettle_trials::truth::is_model;
-use sheet::Sheet;
+use sheet::{Cell, Sheet};
 use solvers::{Outcome, Smallest, Solver, Solvers, Told};
 use std::process::ExitCode;
 
-/// How many sheets are generated, how many TPTP texts, and how many sheets with named terms.
+/// How many sheets are generated, how many with several constants, how many TPTP texts, and how many sheets with named terms.
 const GENERATED: usize = 500;
+const GENERATED_CONSTANTS: usize = 100;
 const GENERATED_TPTP: usize = 500;
 const GENERATED_NAMED: usize = 250;
 /// The largest size of a generated sheet, and of a named problem.
@@ -63,6 +70,7 @@ fn main() -> ExitCode {
         named: 0,
         named_alone: 0,
         counted: 0,
+        moved: 0,
         smallest: [0; 9],
     };
     for problem in problems::ALL {
@@ -70,6 +78,10 @@ fn main() -> ExitCode {
     }
     for example in EXAMPLES {
         trial.sheet(example.as_bytes(), TOP, AsWritten);
+    }
+    for round in 0..GENERATED_CONSTANTS {
+        let terms = if round % 2 == 0 { AsWritten } else { Named };
+        trial.sheet(&constants::ordinary(&mut Random::new(round as u64)).sheet(), TOP, terms);
     }
     let mut random = Random::new(8);
     for round in 0..GENERATED {
@@ -111,6 +123,7 @@ fn main() -> ExitCode {
         "with named terms: {} sheets, {} of them not as written; {} pairs of texts with equally many settings",
         trial.named, trial.named_alone, trial.counted
     );
+    println!("with constant clauses: another least model {} times", trial.moved);
     println!("cvc5 left {} sheets and texts undecided in its time", trial.undecided);
     println!("{} passed, {} failed", trial.passed, trial.failed);
     ExitCode::from((trial.failed > 0) as u8)
@@ -149,6 +162,8 @@ struct Trial {
     named: usize,
     named_alone: usize,
     counted: usize,
+    /// How many sizes of sheets have another least model with constant clauses.
+    moved: usize,
     /// How many sheets and texts have their smallest model at each size; at 0 those that have none.
     smallest: [usize; 9],
 }
@@ -185,28 +200,15 @@ impl Trial {
         let sheet = Sheet::new(&text(|output| nesskettle::from_tptp(tptp, output)));
         let sizes = (1..=TOP).take_while(|&size| manageable(&sheet.bytes, size, AsWritten));
         let searched = sizes.last().unwrap_or(0);
-        let smallest = (1..=searched).find(|&size| find(&sheet.bytes, size, size, AsWritten).is_ok());
+        let smallest = (1..=searched).find(|&size| find(&sheet.bytes, size, size, told_yes(AsWritten)).is_ok());
         self.smallest_size(&sheet, tptp, searched, smallest, AsWritten);
     }
 
     /// The checks at one size; whether a model was found.
     fn size(&mut self, sheet: &Sheet, size: u64, terms: Terms) -> bool {
-        let dimacs = Dimacs::new(text(|output| nesskettle::write(&sheet.bytes, size, terms, output)));
-        let found = find(&sheet.bytes, size, size, terms);
-        for solver in Solver::ALL {
-            let told = self.solvers.run(solver, &dimacs);
-            let satisfiable = matches!(told.outcome, Outcome::Satisfiable(_));
-            let decided = !matches!(told.outcome, Outcome::Undecided);
-            self.check(decided && satisfiable == found.is_ok(), sheet, size, solver.name());
-            if terms == AsWritten {
-                let is_read = self.reads_answer(sheet, size, &dimacs, &told);
-                self.check(is_read, sheet, size, &format!("{}'s own answer", solver.name()));
-            }
-            if let Outcome::Satisfiable(numbers) = told.outcome {
-                let is_model = reads_back_as_model(sheet, size, &dimacs.setting(&numbers), terms);
-                self.check(is_model, sheet, size, &format!("{}'s assignment", solver.name()));
-            }
-        }
+        let dimacs = written(sheet, size, not_asked(terms));
+        let found = find(&sheet.bytes, size, size, told_no(terms));
+        self.solvers_agree(sheet, size, terms, &dimacs, found.is_ok());
         if terms == Named {
             self.equally_many(sheet, size, &dimacs);
         }
@@ -214,7 +216,54 @@ impl Trial {
             let is_least = self.is_least(sheet, size as usize, &dimacs, case);
             self.check(is_least, sheet, size, "the found model is the least");
         }
+        self.with_constant_clauses(sheet, size, terms, &found);
         found.is_ok()
+    }
+
+    /// The same with constant clauses, and that they take no size its models. Where the case is the one without them, it is
+    /// the least that obeys them if it obeys them.
+    fn with_constant_clauses(&mut self, sheet: &Sheet, size: u64, terms: Terms, without: &Result<Vec<u8>, Settled>) {
+        let dimacs = written(sheet, size, asked(terms));
+        let found = find(&sheet.bytes, size, size, told_yes(terms));
+        self.check(
+            found.is_ok() == without.is_ok(),
+            sheet,
+            size,
+            "Find with constant clauses",
+        );
+        self.solvers_agree(sheet, size, terms, &dimacs, found.is_ok());
+        if let Ok(case) = &found {
+            let is_least = if found == *without {
+                self.satisfies(&dimacs, &as_found(sheet, size as usize, case))
+            } else {
+                self.moved += 1;
+                self.is_least(sheet, size as usize, &dimacs, case)
+            };
+            self.check(
+                is_least,
+                sheet,
+                size,
+                "the found model is the least that obeys the constant clauses",
+            );
+        }
+    }
+
+    /// The solvers satisfy the clauses exactly if a model was found, and what they answer is one.
+    fn solvers_agree(&mut self, sheet: &Sheet, size: u64, terms: Terms, dimacs: &Dimacs, is_found: bool) {
+        for solver in Solver::ALL {
+            let told = self.solvers.run(solver, dimacs);
+            let satisfiable = matches!(told.outcome, Outcome::Satisfiable(_));
+            let decided = !matches!(told.outcome, Outcome::Undecided);
+            self.check(decided && satisfiable == is_found, sheet, size, solver.name());
+            if terms == AsWritten {
+                let is_read = self.reads_answer(sheet, size, dimacs, &told);
+                self.check(is_read, sheet, size, &format!("{}'s own answer", solver.name()));
+            }
+            if let Outcome::Satisfiable(numbers) = told.outcome {
+                let is_model = reads_back_as_model(sheet, size, &dimacs.setting(&numbers), terms);
+                self.check(is_model, sheet, size, &format!("{}'s assignment", solver.name()));
+            }
+        }
     }
 
     /// As many settings satisfy the clauses with named terms as satisfy those of terms as written, where these are taken.
@@ -222,7 +271,7 @@ impl Trial {
         if !manageable(&sheet.bytes, size, AsWritten) {
             return;
         }
-        let written = Dimacs::new(text(|output| nesskettle::write(&sheet.bytes, size, AsWritten, output)));
+        let written = written(sheet, size, not_asked(AsWritten));
         let Some(count) = self.solvers.count(&written, COUNTED) else {
             return;
         };
@@ -273,10 +322,13 @@ impl Trial {
             }
             as_found.push(cell.as_found());
         }
-        matches!(
-            self.solvers.run(Solver::Minisat, &dimacs.with_units(&as_found)).outcome,
-            Outcome::Satisfiable(_)
-        )
+        self.satisfies(dimacs, &as_found)
+    }
+
+    /// Can the clauses be satisfied with these numbers true?
+    fn satisfies(&mut self, dimacs: &Dimacs, numbers: &[i32]) -> bool {
+        let told = self.solvers.run(Solver::Minisat, &dimacs.with_units(numbers));
+        matches!(told.outcome, Outcome::Satisfiable(_))
     }
 
     /// cvc5's smallest model of the TPTP text against the sizes of the sheet that were searched, from 1 on.
@@ -285,7 +337,7 @@ impl Trial {
         if searched == 0 {
             return;
         }
-        let whole = find(&sheet.bytes, 1, searched, terms);
+        let whole = find(&sheet.bytes, 1, searched, told_yes(terms));
         self.check(
             whole.as_ref().ok().map(|case| sheet::size(case)) == smallest,
             sheet,
@@ -339,35 +391,37 @@ fn reads_back_as_model(sheet: &Sheet, size: u64, setting: &[u8], terms: Terms) -
 
 /// Is it a sheet, with terms taken so?
 fn is_taken(sheet: &[u8], terms: Terms) -> bool {
-    let refusal = nesskettle::write(sheet, 1, terms, &mut []).expect_err("no text is empty");
+    let refusal = nesskettle::write(sheet, 1, not_asked(terms), &mut []).expect_err("no text is empty");
     refusal.reason == Reason::OutputTooShort
 }
 
 /// Is the sheet small enough at this size? The reference says, so that no check waits for a long search.
 fn manageable(sheet: &[u8], size: u64, terms: Terms) -> bool {
-    let few = nesskettle_reference::instances_and_variables(sheet, size, terms).is_ok_and(|(i, _)| i <= INSTANCES);
+    let few =
+        nesskettle_reference::instances_and_variables(sheet, size, not_asked(terms)).is_ok_and(|(i, _)| i <= INSTANCES);
     let quick = || {
-        let (work, output) = nesskettle_reference::needed(sheet, size, terms).expect("the sheet is accepted");
+        let (work, output) = nesskettle_reference::needed(sheet, size, told_no(terms)).expect("the sheet is accepted");
         let (mut work, mut output) = (vec![0; work as usize], vec![0; output as usize]);
-        let search = nesskettle_reference::find_within(sheet, size, size, terms, &mut work, &mut output, CHOICES);
+        let search =
+            nesskettle_reference::find_within(sheet, size, size, told_no(terms), &mut work, &mut output, CHOICES);
         search.expect("the room is enough").is_some()
     };
     few && quick()
 }
 
-/// The text of a call that writes one.
-fn text(mut call: impl FnMut(&mut [u8]) -> Result<usize, nesskettle::Refusal>) -> Vec<u8> {
-    let mut output = Vec::new();
-    loop {
-        match call(&mut output) {
-            Ok(length) => {
-                output.truncate(length);
-                return output;
-            }
-            Err(refusal) if refusal.needed > 0 => output = vec![0; refusal.needed as usize],
-            Err(refusal) => panic!("{refusal}"),
-        }
-    }
+/// The clauses that Write leaves.
+fn written(sheet: &Sheet, size: u64, options: WriteOptions) -> Dimacs {
+    Dimacs::new(text(|output| nesskettle::write(&sheet.bytes, size, options, output)))
+}
+
+/// The numbers that are true exactly if the cells are as in the case.
+fn as_found(sheet: &Sheet, size: usize, case: &[u8]) -> Vec<i32> {
+    sheet.cells(size, case).iter().map(Cell::as_found).collect()
+}
+
+/// The text of a call that writes one and is not refused.
+fn text(call: impl FnMut(&mut [u8]) -> Result<usize, nesskettle::Refusal>) -> Vec<u8> {
+    left(call).unwrap_or_else(|refusal| panic!("{refusal}"))
 }
 
 /// The mark of a search that found none.
@@ -375,10 +429,10 @@ fn text(mut call: impl FnMut(&mut [u8]) -> Result<usize, nesskettle::Refusal>) -
 struct Settled(bool);
 
 /// The found case, if there is one.
-fn find(sheet: &[u8], low: u64, high: u64, terms: Terms) -> Result<Vec<u8>, Settled> {
+fn find(sheet: &[u8], low: u64, high: u64, options: FindOptions) -> Result<Vec<u8>, Settled> {
     let (mut work, mut output) = (Vec::new(), Vec::new());
     loop {
-        match nesskettle::find(sheet, low, high, terms, &mut work, &mut output) {
+        match nesskettle::find(sheet, low, high, options, &mut work, &mut output) {
             Ok(Search::Found { length, .. }) => return Ok(output[..length].to_vec()),
             Ok(Search::None { settled }) => return Err(Settled(settled)),
             Err(refusal) if refusal.reason == Reason::WorkTooShort => work = vec![0; refusal.needed as usize],

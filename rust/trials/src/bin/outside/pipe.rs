@@ -32,8 +32,10 @@ const CLAIMED_NONE: i32 = 3;
 pub fn checks() -> Vec<(bool, String)> {
     let mut checks = Vec::new();
     for (sheet, size, has_model) in SHEETS {
-        let name = format!("the pipe of {sheet} at {size}");
-        checks.push((ends_right(sheet, size, has_model), name));
+        for option in ["", "--symmetry"] {
+            let name = format!("the pipe of {sheet} at {size} {option}");
+            checks.push((ends_right(sheet, size, option, has_model), name));
+        }
     }
     for (sheet, size) in NAMED {
         for solver in SOLVERS {
@@ -44,9 +46,9 @@ pub fn checks() -> Vec<(bool, String)> {
     checks
 }
 
-fn ends_right(sheet: &str, size: u64, has_model: bool) -> bool {
+fn ends_right(sheet: &str, size: u64, option: &str, has_model: bool) -> bool {
     let pipe = format!(
-        "$0 clauses {sheet} --size {size} | cadical -q | $0 from-solver {sheet} --size {size} - > $1; \
+        "$0 clauses {sheet} --size {size} {option} | cadical -q | $0 from-solver {sheet} --size {size} - > $1; \
          status=$?; $0 judge {sheet} $1 2> /dev/null; exit $status"
     );
     let case = std::env::temp_dir().join(format!("nesskettle-pipe-{}", std::process::id()));

@@ -9,6 +9,8 @@ mod plain;
 
 use nesskettle::Terms::AsWritten;
 use nesskettle_reference as reference;
+use nesskettle_trials::buffers::left;
+use nesskettle_trials::options::{not_asked, told_no};
 use nesskettle_trials::problems::sheet;
 use plain::Plain;
 use std::path::Path;
@@ -44,15 +46,16 @@ fn main() {
 
 fn row(name: &str, size: u64, runs: usize, file: &Path) {
     let sheet = sheet(name);
-    let text = clauses(sheet, size);
+    let text = left(|output| nesskettle::write(sheet, size, not_asked(AsWritten), output)).expect("it is written");
     std::fs::write(file, &text).expect("the clauses can be written");
-    let (work, output) = reference::needed(sheet, size, AsWritten).expect("it is a sheet");
+    let (work, output) = reference::needed(sheet, size, told_no(AsWritten)).expect("it is a sheet");
     let (mut work, mut output) = (vec![0; work as usize], vec![0; output as usize]);
     let first = first_values(sheet, size, &text);
     let (mut library, mut plain, mut propagations) = (f64::MAX, f64::MAX, 0);
     for _ in 0..runs {
         let start = Instant::now();
-        let answer = nesskettle::find(sheet, size, size, AsWritten, &mut work, &mut output).expect("it is searched");
+        let answer =
+            nesskettle::find(sheet, size, size, told_no(AsWritten), &mut work, &mut output).expect("it is searched");
         library = library.min(start.elapsed().as_secs_f64());
         let start = Instant::now();
         let mut search = Plain::new(&text, first.clone());
@@ -78,15 +81,6 @@ fn row(name: &str, size: u64, runs: usize, file: &Path) {
 
 fn speed(propagations: u64, seconds: f64) -> String {
     format!("{:.1} ({seconds:.3} s)", propagations as f64 / seconds / 1e6)
-}
-
-fn clauses(sheet: &[u8], size: u64) -> Vec<u8> {
-    let length = nesskettle::write(sheet, size, AsWritten, &mut [])
-        .expect_err("no room")
-        .needed as usize;
-    let mut text = vec![0; length];
-    nesskettle::write(sheet, size, AsWritten, &mut text).expect("there is room");
-    text
 }
 
 /// Yes first for the variables of functions, which come first.

@@ -1,0 +1,6 @@
+pub mod Examples
+pub mod Places
+pub mod Rearrangements
+pub mod Renumbering
+pub mod ValueOrder
+pub mod LeastForm

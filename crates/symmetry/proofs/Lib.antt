@@ -1,0 +1,14 @@
+pub mod AllComputed
+pub mod Appearance
+pub mod Constants
+pub mod Obeying
+pub mod ConstantCounts
+pub mod ConstantClauses
+pub mod NamedTwins
+pub mod Chains
+pub mod Searched
+pub mod FindsObeying
+pub mod Switches
+pub mod Asked
+pub mod FinderProgram
+pub mod ToldNo

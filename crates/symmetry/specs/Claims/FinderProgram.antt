@@ -1,0 +1,16 @@
+-- FinderProgram: the finder program needs to read no more than 16,406 bytes of its input, and its output buffer is never too short.
+use Prim.Native.Nat.{ℕ}
+use mathlib.Core.Path.{_≡_}
+use mathlib.Core.List.{List}
+use lib.ListN.{take}
+use Rattle.theory.specs.Refusals.{Refusal, refused}
+use Rattle.theory.specs.Program.{Asked}
+use Rattle.theory.specs.Claims.Program.{inputBytes}
+use Rattle.symmetry.specs.FinderProgram.{finds, finder}
+
+-- the theorem
+pub record FinderProgram : Type 0 where
+  -- what comes after that many bytes changes nothing
+  pub reads : (input : List ℕ) → finder (take inputBytes input) ≡ finder input
+  -- 11 does not occur
+  pub roomy : (a : Asked) (r : Refusal) → finds a ≡ refused r → r .number ≡ 11 → ⊥
