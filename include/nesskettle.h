@@ -33,7 +33,8 @@ enum {
     NK_READ = 1,         /* nk_read: the sheet is accepted */
     NK_YES = 1,          /* nk_judge, nk_explain: the case is a model */
     NK_NO = 2,           /* nk_judge, nk_explain: it is none */
-    NK_WRITTEN = 1,      /* nk_write, nk_read_back, nk_setting, nk_from_tptp, nk_from_solver: it stands in the output */
+    NK_WRITTEN = 1,      /* nk_write, nk_read_back, nk_setting, nk_from_tptp, nk_from_solver, nk_merge: it stands in the
+                            output */
     NK_CLAIMED_NONE = 2, /* nk_from_solver: the solver says that there is no model; whether that is so is not checked */
     NK_FOUND = 1,        /* nk_find, nk_find_plain: a model, told there which, stands in the output */
     NK_NONE = 2          /* nk_find, nk_find_plain: no case of a searched size is a model */
@@ -89,7 +90,11 @@ enum {
     NK_TOO_MANY_CELLS = 20, /* over 64 cells at high */
 
     /* Named terms; it names no line, and comes directly after the sheet's numbers. */
-    NK_TOO_MANY_HELPERS = 21 /* over 32 helper constants */
+    NK_TOO_MANY_HELPERS = 21, /* over 32 helper constants */
+
+    /* Two sheets made one; both are about the two together and name no line. */
+    NK_NAMES_DIFFER = 22,   /* a name in both sheets with different kinds or arities */
+    NK_MERGE_TOO_LARGE = 23 /* the merged sheet has over 12 functions, 12 predicates, 64 clauses or 16,384 bytes */
 };
 
 /*
@@ -179,6 +184,16 @@ typedef struct {
     uint32_t settled; /* NK_NONE: 1 exactly if low is 1, no function has arity above 0 and high is at least the number
                          of constants; then the sheet has no model of any size, above 8 included; else 0 */
 } nk_find_answer;
+
+/* The answer of nk_merge: that of nk_write, and which sheet is at fault. */
+typedef struct {
+    uint32_t outcome; /* NK_WRITTEN or NK_REFUSED */
+    uint32_t reason;
+    uint64_t line;
+    uint64_t column;
+    uint64_t length; /* NK_WRITTEN: how many bytes are written; refused 11: how many are needed */
+    uint32_t sheet;  /* refused 1 to 7: 1 where the first sheet is at fault, 2 where the second is; else 0 */
+} nk_merge_answer;
 
 /*
  * Is this a sheet? Answers how many functions, predicates and clauses it has.
@@ -316,6 +331,19 @@ nk_write_answer nk_from_tptp(const uint8_t *text, size_t text_length,
 nk_write_answer nk_from_solver(const uint8_t *sheet, size_t sheet_length, uint64_t size,
                                const uint8_t *text, size_t text_length,
                                uint8_t *output, size_t output_length);
+
+/*
+ * Makes one sheet of two: the first sheet's functions, predicates and clauses, each followed by the second's that are new, in
+ * their order. A name with the same kind and arity in both is one symbol. A clause is not new if the first sheet has it byte
+ * for byte; repeats in the first sheet stay, and so do repeats of a new clause. A case is a model of the merged sheet exactly
+ * if its tables for each sheet's symbols form a model of that sheet. Merging with a sheet without symbols and clauses changes
+ * no byte, and three sheets give the same bytes however they are grouped, where no step is refused.
+ * Afterwards the output's first `length` bytes are the merged sheet; the bytes after it are as they were.
+ * Refused: 1 to 7 of the first sheet, then 1 to 7 of the second, 22, 23, 11; every byte of the output is then as it was.
+ */
+nk_merge_answer nk_merge(const uint8_t *first, size_t first_length,
+                         const uint8_t *second, size_t second_length,
+                         uint8_t *output, size_t output_length);
 
 #ifdef __cplusplus
 }

@@ -12,6 +12,7 @@
 //! | [`find_plain`] | the least model too, by filling cells one by one: without clauses, for up to 64 cells |
 //! | [`from_tptp`] | the sheet that a file of TPTP clauses is read into |
 //! | [`from_solver`] | the case that a SAT solver answers, if it is a model; or the solver's claim that there is none |
+//! | [`merge`] | two sheets made one |
 //!
 //! [`write`], [`read_back`] and [`find`] take a sheet's fixed terms as they are written or named, see [`Terms`]. [`write`] and
 //! [`find`] keep or reduce the symmetry between a model and its renumberings, see [`Symmetry`]: [`find`] reduces it by default,
@@ -23,6 +24,7 @@ pub mod raw;
 
 pub use nesskettle_answers::{Counts, FirstFailure, Operations, Reason, Refusal, Search, SolverAnswer};
 pub use nesskettle_answers::{FindOptions, Symmetry, Terms, WriteOptions};
+pub use nesskettle_answers::{MergeRefusal, WhichSheet};
 
 /// The calls below as one value.
 pub const OPERATIONS: Operations = Operations {
@@ -37,6 +39,7 @@ pub const OPERATIONS: Operations = Operations {
     find_plain,
     from_tptp,
     from_solver,
+    merge,
 };
 
 /// Reads a sheet.
@@ -224,6 +227,33 @@ pub fn from_solver(sheet: &[u8], size: u64, text: &[u8], output: &mut [u8]) -> R
     }
 }
 
+/// Makes one sheet of two, writes it and answers its length. The bytes after it are unchanged.
+///
+/// It has the first sheet's symbols and clauses, then the second's that are new. A name with the same kind and arity in both
+/// is one symbol, and a clause is not new if the first sheet has it byte for byte. A case is a model of the merged sheet
+/// exactly if its tables for each sheet's symbols form a model of that sheet.
+pub fn merge(first: &[u8], second: &[u8], output: &mut [u8]) -> Result<usize, MergeRefusal> {
+    // SAFETY: pointers and lengths are slices', and the output is lent to this call alone.
+    let answer = unsafe {
+        raw::nk_merge(
+            first.as_ptr(),
+            first.len(),
+            second.as_ptr(),
+            second.len(),
+            output.as_mut_ptr(),
+            output.len(),
+        )
+    };
+    match answer.outcome {
+        0 => Err(MergeRefusal {
+            refusal: refusal(answer.reason, answer.line, answer.column, answer.length),
+            sheet: which_sheet(answer.sheet),
+        }),
+        1 => Ok(answer.length as usize),
+        other => unknown_outcome(other),
+    }
+}
+
 /// The C interface's number.
 fn named(terms: Terms) -> u32 {
     match terms {
@@ -275,6 +305,15 @@ fn refusal(number: u32, line: u64, column: u64, needed: u64) -> Refusal {
         line,
         column,
         needed,
+    }
+}
+
+fn which_sheet(number: u32) -> Option<WhichSheet> {
+    match number {
+        0 => None,
+        1 => Some(WhichSheet::First),
+        2 => Some(WhichSheet::Second),
+        other => panic!("the library answered sheet {other}"),
     }
 }
 

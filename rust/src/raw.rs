@@ -61,6 +61,18 @@ pub struct FindAnswer {
     pub settled: u32,
 }
 
+/// The answer of [`nk_merge`].
+#[repr(C)]
+#[derive(Clone, Copy, Debug, PartialEq, Eq)]
+pub struct MergeAnswer {
+    pub outcome: u32,
+    pub reason: u32,
+    pub line: u64,
+    pub column: u64,
+    pub length: u64,
+    pub sheet: u32,
+}
+
 extern "C" {
     pub fn nk_read(sheet: *const u8, sheet_length: usize) -> ReadAnswer;
 
@@ -131,4 +143,13 @@ extern "C" {
         output: *mut u8,
         output_length: usize,
     ) -> WriteAnswer;
+
+    pub fn nk_merge(
+        first: *const u8,
+        first_length: usize,
+        second: *const u8,
+        second_length: usize,
+        output: *mut u8,
+        output_length: usize,
+    ) -> MergeAnswer;
 }

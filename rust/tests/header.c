@@ -180,7 +180,39 @@ int main(void) {
     written = nk_from_solver(sheet, sheet_length, 2, (const uint8_t *)none, strlen(none), output, 0);
     expect(written.outcome == NK_CLAIMED_NONE && written.length == 0, "a claim of none is no refusal");
 
-    printf("%zu %zu %zu %zu %zu\n", sizeof(nk_read_answer), sizeof(nk_judge_answer), sizeof(nk_explain_answer),
-           sizeof(nk_write_answer), sizeof(nk_find_answer));
+    static const char rules[] = "sheet=1\nfuns=1\nfun=b/0\npreds=1\npred=p/1\nclauses=2\nclause=+ p b\nclause=+ = A A\n";
+    static const char both[] = "sheet=1\nfuns=2\nfun=a/0\nfun=b/0\npreds=1\npred=p/1\nclauses=3\nclause=- = a b\n"
+                               "clause=+ p b\nclause=+ = A A\n";
+    const uint8_t *more = (const uint8_t *)rules;
+    uint8_t merged[200];
+    merged[strlen(both)] = 9;
+    nk_merge_answer made = nk_merge(sheet, sheet_length, more, strlen(rules), merged, sizeof merged);
+    expect(made.outcome == NK_WRITTEN && made.reason == 0 && made.sheet == 0, "two sheets are merged");
+    expect(text_is(merged, made.length, both), "b is one symbol, and the second sheet's clauses come last");
+    expect(merged[strlen(both)] == 9, "the byte after them is as it was");
+    made = nk_merge(sheet, sheet_length, sheet, sheet_length, merged, sizeof merged);
+    expect(text_is(merged, made.length, text), "a sheet merged with itself stays as it is");
+    made = nk_merge(sheet, sheet_length, more, strlen(rules), merged, strlen(both) - 1);
+    expect(made.reason == NK_OUTPUT_TOO_SHORT && made.length == strlen(both) && made.sheet == 0, "a byte is missing");
+    made = nk_merge(sheet, sheet_length - 1, more, 0, merged, sizeof merged);
+    expect(made.outcome == NK_REFUSED && made.reason == NK_LAYOUT && made.sheet == 1, "the first sheet is looked at first");
+    expect(made.line == 7 && made.column == 15 && made.length == 0, "it lacks its last line feed");
+    made = nk_merge(sheet, sheet_length, more, strlen(rules) - 15, merged, sizeof merged);
+    expect(made.reason == NK_LAYOUT && made.sheet == 2, "then the second");
+    expect(made.line == 8 && made.column == 1, "it lacks its last line");
+    static const char other[] = "sheet=1\nfuns=1\nfun=b/1\npreds=0\nclauses=0\n";
+    made = nk_merge(sheet, sheet_length, (const uint8_t *)other, strlen(other), merged, sizeof merged);
+    expect(made.outcome == NK_REFUSED && made.reason == NK_NAMES_DIFFER, "b cannot have an argument too");
+    expect(made.sheet == 0 && made.line == 0 && made.column == 0, "which is about both sheets");
+    char full[800] = "sheet=1\nfuns=0\npreds=0\nclauses=64\n";
+    for (int i = 0; i < 64; i++) {
+        strcat(full, "clause=\n");
+    }
+    made = nk_merge((const uint8_t *)full, strlen(full), sheet, sheet_length, merged, sizeof merged);
+    expect(made.outcome == NK_REFUSED && made.reason == NK_MERGE_TOO_LARGE, "65 clauses are too many");
+    expect(made.sheet == 0 && made.line == 0 && made.length == 0, "which is about both sheets too");
+
+    printf("%zu %zu %zu %zu %zu %zu\n", sizeof(nk_read_answer), sizeof(nk_judge_answer), sizeof(nk_explain_answer),
+           sizeof(nk_write_answer), sizeof(nk_find_answer), sizeof(nk_merge_answer));
     return failures;
 }

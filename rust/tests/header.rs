@@ -1,6 +1,6 @@
 //! `include/nesskettle.h` from C: `header.c` compiles without a warning, calls the library, and has the same layouts.
 
-use nesskettle::raw::{ExplainAnswer, FindAnswer, JudgeAnswer, ReadAnswer, WriteAnswer};
+use nesskettle::raw::{ExplainAnswer, FindAnswer, JudgeAnswer, MergeAnswer, ReadAnswer, WriteAnswer};
 use std::path::Path;
 use std::process::Command;
 
@@ -26,6 +26,7 @@ fn the_header_fits_the_library() {
         size_of::<ExplainAnswer>(),
         size_of::<WriteAnswer>(),
         size_of::<FindAnswer>(),
+        size_of::<MergeAnswer>(),
     ];
     let expected = sizes.map(|size| size.to_string()).join(" ") + "\n";
     assert_eq!(String::from_utf8_lossy(&output.stdout), expected);

@@ -12,9 +12,11 @@ use Rattle.naming.specs.NamedOperations.{readBackTextIn}
 use Rattle.symmetry.specs.SymmetricOperations.{writtenTextWith, findResultWith}
 use Rattle.tptp.specs.Tptp.{tptpText}
 use Rattle.solver.specs.SolverText.{solverText, solverAnswer, solverOutput}
+use Rattle.sheet_merging.specs.Merging.{mergedText, whichSheet}
 use Rattle.exports.specs.declared.WriteOut.{WriteOut}
 use Rattle.exports.specs.declared.FindOut.{FindOut}
-use Rattle.exports.specs.Layouts.{writeOut, solverOut, findOut}
+use Rattle.exports.specs.declared.MergeOut.{MergeOut}
+use Rattle.exports.specs.Layouts.{writeOut, solverOut, mergeOut, findOut}
 
 -- a call that writes this text, or is refused
 pub record WritingExport (text : Answer (List ℕ)) (r : WriteOut) (output output′ : List ℕ) : Type 0 where
@@ -60,3 +62,8 @@ TptpExport text r output output′ = WritingExport (tptpText text (length output
 pub record FromSolverExport (sheet : List ℕ) (size : ℕ) (text : List ℕ) (r : WriteOut) (output output′ : List ℕ) : Type 0 where
   pub answer : r ≡ solverOut (solverAnswer (solverText sheet size text (length output)))
   pub left : output′ ≡ solverOutput (solverText sheet size text (length output)) output
+
+-- Merge
+pub record MergeExport (first second : List ℕ) (r : MergeOut) (output output′ : List ℕ) : Type 0 where
+  pub answer : r ≡ mergeOut (lengthAnswer (mergedText first second (length output))) (whichSheet first second)
+  pub left : output′ ≡ outputAfter (mergedText first second (length output)) output

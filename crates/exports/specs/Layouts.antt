@@ -11,6 +11,7 @@ use Rattle.answers.specs.Answers.{reasonBeside}
 use Rattle.exports.specs.declared.ExplainOut.{ExplainOut}
 use Rattle.exports.specs.declared.WriteOut.{WriteOut}
 use Rattle.exports.specs.declared.FindOut.{FindOut}
+use Rattle.exports.specs.declared.MergeOut.{MergeOut}
 
 -- Read: outcome 1 and the counts
 abbrev pub readOut : Answer Counts → ReadOut
@@ -40,6 +41,12 @@ explainOut a =
 abbrev pub writeOut : Answer ℕ → WriteOut
 writeOut (answer n) = record { outcome = 1; reason = 0; line = 0; column = 0; length = n }
 writeOut (refused r) = record { outcome = 0; reason = r .number; line = r .place .line; column = r .place .column; length = r .needed }
+
+-- Merge: Write's struct, and behind it which sheet a refusal points into, 1 or 2, else 0
+abbrev pub mergeOut : Answer ℕ → ℕ → MergeOut
+mergeOut a sheet =
+    let w = writeOut a in
+    record { outcome = w .outcome; reason = w .reason; line = w .line; column = w .column; length = w .length; sheet = sheet }
 
 -- From solver: outcome 1 and the length, 2 for claimed none; refused, the needed length
 abbrev pub solverOut : Answer (Outcome ℕ) → WriteOut

@@ -7,6 +7,7 @@ use answers::JudgeAnswer;
 use answers::ReadAnswer;
 use answers::WriteAnswer;
 use syntax::limits::Problem;
+use uniting::merge::MergeAnswer;
 ghost use mathlib.Core.Path.{_≡_};
 ghost use mathlib.Core.Bool.{cond};
 ghost use mathlib.Core.Option.{Option};
@@ -15,8 +16,8 @@ ghost use Rattle.answers.specs.Calls.{ReasoningCall};
 ghost use Rattle.theory.specs.Refusals.{Answer};
 ghost use Rattle.theory.specs.Operations as theory;
 ghost use Rattle.accepting.specs.Calls.{solverIn};
-ghost use Rattle.exports.specs.Exported.{FindExport, FromSolverExport, PlainExport, ReadBackExport, SettingExport, TptpExport, WriteExport};
-ghost use Rattle.exports.specs.Layouts.{readOut, judgeOut, explainOut, writeOut, solverOut, findOut};
+ghost use Rattle.exports.specs.Exported.{FindExport, FromSolverExport, MergeExport, PlainExport, ReadBackExport, SettingExport, TptpExport, WriteExport};
+ghost use Rattle.exports.specs.Layouts.{readOut, judgeOut, explainOut, writeOut, solverOut, mergeOut, findOut};
 
 #[repr(C)]
 pub struct ReadOut {
@@ -67,6 +68,16 @@ pub struct FindOut {
     pub size: u64,
     pub length: u64,
     pub settled: u32,
+}
+
+#[repr(C)]
+pub struct MergeOut {
+    pub outcome: u32,
+    pub reason: u32,
+    pub line: u64,
+    pub column: u64,
+    pub length: u64,
+    pub sheet: u32,
 }
 
 #[no_mangle]
@@ -325,5 +336,28 @@ fn solver_out(answer: SolverAnswer) -> WriteOut
             column: r.column as u64,
             length: r.needed as u64,
         },
+    }
+}
+
+#[no_mangle]
+pub extern "C" fn nk_merge(first: &[u8], second: &[u8], output: &mut [u8]) -> MergeOut
+    ensures { λ r. ⌜ MergeExport (now (first .entry)) (now (second .entry)) r (now (output .entry)) (now (output .exit)) ⌝ }
+{
+    merge_out(nesskettle::merge(first, second, output))
+}
+
+// Write's struct, and the sheet behind it.
+fn merge_out(answer: MergeAnswer) -> MergeOut
+    ensures { λ r. ⌜ r ≡ mergeOut (lengthIn (answer .answer)) (answer .sheet) ⌝ }
+{
+    let said = answer.answer;
+    let written = write_out(said);
+    MergeOut {
+        outcome: written.outcome,
+        reason: written.reason,
+        line: written.line,
+        column: written.column,
+        length: written.length,
+        sheet: answer.sheet,
     }
 }

@@ -15,9 +15,10 @@ use Rattle.theory.proofs.Tests.{both-false, not-true, iff→≡, eqb-true, eqb-
 use Rattle.theory.proofs.Lists.{all-append, all-map, all-concatMap, all-imply, all-at, any-at}
 use Rattle.theory.proofs.LiftedTerms.{sameTerm-true, sameTerm-same, sameTerm-of-≡, addTerms-adds, addTerms-all, Place, place, addTerms-different}
 use Rattle.theory.proofs.Declared.{functionOf→}
+use Rattle.theory.proofs.Renamed.{renamedTerm, renamedTerms}
 use Rattle.naming.specs.FixedTerms.{isNameable, termNamed, termsNamed, atomNamed, clauseNamed, namedTerms, nameOf, shortTerm, shortTerms, shortAtom, shortLiteral, shortClause, helperClause, helperClauses, namedClauses}
 use Rattle.naming.specs.NamedReading.{isWithin, isWithinNamed}
-use Rattle.naming.proofs.Renamed.{renamedTerm, renamedTerms, renamedAtom, renamedClause, within-renamed}
+use Rattle.naming.proofs.Renamed.{renamedAtom, renamedClause, within-renamed}
 use Rattle.naming.proofs.NamedTerms.{literal-covers, named-ok, named-covers}
 
 -- Places in a list of different terms.

@@ -40,8 +40,11 @@ use Rattle.symmetry.specs.SymmetricOperations.{shownIn, writtenTextWith, findRe
 use Rattle.symmetry.proofs.Chains.{contentChain, writeChain, findChain, write-chain, find-chain}
 use Rattle.solver.specs.Replies.{Reply, claimsNone, states, readReply}
 use Rattle.solver.specs.SolverText.{Outcome, modelCase, claimedNone, statedCase, outcomeOf, solverText, solverAnswer}
+use Rattle.sheet_merging.specs.Sheets.{Sheet, sheetOf, textOf}
+use Rattle.sheet_merging.specs.Merging.{mergedSheet, agree, withinSheet, mergedText, whichSheet}
+use Rattle.sheet_merging.proofs.Merging.{merging}
 use Rattle.nesskettle.proofs.Leaving.{refused-text}
-use Rattle.nesskettle.specs.Columns.{InSheet, OfTheSheet, OfTheCase, NoPlace, Columns}
+use Rattle.nesskettle.specs.Columns.{InSheet, OfTheSheet, OfTheCase, NoPlace, OfTwoSheets, inFirst, inSecond, inNeither, Columns}
 
 -- the sheet's refusal
 module _ (sheet : List ℕ) (q : Refusal) (e : placedProblem sheet ≡ refused q) where
@@ -251,6 +254,20 @@ solver-placed sheet size text room q e =
     unrefused (orRefuse (readReply (propCount size (p .symbols)) text) (unplaced 18)) _ q e₂ (λ h. inr (unread (readReply (propCount size (p .symbols)) text) q h)) λ (r : Reply) _ e₃.
     outcome-placed sheet p size room r q e₃
 
+-- two sheets: the first that is refused, else a check without a place
+merge-placed : (first second : List ℕ) (room : ℕ) (q : Refusal) → mergedText first second room ≡ refused q → (sheet : ℕ) → sheet ≡ whichSheet first second → OfTwoSheets first second q sheet
+unfolding mergedText
+merge-placed first second room q e sheet w =
+    unrefused (placedProblem first) _ q e (λ h. inFirst (w ∙ merging .firstRefused first second room q h .1) (of-the-sheet first q h)) λ (p : Problem) h₁ e₁.
+    let read₁ = problem-read first p h₁ in
+    unrefused (placedProblem second) _ q e₁ (λ h. inSecond (w ∙ merging .secondRefused first second room p q read₁ h .1) (of-the-sheet second q h)) λ (t : Problem) h₂ e₂.
+    let none : sheet ≡ 0 = w ∙ merging .bothTaken first second p t read₁ (problem-read second t h₂) in
+    let m : Sheet = mergedSheet (sheetOf p first) (sheetOf t second) in
+    unrefused (check (agree (p .symbols) (t .symbols)) (unplaced 22)) _ q e₂ (λ h. inNeither none (no-place (agree (p .symbols) (t .symbols)) (unplaced 22) q (refl, refl) h)) λ u _ e₃.
+    unrefused (check (withinSheet m) (unplaced 23)) _ q e₃ (λ h. inNeither none (no-place (withinSheet m) (unplaced 23) q (refl, refl) h)) λ v _ e₄.
+    unrefused (check (leb (length (textOf m)) room) (needing 11 (length (textOf m)))) _ q e₄ (λ h. inNeither none (no-place (leb (length (textOf m)) room) (needing 11 (length (textOf m))) q (refl, refl) h)) λ x _ e₅.
+    absurd (answer≢refused _ q e₅)
+
 -- a solver's answer that is refused is refused
 outcome-refused : (a : Answer (Outcome (List ℕ))) (q : Refusal) → solverAnswer a ≡ refused q → a ≡ refused q
 outcome-refused (answer (modelCase t)) q e = absurd (answer≢refused _ q e)
@@ -275,4 +292,5 @@ columns-of-calls =
       find = λ sheet low high named symmetry r work work′ output output′ c q e. find-placed named symmetry sheet low high (length work) (length output) q (search-refused _ q (sym (c .answer) ∙ e));
       findPlain = λ sheet low high r output output′ c q e. plain-placed sheet low high (length output) q (search-refused _ q (sym (c .answer) ∙ e));
       fromSolver = λ sheet size text r output output′ c q e. solver-placed sheet size text (length output) q (outcome-refused _ q (sym (c .answer) ∙ e));
+      merge = λ first second r output output′ c q e. merge-placed first second (length output) q (refused-text _ q (sym (c .call .answer) ∙ e)) (r .sheet) (c .sheet);
     }

@@ -39,13 +39,15 @@ use Rattle.tptp.specs.Places.{placeOf}
 use Rattle.tptp.specs.Tptp.{readFile, clausesOfFile, Fault, faults, sheetIn, tptpText}
 use Rattle.solver.specs.Replies.{Reply, claimsNone, states, readReply}
 use Rattle.solver.specs.SolverText.{Outcome, modelCase, claimedNone, statedCase, outcomeOf, solverText, solverAnswer, solverOutput}
+use Rattle.sheet_merging.specs.Sheets.{Sheet, sheetOf, textOf}
+use Rattle.sheet_merging.specs.Merging.{mergedSheet, agree, withinSheet, mergedText}
 use Rattle.accepting.specs.declared.SolverAnswer.{SolverAnswer}
 use Rattle.accepting.specs.Calls.{solverIn, OutcomeCall}
 use Rattle.answers.specs.declared.WriteAnswer.{WriteAnswer}
 use Rattle.answers.specs.declared.FindAnswer.{FindAnswer}
 use Rattle.answers.specs.Answers.{lengthIn, findIn}
 use Rattle.answers.specs.Calls.{WritingCall, SearchingCall, PlainSearchingCall}
-use Rattle.nesskettle.specs.Demand1.{readNumbers, judgeNumbers, writeNumbers, readBackNumbers, settingNumbers, findNumbers, plainNumbers, tptpNumbers, solverNumbers, numbersIn, NumberOf, ResultOr, Demand1}
+use Rattle.nesskettle.specs.Demand1.{readNumbers, judgeNumbers, writeNumbers, readBackNumbers, settingNumbers, findNumbers, plainNumbers, tptpNumbers, solverNumbers, mergeNumbers, numbersIn, NumberOf, ResultOr, Demand1}
 use Rattle.nesskettle.proofs.TptpNumbers.{isTptpNumber, text-numbers}
 
 -- the number of every refusal of the answer is one of these
@@ -251,6 +253,17 @@ solver-within sheet size text room =
     outcome p claimsNone = ends solverNumbers claimedNone
     outcome p (states σ) = stated-within p size room σ
 
+-- Merge
+merge-within : (first second : List ℕ) (room : ℕ) → Within mergeNumbers (mergedText first second room)
+unfolding mergedText
+merge-within first second room =
+    then mergeNumbers _ _ (sheet-within (11 ∷ 22 ∷ 23 ∷ []) first) λ p.
+    then mergeNumbers _ _ (sheet-within (11 ∷ 22 ∷ 23 ∷ []) second) λ q.
+    let m : Sheet = mergedSheet (sheetOf p first) (sheetOf q second) in
+    checks mergeNumbers (agree (p .symbols) (q .symbols)) (unplaced 22) _ refl
+    (checks mergeNumbers (withinSheet m) (unplaced 23) _ refl
+    (checks mergeNumbers (leb (length (textOf m)) room) (needing 11 (length (textOf m))) _ refl (ends mergeNumbers _)))
+
 -- a refused call that writes leaves the output as it was
 writing-kept : (numbers : List ℕ) (text : Answer (List ℕ)) (r : WriteAnswer) (output output′ : List ℕ) → WritingCall text r output output′ → Within numbers text
     → ResultOr (λ q. NumberOf numbers q × (output′ ≡ output)) (lengthIn r)
@@ -311,4 +324,5 @@ demand1-of-calls =
       findPlain = λ sheet low high r output output′ c. plain-kept plainNumbers (plainResult sheet low high (length output)) r output output′ c (plain-within sheet low high (length output));
       fromTptp = λ text r output output′ c. writing-kept tptpNumbers (tptpText text (length output)) r output output′ c (tptp-within text (length output));
       fromSolver = λ sheet size text r output output′ c. outcome-kept solverNumbers (solverText sheet size text (length output)) r output output′ c (solver-within sheet size text (length output));
+      merge = λ first second r output output′ c. writing-kept mergeNumbers (mergedText first second (length output)) (r .answer) output output′ (c .call) (merge-within first second (length output));
     }

@@ -18,6 +18,8 @@ use Rattle.answers.specs.Answers.{readIn, judgeIn, explainIn, lengthIn, findIn}
 use Rattle.answers.specs.Calls.{ReadCall, JudgeCall, ExplainCall, WriteCall, ReadBackCall, SettingCall, FindCall, PlainCall}
 use Rattle.accepting.specs.declared.SolverAnswer.{SolverAnswer}
 use Rattle.accepting.specs.Calls.{solverIn, FromSolverCall}
+use Rattle.uniting.specs.declared.merge.MergeAnswer.{MergeAnswer}
+use Rattle.uniting.specs.Calls.{MergeCall}
 
 -- the column of a 7 on line l; in the mode of named terms always 1
 abbrev pub SevenAt : Bool → List ℕ → ℕ → ℕ → Type 0
@@ -51,6 +53,12 @@ pub record OfTheCase (sheet case : List ℕ) (q : Refusal) : Type 0 where
 abbrev pub NoPlace : Refusal → Type 0
 NoPlace q = (q .place .line ≡ 0) × (q .place .column ≡ 0)
 
+-- a refusal of two sheets, and the number of the sheet that it points into: 1 or 2, or 0 with one that names no place
+pub data OfTwoSheets (first second : List ℕ) (q : Refusal) (sheet : ℕ) : Type 0 where
+  inFirst : sheet ≡ 1 → OfTheSheet false first q → OfTwoSheets first second q sheet
+  inSecond : sheet ≡ 2 → OfTheSheet false second q → OfTwoSheets first second q sheet
+  inNeither : sheet ≡ 0 → NoPlace q → OfTwoSheets first second q sheet
+
 -- it holds of every call
 pub record Columns : Type 0 where
   pub read : (sheet : List ℕ) (r : ReadAnswer) → ReadCall sheet r → (q : Refusal) → readIn r ≡ refused q → OfTheSheet false sheet q
@@ -68,3 +76,5 @@ pub record Columns : Type 0 where
       → (q : Refusal) → findIn r ≡ refused q → OfTheSheet false sheet q ⊎ NoPlace q
   pub fromSolver : (sheet : List ℕ) (size : ℕ) (text : List ℕ) (r : SolverAnswer) (output output′ : List ℕ) → FromSolverCall sheet size text r output output′
       → (q : Refusal) → solverIn r ≡ refused q → OfTheSheet false sheet q ⊎ NoPlace q
+  pub merge : (first second : List ℕ) (r : MergeAnswer) (output output′ : List ℕ) → MergeCall first second r output output′
+      → (q : Refusal) → lengthIn (r .answer) ≡ refused q → OfTwoSheets first second q (r .sheet)

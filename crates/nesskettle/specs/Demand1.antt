@@ -16,6 +16,8 @@ use Rattle.answers.specs.Calls.{ReadCall, JudgeCall, ExplainCall, WriteCall, Re
 use Rattle.importing.specs.Calls.{TptpCall}
 use Rattle.accepting.specs.declared.SolverAnswer.{SolverAnswer}
 use Rattle.accepting.specs.Calls.{solverIn, FromSolverCall}
+use Rattle.uniting.specs.declared.merge.MergeAnswer.{MergeAnswer}
+use Rattle.uniting.specs.Calls.{MergeCall}
 
 -- The numbers that documents 01 and 02 give each operation. Read: 1 to 7
 abbrev pub readNumbers : List ℕ
@@ -53,6 +55,10 @@ tptpNumbers = 11 ∷ upFrom 15 3
 abbrev pub solverNumbers : List ℕ
 solverNumbers = upFrom 1 8 ++ (11 ∷ 14 ∷ 18 ∷ 19 ∷ [])
 
+-- Merge: 1 to 7, 11, 22 and 23
+abbrev pub mergeNumbers : List ℕ
+mergeNumbers = upFrom 1 7 ++ (11 ∷ 22 ∷ 23 ∷ [])
+
 -- the numbers of Write, Read back and Find: 21 too in the mode of named terms
 abbrev pub numbersIn : Bool → List ℕ → List ℕ
 numbersIn false numbers = numbers
@@ -86,3 +92,5 @@ pub record Demand1 : Type 0 where
       → ResultOr (λ q. NumberOf tptpNumbers q × (output′ ≡ output)) (lengthIn r)
   pub fromSolver : (sheet : List ℕ) (size : ℕ) (text : List ℕ) (r : SolverAnswer) (output output′ : List ℕ) → FromSolverCall sheet size text r output output′
       → ResultOr (λ q. NumberOf solverNumbers q × (output′ ≡ output)) (solverIn r)
+  pub merge : (first second : List ℕ) (r : MergeAnswer) (output output′ : List ℕ) → MergeCall first second r output output′
+      → ResultOr (λ q. NumberOf mergeNumbers q × (output′ ≡ output)) (lengthIn (r .answer))

@@ -1,10 +1,12 @@
 // The operations of documents 01 and 02. Each answers every byte string, number and lent buffer with a result or a numbered refusal, and
-// ends. A promise is a record of `answers/specs/Calls` (From TPTP's of `importing/specs/Calls`, From solver's of `accepting/specs/Calls`):
-// equations with the definitions of `theory/specs/Operations`, `naming/specs/NamedOperations`, `symmetry/specs/SymmetricOperations`, `theory/specs/PlainSearch`, `tptp/specs/Tptp` and `solver/specs/SolverText`, where
+// ends. A promise is a record of `answers/specs/Calls` (From TPTP's of `importing/specs/Calls`, From solver's of `accepting/specs/Calls`, Merge's of
+// `uniting/specs/Calls`): equations with the definitions of `theory/specs/Operations`, `naming/specs/NamedOperations`,
+// `symmetry/specs/SymmetricOperations`, `theory/specs/PlainSearch`, `tptp/specs/Tptp`, `solver/specs/SolverText` and `sheet_merging/specs/Merging`, where
 // `answers/specs/Answers` says what each answer means. What is lent as `&` cannot change; what is lent as `&mut` is told to the last byte
 // and number. The demands (`specs/Demand1` to `specs/Demand3`) and what is asked of From TPTP (`specs/FromTptp`), From solver
-// (`specs/FromSolver`), Explain (`specs/Explains`) and Setting (`specs/Settings`), what settled means (`specs/Settles`), that Find and Find
-// plain answer the same (`specs/SameAnswers`), what the mode of named terms (`specs/Named`) and the constant clauses (`specs/Symmetry`) do to the answers, and where refusals point (`specs/Columns`), are proved of these records.
+// (`specs/FromSolver`), Merge (`specs/Merges`), Explain (`specs/Explains`) and Setting (`specs/Settings`), what settled means (`specs/Settles`), that Find and Find
+// plain answer the same (`specs/SameAnswers`), what the mode of named terms (`specs/Named`) and the constant clauses (`specs/Symmetry`) do to the answers, and where
+// refusals point (`specs/Columns`), are proved of these records.
 mod reading;
 
 use accepting::SolverAnswer;
@@ -21,10 +23,13 @@ use judging::verdict::judge_case;
 use plain::find_plainly;
 use reading_back::setting::read_setting_back;
 use settings::setting::write_case_setting;
+use uniting::merge::MergeAnswer;
+use uniting::merge::merge_sheets;
 use writing::write_clauses;
 ghost use Rattle.answers.specs.Calls.{ExplainCall, FindCall, JudgeCall, PlainCall, ReadBackCall, ReadCall, SettingCall, WriteCall};
 ghost use Rattle.importing.specs.Calls.{TptpCall};
 ghost use Rattle.accepting.specs.Calls.{FromSolverCall};
+ghost use Rattle.uniting.specs.Calls.{MergeCall};
 
 // Read: the sheet's counts.
 pub fn read(sheet: &[u8]) -> ReadAnswer
@@ -109,4 +114,11 @@ pub fn from_solver(sheet: &[u8], size: u64, text: &[u8], output: &mut [u8]) -> S
     ensures { λ r. ⌜ FromSolverCall (now (sheet .entry)) size (now (text .entry)) r (now (output .entry)) (now (output .exit)) ⌝ }
 {
     accept_answer(sheet, size, text, output)
+}
+
+// Merge: two sheets made one, at the front of the output.
+pub fn merge(first: &[u8], second: &[u8], output: &mut [u8]) -> MergeAnswer
+    ensures { λ r. ⌜ MergeCall (now (first .entry)) (now (second .entry)) r (now (output .entry)) (now (output .exit)) ⌝ }
+{
+    merge_sheets(first, second, output)
 }

@@ -56,6 +56,7 @@ pub mod Monotone
 pub mod ModelTexts
 pub mod Settings
 pub mod FindsLeast
+pub mod Renamed
 pub mod SheetWords
 pub mod SheetRead
 pub mod SheetRefusals

@@ -28,7 +28,7 @@ use Rattle.theory.specs.Claims.SheetRead as claims
 use Rattle.theory.proofs.SheetWords.{clause-inLine, clause-read}
 
 -- a line is read by its key
-line-read : (key v rest : List ℕ) (l : ℕ) → all inLine key ≡ true → all inLine v ≡ true → keyLine key l (line key v ++ rest) ≡ answer (v, rest)
+pub line-read : (key v rest : List ℕ) (l : ℕ) → all inLine key ≡ true → all inLine v ≡ true → keyLine key l (line key v ++ rest) ≡ answer (v, rest)
 line-read key v rest l hk hv =
     let shape : line key v ++ rest ≡ (key ++ v) ++ (LF ∷ rest) =
     append-assoc key (v ++ (LF ∷ [])) rest ∙ ap (λ (t : List ℕ). key ++ t) (append-assoc v (LF ∷ []) rest) ∙ sym (append-assoc key v (LF ∷ rest)) in
@@ -45,7 +45,7 @@ counts-good : all (λ n. countGood n && all inLine (decimal n)) (upTo 100) ≡ t
 unfolding decimal
 counts-good = refl
 
-count-of : (n : ℕ) → n < 100 → (countOf (decimal n) ≡ some n) × (all inLine (decimal n) ≡ true)
+pub count-of : (n : ℕ) → n < 100 → (countOf (decimal n) ≡ some n) × (all inLine (decimal n) ≡ true)
 count-of n lt =
     let h : (countGood n && all inLine (decimal n)) ≡ true = all-upTo (λ n. countGood n && all inLine (decimal n)) 100 counts-good n lt in
     (go (countOf (decimal n)) (and-left (countGood n) (all inLine (decimal n)) h), and-right (countGood n) (all inLine (decimal n)) h)
@@ -54,7 +54,7 @@ count-of n lt =
     go (some m) e = ap {B = Option ℕ} some (eqb-true m n e)
     go none e = absurd (false≢true e)
 
-count-read : (key rest : List ℕ) (limit n l : ℕ) → all inLine key ≡ true → n ≤ limit → limit < 100 → countLine key limit l (line key (decimal n) ++ rest) ≡ answer (n, rest)
+pub count-read : (key rest : List ℕ) (limit n l : ℕ) → all inLine key ≡ true → n ≤ limit → limit < 100 → countLine key limit l (line key (decimal n) ++ rest) ≡ answer (n, rest)
 unfolding countLine
 count-read key rest limit n l hk le lt =
     let c = count-of n (omega arith) in
@@ -75,7 +75,7 @@ kind-of : (k l : Kind) → isKind k l ≡ true → l ≡ k
 kind-of function l h = function-kind l h
 kind-of predicate l h = predicate-kind l h
 
-origin-of : (o : Origin) → isFromSheet o ≡ true → o ≡ declared
+pub origin-of : (o : Origin) → isFromSheet o ≡ true → o ≡ declared
 origin-of declared h = refl
 origin-of helper h = absurd (false≢true h)
 
@@ -131,7 +131,7 @@ new-name g f fs d = not-true (isNamed (f .name) g) λ e.
     (ap (λ (u : Symbol). u .name) here ∙ sym (s .1) ∙ sym (ap (λ (u : Symbol). u .name) there)) in
     omega (arith, q, s .0)
 
-symbol-inLine : (f : Symbol) → symbolOk f ≡ true → all inLine (symbolText f) ≡ true
+pub symbol-inLine : (f : Symbol) → symbolOk f ≡ true → all inLine (symbolText f) ≡ true
 symbol-inLine f h =
     let d : ℕ = zeroDigit + f .arity in
     all-append inLine (f .name) (47 ∷ d ∷ [])
@@ -139,7 +139,7 @@ symbol-inLine f h =
     (and-join (inLine d) true (ap not (eqb-false d LF (λ e. omega arith))) refl)
 
 -- lines of symbols of one kind are read, after the symbols g
-symbols-read : (key : List ℕ) → all inLine key ≡ true → (k : Kind) (fs : List Symbol) (g : Signature) (l : ℕ) (rest : List ℕ)
+pub symbols-read : (key : List ℕ) → all inLine key ≡ true → (k : Kind) (fs : List Symbol) (g : Signature) (l : ℕ) (rest : List ℕ)
     → all (λ (f : Symbol). isKind k (f .kind)) fs ≡ true → allDeclared fs ≡ true → all symbolOk fs ≡ true → NamesDiffer (g ++ fs)
     → symbolLines (length fs) key k g l (concatMap (λ (f : Symbol). line key (symbolText f)) fs ++ rest) ≡ answer (g ++ fs, rest)
 unfolding symbolLines

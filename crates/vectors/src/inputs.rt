@@ -1,4 +1,4 @@
-// A stored input: a line of six numbers, each with one byte after it, then the bytes of a sheet or of TPTP clauses and those of a case, a setting or a solver's answer. The numbers are the lengths of the two,
+// A stored input: a line of six numbers, each with one byte after it, then the bytes of a sheet or of TPTP clauses and those of a case, a setting, a solver's answer or a second sheet. The numbers are the lengths of the two,
 // a size or low, high, and the lengths of the work and the output that are lent; those that an operation does not take are 0.
 ghost use Prim.Native.Nat.{_≤_};
 ghost use lib.ListN.{length};

@@ -56,4 +56,5 @@ fn main() {
     run_file(b"find_symmetry", Operation::FindSymmetry);
     run_file(b"write_named_symmetry", Operation::WriteNamedSymmetry);
     run_file(b"find_named_symmetry", Operation::FindNamedSymmetry);
+    run_file(b"merge", Operation::Merge);
 }

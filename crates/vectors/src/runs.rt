@@ -38,6 +38,7 @@ pub enum Operation {
     FindSymmetry,
     WriteNamedSymmetry,
     FindNamedSymmetry,
+    Merge,
 }
 
 fn read(sheet: &[u8]) {
@@ -57,7 +58,7 @@ fn judge(sheet: &[u8], case: &[u8]) {
     say(b"\n");
 }
 
-// What Write, Read back and From TPTP answer and leave; From solver and Find plain too, where they write a case or are refused.
+// What Write, Read back, From TPTP and Merge answer and leave; From solver and Find plain too, where they write a case or are refused.
 fn text(answer: WriteAnswer, output: &[u8]) {
     match answer {
         WriteAnswer::Written(n) => {
@@ -195,6 +196,22 @@ fn from_solver(sheet: &[u8], size: u64, reply: &[u8], output: &mut [u8]) {
     solved(answer, output);
 }
 
+// The sheet that a refusal points into, if it points into one.
+fn pointed(sheet: u32) {
+    if sheet == 0 {
+        return;
+    }
+    say(b" sheet");
+    tell(sheet as u64);
+}
+
+fn merge(first: &[u8], second: &[u8], output: &mut [u8]) {
+    let answer = nesskettle::merge(first, second, output);
+    let said = answer.answer;
+    pointed(answer.sheet);
+    text(said, output);
+}
+
 fn name(operation: Operation) {
     match operation {
         Operation::Read => say(b"read"),
@@ -214,6 +231,7 @@ fn name(operation: Operation) {
         Operation::FindSymmetry => say(b"find_symmetry"),
         Operation::WriteNamedSymmetry => say(b"write_named_symmetry"),
         Operation::FindNamedSymmetry => say(b"find_named_symmetry"),
+        Operation::Merge => say(b"merge"),
     }
 }
 
@@ -245,6 +263,7 @@ fn answer(
         Operation::FindSymmetry => find(sheet, x.low, x.high, false, true, work, output),
         Operation::WriteNamedSymmetry => write(sheet, x.low, true, true, output),
         Operation::FindNamedSymmetry => find(sheet, x.low, x.high, true, true, work, output),
+        Operation::Merge => merge(sheet, beside, output),
     }
 }
 

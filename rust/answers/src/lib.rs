@@ -1,5 +1,5 @@
 //! The answers of the operations: read, judge, explain, write, read back, setting, find, find plain, from TPTP,
-//! and from solver.
+//! from solver, and merge.
 //!
 //! Each call answers a result or a [`Refusal`]. A refusal has the number that the specification gives it.
 
@@ -51,11 +51,15 @@ pub enum Reason {
     TooManyCells = 20,
     /// 21: with [`Terms::Named`], over 32 helper constants.
     TooManyHelpers = 21,
+    /// 22: two sheets to merge declare a name with different kinds or arities.
+    NamesDiffer = 22,
+    /// 23: the merged sheet has over 12 functions, 12 predicates, 64 clauses or 16,384 bytes.
+    MergeTooLarge = 23,
 }
 
 impl Reason {
     /// Every reason, in order of its number.
-    pub const ALL: [Reason; 21] = [
+    pub const ALL: [Reason; 23] = [
         Reason::SheetTooLong,
         Reason::Layout,
         Reason::OverLimit,
@@ -77,6 +81,8 @@ impl Reason {
         Reason::NoModel,
         Reason::TooManyCells,
         Reason::TooManyHelpers,
+        Reason::NamesDiffer,
+        Reason::MergeTooLarge,
     ];
 
     /// The specification's number of this reason.
@@ -145,6 +151,10 @@ impl fmt::Display for Reason {
                  stand inside no other), and at most 32 are named: declare constants for some of them, or leave terms as \
                  they are written"
             }
+            Reason::NamesDiffer => "both sheets declare a name, with different kinds or numbers of arguments",
+            Reason::MergeTooLarge => {
+                "the merged sheet would be over the limit (12 functions, 12 predicates, 64 clauses, 16,384 bytes)"
+            }
         })
     }
 }
@@ -178,6 +188,44 @@ impl fmt::Display for Refusal {
 }
 
 impl std::error::Error for Refusal {}
+
+/// One of the two sheets that are merged.
+#[derive(Clone, Copy, Debug, PartialEq, Eq)]
+pub enum WhichSheet {
+    First,
+    Second,
+}
+
+impl WhichSheet {
+    /// The specification's number of this sheet.
+    pub fn number(self) -> u32 {
+        match self {
+            WhichSheet::First => 1,
+            WhichSheet::Second => 2,
+        }
+    }
+}
+
+/// A refused merge: it has changed no lent byte.
+#[derive(Clone, Copy, Debug, PartialEq, Eq)]
+pub struct MergeRefusal {
+    pub refusal: Refusal,
+    /// The sheet at fault, for 1 to 7; nothing for the others, which are about the two together.
+    pub sheet: Option<WhichSheet>,
+}
+
+impl fmt::Display for MergeRefusal {
+    fn fmt(&self, f: &mut fmt::Formatter<'_>) -> fmt::Result {
+        match self.sheet {
+            Some(WhichSheet::First) => write!(f, "first sheet: ")?,
+            Some(WhichSheet::Second) => write!(f, "second sheet: ")?,
+            None => {}
+        }
+        self.refusal.fmt(f)
+    }
+}
+
+impl std::error::Error for MergeRefusal {}
 
 /// What becomes of a sheet's fixed terms: those without variables that are no constants.
 ///
@@ -320,6 +368,7 @@ pub struct Operations {
     pub find_plain: fn(&[u8], u64, u64, &mut [u8]) -> Answer<Search>,
     pub from_tptp: fn(&[u8], &mut [u8]) -> Answer<usize>,
     pub from_solver: fn(&[u8], u64, &[u8], &mut [u8]) -> Answer<SolverAnswer>,
+    pub merge: fn(&[u8], &[u8], &mut [u8]) -> Result<usize, MergeRefusal>,
 }
 
 #[cfg(test)]
@@ -333,7 +382,7 @@ mod tests {
             assert_eq!(Reason::from_number(reason.number()), Some(reason));
         }
         assert_eq!(Reason::from_number(0), None);
-        assert_eq!(Reason::from_number(22), None);
+        assert_eq!(Reason::from_number(24), None);
     }
 
     #[test]
@@ -375,5 +424,23 @@ mod tests {
             short.to_string(),
             "refused 11: the output is too short, 22 bytes are needed"
         );
+    }
+
+    #[test]
+    fn a_refused_merge_says_which_sheet() {
+        let too_long = Refusal {
+            reason: Reason::SheetTooLong,
+            line: 0,
+            column: 0,
+            needed: 0,
+        };
+        let told = |sheet| {
+            let refusal = too_long;
+            MergeRefusal { refusal, sheet }.to_string()
+        };
+        let words = "refused 1: the sheet has more than 16,384 bytes";
+        assert_eq!(told(Some(WhichSheet::First)), format!("first sheet: {words}"));
+        assert_eq!(told(Some(WhichSheet::Second)), format!("second sheet: {words}"));
+        assert_eq!(told(None), words);
     }
 }

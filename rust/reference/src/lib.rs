@@ -9,6 +9,7 @@ mod flattening;
 mod grounding;
 mod interpretation;
 mod lines;
+mod merging;
 mod naming;
 mod plain;
 mod problem;
@@ -23,6 +24,7 @@ pub mod vectors;
 
 pub use nesskettle_answers::{Counts, FirstFailure, Operations, Reason, Refusal, Search, SolverAnswer};
 pub use nesskettle_answers::{FindOptions, Symmetry, Terms, WriteOptions};
+pub use nesskettle_answers::{MergeRefusal, WhichSheet};
 pub use program::{explainer, program};
 pub use sheet::sheet_of;
 
@@ -51,6 +53,7 @@ pub const OPERATIONS: Operations = Operations {
     find_plain,
     from_tptp,
     from_solver,
+    merge,
 };
 
 /// Reads a sheet: its counts.
@@ -221,6 +224,12 @@ pub fn from_solver(sheet: &[u8], size: u64, text: &[u8], out: &mut [u8]) -> Resu
         return Err(refused(Reason::NoModel));
     }
     put(&interpretation.text(&problem), out).map(|length| SolverAnswer::Case { length })
+}
+
+/// Makes one sheet of two and writes it; the sheet's length.
+pub fn merge(first: &[u8], second: &[u8], out: &mut [u8]) -> Result<usize, MergeRefusal> {
+    let sheet = merging::merged(first, second)?;
+    put(&sheet, out).map_err(merging::about_both)
 }
 
 /// The needed lengths of a search: work numbers and output bytes at the size, for a sheet that is not refused.

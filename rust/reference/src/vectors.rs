@@ -3,7 +3,8 @@
 //! One vector a line: the operation, its inputs, `->`, its answer. Each field is `key=value`; a byte string stands in
 //! double quotes, with `\n`, `\"`, `\\` and `\xHH` in it.
 
-use crate::{FindOptions, FirstFailure, Operations, Refusal, Search, SolverAnswer, Symmetry, Terms, WriteOptions};
+use crate::{FindOptions, Symmetry, Terms, WriteOptions};
+use crate::{FirstFailure, MergeRefusal, Operations, Refusal, Search, SolverAnswer};
 use std::collections::HashMap;
 
 /// The stored vectors.
@@ -166,25 +167,36 @@ pub fn run(operations: &Operations, vector: &Vector) -> Result<(), String> {
         "from-solver" => {
             (operations.from_solver)(sheet, given.number("size"), given.bytes("text"), &mut out).map(from_solver)
         }
+        "merge" => return run_merge(operations, vector),
         other => panic!("no operation {other}"),
     };
     let refused = answered.is_err();
     let answered = answered.unwrap_or_else(refusal);
     same("answer", &answered, &expected(&vector.answer))?;
-    let text = if vector.answer.has("text") {
-        vector.answer.bytes("text")
-    } else {
-        &[]
-    };
-    let mut left = patterned_bytes(out.len() as u64);
-    left[..text.len()].copy_from_slice(text);
-    same("output", &out, &left)?;
+    same_output(&out, &vector.answer)?;
     let left = if refused {
         patterned_numbers(work.len() as u64)
     } else {
         vec![0; work.len()]
     };
     same("work", &work, &left)
+}
+
+fn run_merge(operations: &Operations, vector: &Vector) -> Result<(), String> {
+    let given = &vector.inputs;
+    let mut out = patterned_bytes(given.number("output"));
+    let merged = (operations.merge)(given.bytes("first"), given.bytes("second"), &mut out);
+    let answered = merged.map_or_else(merge_refusal, |n| format!("length={n}"));
+    same("answer", &answered, &expected(&vector.answer))?;
+    same_output(&out, &vector.answer)
+}
+
+/// The answer's text stands at the output's front, and what follows it is as it was.
+fn same_output(out: &[u8], answer: &Fields) -> Result<(), String> {
+    let text = if answer.has("text") { answer.bytes("text") } else { &[] };
+    let mut left = patterned_bytes(out.len() as u64);
+    left[..text.len()].copy_from_slice(text);
+    same("output", out, &left)
 }
 
 /// The answer's fields but for the text, in one line.
@@ -194,6 +206,7 @@ fn expected(answer: &Fields) -> String {
         "line",
         "column",
         "needed",
+        "sheet",
         "functions",
         "predicates",
         "clauses",
@@ -243,6 +256,11 @@ fn refusal(refusal: Refusal) -> String {
         refusal.column,
         refusal.needed
     )
+}
+
+fn merge_refusal(merge: MergeRefusal) -> String {
+    let sheet = merge.sheet.map(|sheet| format!(" sheet={}", sheet.number()));
+    refusal(merge.refusal) + &sheet.unwrap_or_default()
 }
 
 fn yes_no(yes: bool) -> &'static str {

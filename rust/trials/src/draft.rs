@@ -74,19 +74,35 @@ const LETTERS: [&str; 8] = ["A", "B", "C", "D", "E", "F", "G", "H"];
 
 impl Draft {
     pub fn random(random: &mut Random, style: Style) -> Draft {
+        let functions = random.between(0, style.symbols);
         let mut draft = Draft::default();
-        let total = random.between(0, style.symbols);
-        for _ in 0..total {
-            let symbol = draft.symbol(random, style);
-            draft.functions.push(symbol);
-        }
-        let total = random.between(0, style.symbols);
-        for _ in 0..total {
-            let symbol = draft.symbol(random, style);
-            draft.predicates.push(symbol);
-        }
+        draft.add_functions(random, style, functions);
+        let predicates = random.between(0, style.symbols);
+        draft.add_predicates(random, style, predicates);
         draft.add_clauses(random, style);
         draft
+    }
+
+    /// A draft with so many functions and predicates, and no clause.
+    pub fn with_symbols(random: &mut Random, style: Style, functions: usize, predicates: usize) -> Draft {
+        let mut draft = Draft::default();
+        draft.add_functions(random, style, functions);
+        draft.add_predicates(random, style, predicates);
+        draft
+    }
+
+    fn add_functions(&mut self, random: &mut Random, style: Style, count: usize) {
+        for _ in 0..count {
+            let symbol = self.symbol(random, style);
+            self.functions.push(symbol);
+        }
+    }
+
+    fn add_predicates(&mut self, random: &mut Random, style: Style, count: usize) {
+        for _ in 0..count {
+            let symbol = self.symbol(random, style);
+            self.predicates.push(symbol);
+        }
     }
 
     /// A draft whose tables have exactly so many cells at a size.
@@ -111,7 +127,7 @@ impl Draft {
         draft
     }
 
-    fn add_clauses(&mut self, random: &mut Random, style: Style) {
+    pub fn add_clauses(&mut self, random: &mut Random, style: Style) {
         for _ in 0..random.between(0, style.clauses) {
             self.clauses.push(self.clause(random, style));
         }

@@ -1,7 +1,7 @@
 //! What the C interface must answer where the reference answers this.
 
-use nesskettle::raw::{FindAnswer, WriteAnswer};
-use nesskettle_reference::{Refusal, Search};
+use nesskettle::raw::{FindAnswer, MergeAnswer, WriteAnswer};
+use nesskettle_reference::{MergeRefusal, Refusal, Search, WhichSheet};
 
 /// The answer of a search, and how many bytes it writes.
 pub fn search(answer: Result<Search, Refusal>) -> (FindAnswer, usize) {
@@ -69,6 +69,21 @@ pub fn text(answer: Result<usize, Refusal>, output: &[u8]) -> (WriteAnswer, &[u8
             &output[..n],
         ),
     }
+}
+
+/// The answer of a merge, and the sheet.
+pub fn merged(answer: Result<usize, MergeRefusal>, output: &[u8]) -> (MergeAnswer, &[u8]) {
+    let sheet = answer.err().and_then(|merge| merge.sheet);
+    let (written, front) = text(answer.map_err(|merge| merge.refusal), output);
+    let merged = MergeAnswer {
+        outcome: written.outcome,
+        reason: written.reason,
+        line: written.line,
+        column: written.column,
+        length: written.length,
+        sheet: sheet.map_or(0, WhichSheet::number),
+    };
+    (merged, front)
 }
 
 /// An outcome of a search in words, for a tally.

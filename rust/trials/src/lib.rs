@@ -10,6 +10,7 @@ pub mod expected;
 pub mod fixed;
 pub mod models;
 pub mod options;
+pub mod pairs;
 pub mod places;
 pub mod problems;
 pub mod random;

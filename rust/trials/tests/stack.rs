@@ -3,6 +3,7 @@
 
 use nesskettle::Terms::{AsWritten, Named};
 use nesskettle::{explain, find, find_plain, from_solver, from_tptp, judge, read, read_back, setting, write};
+use nesskettle::{merge, WhichSheet};
 use nesskettle::{FirstFailure, Reason, Search, SolverAnswer};
 use nesskettle_reference::sheet_of;
 use nesskettle_trials::draft::Draft;
@@ -193,6 +194,30 @@ fn the_most_cells_of_a_plain_search_are_filled() {
         let found = Search::Found { size: 8, length: 158 };
         assert_eq!(find_plain(&sheet, 8, 8, &mut output), Ok(found));
         assert!(output.ends_with(b"v=1 0 0 0 0 0 0 0\n"));
+    });
+}
+
+/// Two sheets of 64 clauses, as long as they may be, with deep terms; and the deepest ones in the second of two.
+#[test]
+fn large_sheets_are_merged() {
+    let letter = |i: usize| char::from(b'A' + i as u8);
+    let deep = "mnopqrstuvwx ".repeat(5);
+    let literal = format!("+ abcdefghijkl {deep}A {deep}A {deep}A");
+    let clause = |i: usize| format!("{literal} - abcdefghijkl B {} {}", letter(i / 8), letter(i % 8));
+    let clauses: Vec<String> = (0..64).map(clause).collect();
+    let clauses: Vec<&str> = clauses.iter().map(String::as_str).collect();
+    let sheet = sheet_of(&["mnopqrstuvwx/1"], &["abcdefghijkl/3"], &clauses);
+    assert!(sheet.len() > 15_000);
+    let deepest = nested(61);
+    on_a_small_stack(move || {
+        let mut output = vec![0; 16_384];
+        assert_eq!(merge(&sheet, &sheet, &mut output), Ok(sheet.len()));
+        assert_eq!(output[..sheet.len()], sheet);
+        let refused = merge(&sheet, &deepest, &mut output).unwrap_err();
+        assert_eq!(
+            (refused.refusal.reason, refused.sheet),
+            (Reason::ClauseTooLarge, Some(WhichSheet::Second))
+        );
     });
 }
 

@@ -5,6 +5,7 @@
 mod explain;
 mod find;
 mod from_solver;
+mod merge;
 mod named;
 mod options;
 mod report;
@@ -44,6 +45,7 @@ fn run(command: Command) -> Result<u8, Failure> {
         Command::Help => print(options::HELP.as_bytes()),
         Command::Version => print(concat!("nesskettle ", env!("CARGO_PKG_VERSION"), "\n").as_bytes()),
         Command::Tptp { file } => print(&from_tptp(File::read(&file)?)?.bytes),
+        Command::Merge { first, second } => merge::merge(&read_sheet(&first)?, &read_sheet(&second)?),
         Command::Check { sheet } => check(&read_sheet(&sheet)?),
         Command::Judge { sheet, case } => judge(&read_sheet(&sheet)?, &File::read(&case)?),
         Command::Explain { sheet, case } => explain::explain(&read_sheet(&sheet)?, &File::read(&case)?),

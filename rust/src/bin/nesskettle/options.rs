@@ -37,10 +37,13 @@ nesskettle: a finite model finder. Every answer is the proved library's.
       is it a sheet? prints how many functions, predicates and clauses it has
   nesskettle tptp FILE
       prints the sheet that a file of TPTP clauses is read into
+  nesskettle merge FIRST SECOND
+      prints one sheet made of two: the first's functions, predicates and clauses, each
+      followed by the second's that are new
   nesskettle --help, nesskettle --version
 
 SHEET, CASE, SETTING, ANSWER and FILE are files; one of them may be -, standard
-input.
+input. FIRST and SECOND are SHEETs.
 
 A SHEET may be a file of TPTP clauses instead, cnf(name, role, clause). with
 comments: one whose name ends in .p or .tptp, or any file with --tptp. A case
@@ -94,6 +97,12 @@ no --plain. A case of size --high may have at most 64 cells (refusal 20), and ti
 grows with the number of cases: at size N a cell of a function has N values, one of
 a predicate 2.
 
+merge takes a name with the same kind and number of arguments in both sheets as one
+symbol, and leaves out each clause of the second sheet that the first has byte for
+byte. A case is a model of the merged sheet exactly if its tables for each sheet's
+symbols form a model of that sheet. Sheets that disagree on a name (refusal 22) are
+not merged, nor are those that are too large for one (refusal 23).
+
 None is settled where low is 1, no function takes an argument, and high is at
 least the number of constants.
 
@@ -129,6 +138,10 @@ pub enum Command {
     Version,
     Tptp {
         file: String,
+    },
+    Merge {
+        first: Sheet,
+        second: Sheet,
     },
     Check {
         sheet: Sheet,
@@ -193,6 +206,13 @@ pub fn parse(arguments: impl Iterator<Item = String>) -> Result<Command, Failure
         "tptp" => {
             let [file] = rest.files("FILE")?;
             Ok(Command::Tptp { file })
+        }
+        "merge" => {
+            let [first, second] = rest.files("FIRST SECOND")?;
+            Ok(Command::Merge {
+                first: sheet_in(first),
+                second: sheet_in(second),
+            })
         }
         "check" => {
             let [sheet] = rest.files("SHEET")?;

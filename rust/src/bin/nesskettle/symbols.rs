@@ -19,7 +19,7 @@ pub fn symbols<'a>(sheet: &'a str, case: &'a str) -> (usize, Vec<Symbol<'a>>) {
 }
 
 /// Name, arity and kind of a line that declares a symbol.
-fn declared(line: &str) -> Option<Symbol<'_>> {
+pub fn declared(line: &str) -> Option<Symbol<'_>> {
     let function = line.strip_prefix("fun=").map(|rest| (rest, false));
     let (rest, is_predicate) = function.or(line.strip_prefix("pred=").map(|rest| (rest, true)))?;
     let (name, arity) = rest.rsplit_once('/')?;

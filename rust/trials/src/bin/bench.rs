@@ -11,7 +11,7 @@ use nesskettle_trials::problems::{sheet, GROUP_CASE, MILLION};
 use nesskettle_trials::random::Random;
 use nesskettle_trials::solver::stating;
 use reference::Terms::{AsWritten, Named};
-use reference::{sheet_of, FindOptions, Operations, Search, SolverAnswer, Symmetry, WriteOptions};
+use reference::{sheet_of, FindOptions, Operations, Reason, Search, SolverAnswer, Symmetry, WriteOptions};
 use std::time::Duration;
 
 /// Terms that are refused as written.
@@ -33,6 +33,7 @@ fn main() {
     named(&bench);
     symmetry(&bench);
     from_tptp(&bench);
+    merge(&bench);
 }
 
 struct Bench {
@@ -327,4 +328,39 @@ fn tptp_row(bench: &Bench, name: &str, text: String, times: u32) {
     bench.row(&name, times, Some((kilobytes / 1e3, "MB")), |o| {
         assert_eq!((o.from_tptp)(text.as_bytes(), &mut output), expected);
     });
+}
+
+/// Sheets whose clauses are alike but for their last bytes, so that no comparison of two ends early.
+fn merge(bench: &Bench) {
+    let sheet = large_sheet('A');
+    let kilobytes = sheet.len() as f64 / 1e3;
+    let mut output = vec![0; sheet.len()];
+    let amount = Some((2.0 * kilobytes / 1e3, "MB"));
+    let name = format!("merge, the same 64 clauses, {kilobytes:.1} kB each");
+    bench.row(&name, 20, amount, |o| {
+        assert_eq!((o.merge)(&sheet, &sheet, &mut output), Ok(sheet.len()));
+    });
+    let other = large_sheet('B');
+    assert_eq!(sheet[..sheet.len() - 2], other[..other.len() - 2]);
+    bench.row("merge, unlike in the last byte, 64 clauses", 20, amount, |o| {
+        let refused = (o.merge)(&sheet, &other, &mut output).expect_err("there are 65 clauses");
+        assert_eq!(refused.refusal.reason, Reason::MergeTooLarge);
+    });
+    let small = sheet_of(&["a/0", "b/0"], &["p/1"], &["+ p a", "- = a b"]);
+    let mut output = vec![0; 200];
+    bench.row("merge, 9 lines each", 10_000, None, |o| {
+        assert_eq!((o.merge)(&small, &small, &mut output), Ok(small.len()));
+    });
+}
+
+/// 64 clauses, about as long as they may be in a sheet, which are unlike in their ends; the last one ends in this letter.
+fn large_sheet(last: char) -> Vec<u8> {
+    let long = "+ abcdefghijkl mnopqrstuvwx mnopqrstuvwx mnopqrstuvwx ".repeat(4);
+    let letter = |i: usize| char::from(b'A' + i as u8);
+    let mut clauses: Vec<String> = (0..63)
+        .map(|i| format!("{long}- abcdefghijkl A {} {}", letter(i / 8), letter(i % 8)))
+        .collect();
+    clauses.push(format!("{long}- abcdefghijkl B A {last}"));
+    let clauses: Vec<&str> = clauses.iter().map(String::as_str).collect();
+    sheet_of(&["mnopqrstuvwx/0"], &["abcdefghijkl/3"], &clauses)
 }

@@ -13,7 +13,7 @@ pub const TOLD_NO: FindOptions = FindOptions {
 pub struct Call {
     /// Or TPTP clauses.
     pub sheet: Vec<u8>,
-    /// A case, a setting, or a solver's answer.
+    /// A case, a setting, a solver's answer, or a second sheet.
     pub beside: Vec<u8>,
     /// Low, or the size.
     pub low: u64,
@@ -97,6 +97,14 @@ pub fn importing(clauses: impl AsRef<[u8]>, output: u64) -> Call {
     Call {
         output,
         ..reading(clauses)
+    }
+}
+
+pub fn merging(first: impl AsRef<[u8]>, second: impl AsRef<[u8]>, output: u64) -> Call {
+    Call {
+        beside: second.as_ref().to_vec(),
+        output,
+        ..reading(first)
     }
 }
 

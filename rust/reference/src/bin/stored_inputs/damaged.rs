@@ -4,6 +4,7 @@ use crate::calls::{
     answered, file, finding, finding_plain, importing, judging, reading, reading_back, setting_of, writing, Call,
 };
 use crate::examples::{full, two_constants};
+use crate::merging;
 use nesskettle_reference::sheet_of;
 
 /// The edges of the bytes that layouts, names and words allow.
@@ -30,6 +31,7 @@ pub fn of(operation: &str) -> Vec<Call> {
         "from_tptp" => clauses().iter().map(|text| importing(text, 300)).collect(),
         "find" => one_of_each().into_iter().map(|s| finding(s, 0, 9, 3, 10)).collect(),
         "find_plain" => one_of_each().into_iter().map(|s| finding_plain(s, 0, 9, 10)).collect(),
+        "merge" => merging::damaged(),
         other => panic!("no operation {other}"),
     }
 }

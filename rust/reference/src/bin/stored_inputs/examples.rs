@@ -4,6 +4,7 @@ use crate::calls::{
     answered, file, finding, finding_plain, importing, judging, reading, reading_back, searching, setting_of, writing,
 };
 use crate::calls::{Call, TOLD_NO};
+use crate::merging;
 use nesskettle_reference::sheet_of;
 use nesskettle_reference::{
     find_plain_within, from_tptp, instances_and_variables, needed, setting, write, WriteOptions,
@@ -21,6 +22,7 @@ pub fn of(operation: &str) -> Vec<Call> {
         "setting" => settings(),
         "from_solver" => answers(),
         "explain" => judges().into_iter().chain(explains()).collect(),
+        "merge" => merging::examples(),
         other => panic!("no operation {other}"),
     }
 }

@@ -2,19 +2,21 @@
 //! (`crates/vectors/stdout`). The answers are the reference's; those to stored vectors are first held against the
 //! vectors' own.
 //!
-//! An input is a line of six numbers, then the bytes of a sheet or of TPTP clauses and those of a case, a setting or a
-//! solver's answer. The numbers are the lengths of the two, size or low, high, and the lengths of the work and the output
-//! that are lent.
+//! An input is a line of six numbers, then the bytes of a sheet or of TPTP clauses and those of a case, a setting, a
+//! solver's answer or a second sheet. The numbers are the lengths of the two, size or low, high, and the lengths of the work
+//! and the output that are lent.
 
 mod calls;
 mod damaged;
 mod examples;
+mod merging;
 mod named;
 mod symmetry;
 
 use calls::Call;
 use nesskettle_reference::vectors::{self, patterned_bytes, patterned_numbers, Vector};
 use nesskettle_reference::{explain, find, find_plain, from_solver, from_tptp, judge, read, read_back, setting, write};
+use nesskettle_reference::{merge, MergeRefusal};
 use nesskettle_reference::{FindOptions, Symmetry, Terms, WriteOptions};
 use nesskettle_reference::{FirstFailure, Refusal, Search, SolverAnswer, OPERATIONS};
 use std::path::Path;
@@ -24,12 +26,13 @@ use std::{fs, io};
 const SHORT: usize = 400;
 const MOST_WORK: u64 = 65_536;
 const MOST_OUTPUT: u64 = 65_536;
+const MOST_DATA: usize = 300_000;
 /// How many of the stored vectors each operation takes, and how long their sheets are.
 const MOST_STORED: usize = 100;
 const MOST_SHEET: usize = 700;
 
 /// The files of inputs, in the order in which the program takes them.
-const OPERATIONS_IN_ORDER: [&str; 17] = [
+const OPERATIONS_IN_ORDER: [&str; 18] = [
     "read",
     "judge",
     "write",
@@ -47,6 +50,7 @@ const OPERATIONS_IN_ORDER: [&str; 17] = [
     "find_symmetry",
     "write_named_symmetry",
     "find_named_symmetry",
+    "merge",
 ];
 
 fn main() -> io::Result<()> {
@@ -69,6 +73,7 @@ fn main() -> io::Result<()> {
             printed.extend(format!("{operation} {number}:").bytes());
             printed.extend(answer(operation, call));
         }
+        assert!(data.len() < MOST_DATA, "{operation}");
         fs::write(folder.join("data").join(operation), data)?;
     }
     fs::write(folder.join("stdout"), printed)
@@ -105,14 +110,15 @@ fn stored(operation: &str) -> Vec<Call> {
             (bytes("text"), Vec::new())
         };
         let call = Call {
-            sheet: [bytes("sheet"), clauses].concat(),
-            beside: [bytes("case"), bytes("setting"), answer].concat(),
+            sheet: [bytes("sheet"), clauses, bytes("first")].concat(),
+            beside: [bytes("case"), bytes("setting"), answer, bytes("second")].concat(),
             low: number("low") + number("size"),
             high: number("high"),
             work: number("work"),
             output: number("output"),
         };
-        let fits = call.sheet.len() <= MOST_SHEET && call.work <= MOST_WORK && call.output <= MOST_OUTPUT;
+        let longest = call.sheet.len().max(bytes("second").len());
+        let fits = longest <= MOST_SHEET && call.work <= MOST_WORK && call.output <= MOST_OUTPUT;
         fits.then(|| vectors::run(&OPERATIONS, &v).expect("the answer is as stored"))?;
         Some(call)
     });
@@ -147,6 +153,7 @@ fn answer(operation: &str, call: &Call) -> Vec<u8> {
         }
         "judge" => return line(judge(sheet, beside).map_or_else(refusal, |yes| format!(" {}", yes_no(yes)))),
         "explain" => return line(explain(sheet, beside).map_or_else(refusal, explained)),
+        "merge" => return merged(call),
         "write" => write(sheet, call.low, WriteOptions { terms, symmetry }, &mut output).map(written),
         "read_back" => read_back(sheet, call.low, terms, beside, &mut output).map(written),
         "setting" => setting(sheet, beside, &mut output).map(written),
@@ -190,6 +197,24 @@ fn answer(operation: &str, call: &Call) -> Vec<u8> {
     let mut text = line(says);
     // the bytes of a setting are no characters: their sum tells them
     if length <= SHORT && operation != "setting" {
+        text.extend(&output[..length]);
+    }
+    text
+}
+
+/// What is printed of a merge after its number: a refusal's sheet first, where it is about one.
+fn merged(call: &Call) -> Vec<u8> {
+    let mut output = patterned_bytes(call.output);
+    let merged = merge(&call.sheet, &call.beside, &mut output);
+    let length = *merged.as_ref().unwrap_or(&0);
+    assert_eq!(
+        output[length..],
+        patterned_bytes(call.output)[length..],
+        "the rest is unchanged"
+    );
+    let told = |length: usize| format!(" length {length} sum {}", sum(&output[..length]));
+    let mut text = line(merged.map_or_else(merge_refusal, told) + " rest same");
+    if length <= SHORT {
         text.extend(&output[..length]);
     }
     text
@@ -239,6 +264,11 @@ fn refusal(r: Refusal) -> String {
         r.column,
         r.needed
     )
+}
+
+fn merge_refusal(merge: MergeRefusal) -> String {
+    let sheet = merge.sheet.map(|sheet| format!(" sheet {}", sheet.number()));
+    sheet.unwrap_or_default() + &refusal(merge.refusal)
 }
 
 fn yes_no(yes: bool) -> &'static str {

@@ -1,0 +1,12 @@
+pub mod Joining
+pub mod SheetLines
+pub mod SheetRead
+pub mod Moving
+pub mod Among
+pub mod Included
+pub mod Merging
+pub mod Tables
+pub mod Models
+pub mod Examples
+pub mod SectionLines
+pub mod JoinedLines

@@ -1,0 +1,4 @@
+pub mod Runs
+pub mod Joins
+pub mod United
+pub mod Calls
