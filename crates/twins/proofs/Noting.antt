@@ -10,8 +10,7 @@ use lib.Dec.{eqb, leb}
 use lib.ListN.{length, getD, take, set, length-append}
 use lib.Seq.{getD-take, length-take-le, take-suc-set}
 use Rattle.theory.specs.Lists.{all, select, upFrom, upTo}
-use Rattle.theory.specs.Syntax.{function, isFunction, isFromSheet, Signature, symbolAt}
-use Rattle.theory.specs.Syntax as theory
+use Rattle.theory.specs.Syntax.{isFunction, isFromSheet, Signature, symbolAt}
 use Rattle.theory.specs.Propositional.{propBase}
 use Rattle.theory.proofs.Tests.{leb-true, leb-of-≤}
 use Rattle.theory.proofs.Lists.{all-at, all-map, all-select, upTo-all, select-append, upFrom-append, map-all, upTo-all}

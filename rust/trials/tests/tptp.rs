@@ -7,6 +7,7 @@ use nesskettle::raw::{self, WriteAnswer};
 use nesskettle_reference as reference;
 use nesskettle_trials::buffers::{length_around, Lent};
 use nesskettle_trials::draft::{Draft, BROAD, LIMITS, LONG_CLAUSES, SMALL};
+use nesskettle_trials::expected;
 use nesskettle_trials::places::offset;
 use nesskettle_trials::random::Random;
 use nesskettle_trials::tally::Tally;
@@ -17,28 +18,8 @@ use nesskettle_trials::tptp::{layout, limits};
 /// Calls the library, holds its answer and the lent bytes against the reference's, and hands the answer back.
 fn check(tally: &mut Tally, text: &[u8], output_length: usize) -> WriteAnswer {
     let mut should = vec![0; output_length];
-    let (expected, front) = match reference::from_tptp(text, &mut should) {
-        Err(refusal) => (
-            WriteAnswer {
-                outcome: 0,
-                reason: refusal.reason.number(),
-                line: refusal.line,
-                column: refusal.column,
-                length: refusal.needed,
-            },
-            0,
-        ),
-        Ok(length) => (
-            WriteAnswer {
-                outcome: 1,
-                reason: 0,
-                line: 0,
-                column: 0,
-                length: length as u64,
-            },
-            length,
-        ),
-    };
+    let written = reference::from_tptp(text, &mut should);
+    let (expected, front) = expected::text(written, &should);
     let lent = text.to_vec();
     let mut output = Lent::bytes(output_length);
     let out = output.lend();
@@ -46,7 +27,7 @@ fn check(tally: &mut Tally, text: &[u8], output_length: usize) -> WriteAnswer {
     let answer = unsafe { raw::nk_from_tptp(lent.as_ptr(), lent.len(), out.as_mut_ptr(), out.len()) };
     let call = || format!("output {output_length}\n{}", text.escape_ascii());
     assert_eq!(answer, expected, "{}", call());
-    assert!(lent == text && output.holds(&should[..front]), "lent bytes: {}", call());
+    assert!(lent == text && output.holds(front), "lent bytes: {}", call());
     tally.add(outcome(text, &answer), 0);
     answer
 }

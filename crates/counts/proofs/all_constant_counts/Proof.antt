@@ -1,5 +1,5 @@
 -- `all_constant_counts` meets its contract: the first i constants are counted.
-use Prim.Native.Nat.{ℕ, _+_, _-_, _≤_}
+use Prim.Native.Nat.{ℕ, _-_, _≤_}
 use mathlib.Core.Path.{_≡_, subst}
 use native.Mathlib.Omega.{arith}
 use Rattle.counts.specs.Totals.{ConstantsTotal}

@@ -1,6 +1,6 @@
 -- `constant_counts` meets its contract.
 use Prim.Native.Nat.{ℕ, _+_, _-_, _*_, _≤_}
-use mathlib.Core.Path.{_≡_, ap}
+use mathlib.Core.Path.{ap}
 use native.Mathlib.Omega.{arith}
 use Rattle.counts.proofs.Adding.{constant-few}
 use borrow.Author.Needs.{needs}

@@ -14,7 +14,6 @@ use Rattle.twins.proofs.TwinWalk.{range-and-steps}
 use borrow.Author.Needs.{needs}
 use Rattle.twins.proofs.constant_clauses.constant.Statement.{statement}
 use Rattle.twins.proofs.constant_clauses.constant.Tie as tie
-use Rattle.twins.proofs.constant_clauses.constant.Lts as lts
 
 add-smaller : tie.Need-add-smaller
 add-smaller c = search needs
