@@ -37,7 +37,8 @@ enum {
                             output */
     NK_CLAIMED_NONE = 2, /* nk_from_solver: the solver says that there is no model; whether that is so is not checked */
     NK_FOUND = 1,        /* nk_find, nk_find_plain: a model, told there which, stands in the output */
-    NK_NONE = 2          /* nk_find, nk_find_plain: no case of a searched size is a model */
+    NK_NONE = 2,         /* nk_find, nk_find_plain: no case of a searched size is a model */
+    NK_STOPPED = 3       /* nk_find: one choice more is needed than is allowed */
 };
 
 /*
@@ -93,8 +94,11 @@ enum {
     NK_TOO_MANY_HELPERS = 21, /* over 32 helper constants */
 
     /* Two sheets made one; both are about the two together and name no line. */
-    NK_NAMES_DIFFER = 22,   /* a name in both sheets with different kinds or arities */
-    NK_MERGE_TOO_LARGE = 23 /* the merged sheet has over 12 functions, 12 predicates, 64 clauses or 16,384 bytes */
+    NK_NAMES_DIFFER = 22,    /* a name in both sheets with different kinds or arities */
+    NK_MERGE_TOO_LARGE = 23, /* the merged sheet has over 12 functions, 12 predicates, 64 clauses or 16,384 bytes */
+
+    /* The search of nk_find; it names no line, and comes directly after 8. */
+    NK_ALLOWANCE_TOO_LARGE = 24 /* an allowance over 1,000,000 */
 };
 
 /*
@@ -112,9 +116,9 @@ enum {
  * propositional variables and of work, and settings have their cells, but they are never shown in a case. A case and its
  * length are the same with and without them.
  *
- * Some sheets are taken with named terms alone, and some as written alone. Where neither call is refused, nk_find answers
- * the same and leaves the same in the output, `symmetry` being the same. What is said of settings and models at
- * nk_read_back holds in both.
+ * Some sheets are taken with named terms alone, and some as written alone. Where neither call is refused or stopped, nk_find
+ * answers the same, but for the number of choices, and leaves the same in the output, `symmetry` being the same. What is said
+ * of settings and models at nk_read_back holds in both.
  */
 
 /*
@@ -128,9 +132,28 @@ enum {
  * is not d or an earlier constant is d - 1. Helpers are not declared. The clauses count in the number of instances and of
  * work, so that some calls are refused (9, 10) with them alone.
  *
- * Every model has a renumbering that obeys them. So where neither call is refused, nk_find answers none with them exactly where
- * it does without, and finds a model of the same size; it is the same case where all constants are declared before other
- * functions.
+ * Every model has a renumbering that obeys them. So where neither call is refused or stopped, nk_find answers none with them
+ * exactly where it does without, and finds a model of the same size; it is the same case where all constants are declared before
+ * other functions.
+ */
+
+/*
+ * Choices. nk_find takes a number `allowance`, from 0 to 1,000,000: how many choices it may make. The number that it made
+ * is in its answer. Both speak of one walk through the clauses that nk_write writes at a size with the same switches:
+ *
+ *   - Where every literal of a clause is false, the walk has failed. The empty clause fails at once.
+ *   - Else, where one literal of a clause is unset (repeats of it count once) and the rest are false, that literal is forced: its
+ *     variable is set so that it is true.
+ *   - Else, where a variable is unset, also where all clauses are true already, a choice is made: the lowest unset variable is
+ *     set, to yes where it is a function's (a helper's too), to no where it is a predicate's.
+ *   - Else every variable is set: this is the setting of the case that is found.
+ *
+ * A failure goes back to the latest choice whose other value is untried and takes that value, which is no choice; where there
+ * is none, there is no model at the size. Choices count over all sizes from low on. Exactly if one more is needed and none is
+ * left, the answer is NK_STOPPED.
+ *
+ * A larger allowance that is not refused never turns NK_FOUND or NK_NONE into another answer, nor its number into another. The
+ * number depends on `named` and `symmetry`.
  */
 
 /* The answer of nk_read. */
@@ -175,12 +198,13 @@ typedef struct {
 
 /* The answer of nk_find and nk_find_plain. */
 typedef struct {
-    uint32_t outcome; /* NK_FOUND, NK_NONE or NK_REFUSED */
+    uint32_t outcome; /* NK_FOUND, NK_NONE or NK_REFUSED; of nk_find NK_STOPPED too */
     uint32_t reason;
     uint64_t line;
     uint64_t column;
-    uint64_t size;    /* NK_FOUND: the model's size */
+    uint64_t size;    /* NK_FOUND: the model's size; NK_STOPPED: the size at which one more choice is needed */
     uint64_t length;  /* NK_FOUND: the case's length; refused 10 or 11: the length that is needed */
+    uint64_t choices; /* NK_FOUND, NK_NONE, NK_STOPPED: the choices made over all sizes so far; of nk_find_plain 0 */
     uint32_t settled; /* NK_NONE: 1 exactly if low is 1, no function has arity above 0 and high is at least the number
                          of constants; then the sheet has no model of any size, above 8 included; else 0 */
 } nk_find_answer;
@@ -261,22 +285,24 @@ nk_write_answer nk_setting(const uint8_t *sheet, size_t sheet_length,
  * or that no case of these sizes is a model; where that is settled, the sheet has no model of any other size either.
  * Unless `symmetry` is 0, it is the least of those that obey the constant clauses; the size and the answer that there is none
  * are the same.
+ * It makes at most `allowance` choices. Where it is stopped, no case of a searched size below the one that it answers is a
+ * model, and of that size and larger ones nothing is said.
  * The caller lends the work area; what stands in it before does not matter.
- * Afterwards every number of the work area is 0, on both results. Found: the output's first `length` bytes are the
- * case, and the bytes after it are as they were. None: every byte of the output is as it was.
- * Refused: 1 to 7, then 21 (only where terms are named), 8, 9 (at high), 10, 11 (output shorter than a case of size high);
+ * Afterwards every number of the work area is 0, on all three results. Found: the output's first `length` bytes are the
+ * case, and the bytes after it are as they were. None, stopped: every byte of the output is as it was.
+ * Refused: 1 to 7, then 21 (only where terms are named), 8, 24, 9 (at high), 10, 11 (output shorter than a case of size high);
  * every byte of the output and every number of the work area is then as it was.
  */
 nk_find_answer nk_find(const uint8_t *sheet, size_t sheet_length, uint64_t low, uint64_t high, uint32_t named,
-                       uint32_t symmetry,
+                       uint32_t symmetry, uint64_t allowance,
                        uint32_t *work, size_t work_length,
                        uint8_t *output, size_t output_length);
 
 /*
  * The search of nk_find a second time, of terms as written, as on a whiteboard: it fills the cells of a case in order, the
  * least value first, copies the tables before each guess, and judges each full case by truth alone. It makes no clauses and
- * is lent no work area. Where neither call is refused, it answers the same as nk_find with `symmetry` 0 and leaves the same in
- * the output.
+ * is lent no work area. Where neither call is refused and nk_find is not stopped, it answers the same as nk_find with
+ * `symmetry` 0, but that it makes no choices, and leaves the same in the output.
  * Time grows with the number of cases that are tried, at worst all of the searched sizes: at size s a function cell has s
  * values and a predicate cell 2, and the number of cases is their product.
  * Found: the output's first `length` bytes are the case, and the bytes after it are as they were. None: every byte of the

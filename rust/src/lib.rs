@@ -8,7 +8,7 @@
 //! | [`write`] | a sheet's clauses at a size, as DIMACS text |
 //! | [`read_back`] | the case that a setting of the propositional variables stands for |
 //! | [`setting`] | the setting of a case, the other way of [`read_back`] |
-//! | [`find`] | the least model at the smallest size, or that there is none |
+//! | [`find`] | the least model at the smallest size, or that there is none, or that it was stopped |
 //! | [`find_plain`] | the least model too, by filling cells one by one: without clauses, for up to 64 cells |
 //! | [`from_tptp`] | the sheet that a file of TPTP clauses is read into |
 //! | [`from_solver`] | the case that a SAT solver answers, if it is a model; or the solver's claim that there is none |
@@ -16,7 +16,7 @@
 //!
 //! [`write`], [`read_back`] and [`find`] take a sheet's fixed terms as they are written or named, see [`Terms`]. [`write`] and
 //! [`find`] keep or reduce the symmetry between a model and its renumberings, see [`Symmetry`]: [`find`] reduces it by default,
-//! [`write`] does not.
+//! [`write`] does not. [`find`] makes as many choices as its options allow, by default 1,000,000, and says how many it made.
 //!
 //! Every call takes any bytes and numbers. A refused call has changed no lent byte and no lent number.
 
@@ -145,8 +145,11 @@ pub fn setting(sheet: &[u8], case: &[u8], output: &mut [u8]) -> Result<usize, Re
 /// None is settled where low is 1, no function has arguments and high is at least the number of constants; then the
 /// sheet has no model of any size.
 ///
-/// On both results `work` holds zeros. Found, the case stands at the output's front, and the bytes after it are
-/// unchanged; none, the whole output is.
+/// It is stopped exactly if it needs one choice more than are allowed, see [`FindOptions::allowance`], and says at which size:
+/// no case of a smaller searched size is a model. To go on, a search from that size has a whole allowance for it.
+///
+/// On all three results `work` holds zeros. Found, the case stands at the output's front, and the bytes after it are
+/// unchanged; none or stopped, the whole output is.
 pub fn find(
     sheet: &[u8],
     low: u64,
@@ -164,6 +167,7 @@ pub fn find(
             high,
             named(options.terms),
             symmetry(options.symmetry),
+            options.allowance,
             work.as_mut_ptr(),
             work.len(),
             output.as_mut_ptr(),
@@ -173,8 +177,8 @@ pub fn find(
 }
 
 /// The search of [`find`] a second time, as on a whiteboard: it fills the cells of a case in order, the least value first,
-/// and judges each full case by truth alone. Where neither is refused, it answers and leaves the same output as [`find`] with
-/// [`Symmetry::Kept`].
+/// and judges each full case by truth alone. Where neither is refused and [`find`] is not stopped, it answers and leaves the same
+/// output as [`find`] with [`Symmetry::Kept`], but that it makes no choices: their number is 0.
 ///
 /// It makes no clauses and is lent no work area. A sheet with over 64 cells at high is refused; in the worst case every
 /// case of the searched sizes is tried.
@@ -290,9 +294,15 @@ fn searched(answer: raw::FindAnswer) -> Result<Search, Refusal> {
         1 => Ok(Search::Found {
             size: answer.size,
             length: answer.length as usize,
+            choices: answer.choices,
         }),
         2 => Ok(Search::None {
             settled: answer.settled == 1,
+            choices: answer.choices,
+        }),
+        3 => Ok(Search::Stopped {
+            size: answer.size,
+            choices: answer.choices,
         }),
         other => unknown_outcome(other),
     }

@@ -58,6 +58,7 @@ pub struct FindAnswer {
     pub column: u64,
     pub size: u64,
     pub length: u64,
+    pub choices: u64,
     pub settled: u32,
 }
 
@@ -117,6 +118,7 @@ extern "C" {
         high: u64,
         named: u32,
         symmetry: u32,
+        allowance: u64,
         work: *mut u32,
         work_length: usize,
         output: *mut u8,

@@ -460,6 +460,77 @@ fn constant_clauses() {
     );
 }
 
+/// It prints this on standard output, these words on how to go on, and ends with status 4.
+fn stops(arguments: &str, text: &str, words: &str) {
+    let output = run(arguments, "");
+    assert_eq!(String::from_utf8_lossy(&output.stdout), text, "{arguments}");
+    let told = String::from_utf8_lossy(&output.stderr).into_owned();
+    assert_eq!(told, format!("nesskettle: {words}\n"), "{arguments}");
+    assert_eq!(output.status.code(), Some(4), "{arguments}");
+}
+
+const BY_A_SOLVER: &str =
+    "  a SAT solver may be faster: nesskettle clauses SHEET --size 2 --symmetry | cadical -q |\n      \
+                           nesskettle from-solver SHEET --size 2 -";
+
+/// Whether `a` is 1 is the one choice, at size 2; with constant clauses there is none.
+#[test]
+fn an_allowance() {
+    let found = "answer=found\ncase=1\nsize=2\na=1\nb=2\n";
+    for allowance in ["0", "1", "1000000"] {
+        prints(&format!("find two-constants.sheet --allow {allowance}"), "", 0, found);
+    }
+    for allowance in ["1", "2", "1000000"] {
+        let arguments = format!("find two-constants.sheet --no-symmetry --allow {allowance}");
+        prints(&arguments, "", 0, found);
+    }
+    let first = "stopped at size 2: one choice more is needed than the allowance of 0";
+    let from_there = "  no case of size 1 is a model\n  --low 2 --allow N goes on from there, N up to 1000000";
+    let twins = "  without --no-symmetry fewer choices are often enough";
+    let words = [first, from_there, twins, BY_A_SOLVER].join("\n");
+    let arguments = "find two-constants.sheet --no-symmetry --allow 0";
+    stops(arguments, "answer=stopped\nsize=2\n", &words);
+    stops(
+        &format!("{arguments} --tables"),
+        "stopped: more choices are needed at size 2 than are allowed\nno case of size 1 is a model\n",
+        &words,
+    );
+    stops(
+        &format!("{arguments} --szs"),
+        "% SZS status ResourceOut for two-constants.sheet\n% more choices are needed at size 2 than are allowed\n",
+        &words,
+    );
+    stops(
+        &format!("{arguments} --low 2 --tables"),
+        "stopped: more choices are needed at size 2 than are allowed\n",
+        &[first, "  --allow N allows more, N up to 1000000", twins, BY_A_SOLVER].join("\n"),
+    );
+    stops(
+        &format!("{arguments} --named"),
+        "answer=stopped\nsize=2\n",
+        &[first, from_there, twins].join("\n"),
+    );
+    prints(
+        "find two-constants.sheet --no-symmetry --allow 0 --high 1",
+        "",
+        1,
+        "answer=none\nsettled=no\n",
+    );
+}
+
+#[test]
+fn an_allowance_that_is_too_large() {
+    let refused = "nesskettle: refused 24: at most 1,000,000 choices can be allowed\n";
+    for allowance in ["1000001", "4294967296", "18446744073709551615"] {
+        fails(&format!("find two-constants.sheet --allow {allowance}"), "", refused);
+    }
+    fails(
+        "find two-constants.sheet --high 9 --allow 1000001",
+        "",
+        "nesskettle: refused 8: a size must be 1 to 8, and low must not be above high\n",
+    );
+}
+
 /// A million instances without the constant clauses, which are one too many.
 #[test]
 fn constant_clauses_that_are_too_many() {
@@ -812,6 +883,14 @@ fn wrong_calls_are_told() {
         "",
         &format!("nesskettle: --plain and --named are not for one search{more}"),
     );
+    fails(
+        "find group.sheet --plain --allow 3",
+        "",
+        &format!("nesskettle: --plain makes no choices and takes no --allow{more}"),
+    );
+    for call in ["find group.sheet --allow", "find group.sheet --allow -1"] {
+        fails(call, "", &format!("nesskettle: --allow takes a number{more}"));
+    }
     assert_eq!(run("check no-such.sheet", "").status.code(), Some(2));
     assert!(run("--help", "")
         .stdout

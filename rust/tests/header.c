@@ -72,18 +72,33 @@ int main(void) {
     expect(written.outcome == NK_REFUSED && written.reason == NK_BAD_CASE, "a case without its last line is refused");
     expect(written.line == 4 && written.column == 1 && written.length == 0, "where the line is missing");
 
-    nk_find_answer found = nk_find(sheet, sheet_length, 1, 3, 0, 0, work, 1000, output, sizeof output);
+    const uint64_t most = 1000000;
+    nk_find_answer found = nk_find(sheet, sheet_length, 1, 3, 0, 0, most, work, 1000, output, sizeof output);
     expect(found.outcome == NK_FOUND && found.size == 2 && found.settled == 0, "a model of size 2 is found");
     expect(text_is(output, found.length, least), "it is the least one");
-    found = nk_find(sheet, sheet_length, 1, 1, 0, 0, work, 1000, output, sizeof output);
+    expect(found.choices == 1, "that a is 1 is the one choice");
+    found = nk_find(sheet, sheet_length, 1, 3, 0, 0, 1, work, 1000, output, sizeof output);
+    expect(found.outcome == NK_FOUND && found.choices == 1, "one choice is enough");
+    output[0] = 9;
+    work[0] = work[999] = 9;
+    found = nk_find(sheet, sheet_length, 1, 3, 0, 0, 0, work, 1000, output, sizeof output);
+    expect(found.outcome == NK_STOPPED && found.size == 2 && found.choices == 0, "without one it is stopped at size 2");
+    expect(found.reason == 0 && found.length == 0 && found.settled == 0, "which is no refusal and no none");
+    expect(output[0] == 9 && work[0] == 0 && work[999] == 0, "the output is as it was, the work area cleared");
+    found = nk_find(sheet, sheet_length, 1, 9, 0, 0, most + 1, work, 1000, output, sizeof output);
+    expect(found.reason == NK_BAD_SIZE, "sizes are looked at first");
+    found = nk_find(sheet, sheet_length, 1, 3, 0, 0, most + 1, work, 0, output, sizeof output);
+    expect(found.outcome == NK_REFUSED && found.reason == NK_ALLOWANCE_TOO_LARGE, "then the allowance");
+    expect(found.line == 0 && found.column == 0 && found.length == 0 && found.choices == 0, "without a place");
+    found = nk_find(sheet, sheet_length, 1, 1, 0, 0, most, work, 1000, output, sizeof output);
     expect(found.outcome == NK_NONE && found.settled == 0 && found.length == 0, "there is none of size 1");
-    found = nk_find(sheet + 1, sheet_length - 1, 1, 1, 0, 0, work, 1000, output, sizeof output);
+    found = nk_find(sheet + 1, sheet_length - 1, 1, 1, 0, 0, most, work, 1000, output, sizeof output);
     expect(found.reason == NK_LAYOUT && found.line == 1 && found.column == 1, "a sheet without its first byte is refused");
 
     static const char never[] = "sheet=1\nfuns=0\npreds=0\nclauses=1\nclause=\n";
-    found = nk_find((const uint8_t *)never, strlen(never), 1, 1, 0, 1, work, 1000, output, sizeof output);
+    found = nk_find((const uint8_t *)never, strlen(never), 1, 1, 0, 1, most, work, 1000, output, sizeof output);
     expect(found.outcome == NK_NONE && found.settled == 1, "a search from size 1 settles that there is none");
-    found = nk_find((const uint8_t *)never, strlen(never), 2, 3, 0, 0, work, 1000, output, sizeof output);
+    found = nk_find((const uint8_t *)never, strlen(never), 2, 3, 0, 0, most, work, 1000, output, sizeof output);
     expect(found.outcome == NK_NONE && found.settled == 0, "a search from size 2 does not");
 
     static const char terms[] = "sheet=1\nfuns=2\nfun=a/0\nfun=f/1\npreds=1\npred=p/1\nclauses=2\n"
@@ -105,10 +120,10 @@ int main(void) {
     expect(written.reason == NK_BAD_SETTING, "a setting has its bytes");
     written = nk_read_back(deep, deep_length, 2, 0, with_helper, 8, output, sizeof output);
     expect(written.outcome == NK_WRITTEN, "but not where terms stay as written");
-    found = nk_find(deep, deep_length, 1, 2, 256, 0, work, 1000, output, sizeof output);
+    found = nk_find(deep, deep_length, 1, 2, 256, 0, most, work, 1000, output, sizeof output);
     expect(found.outcome == NK_FOUND && found.size == 2, "a model is found");
     expect(text_is(output, found.length, "case=1\nsize=2\na=1\nf=2 1\np=0 1\n"), "it is the least one");
-    found = nk_find(deep, deep_length, 1, 2, 0, 0, work, 1000, output, sizeof output);
+    found = nk_find(deep, deep_length, 1, 2, 0, 0, most, work, 1000, output, sizeof output);
     expect(text_is(output, found.length, "case=1\nsize=2\na=1\nf=2 1\np=0 1\n"), "and the same as written");
     static const char pairs[] = "abcdef";
     char many[1200] = "sheet=1\nfuns=7\nfun=a/0\nfun=b/0\nfun=c/0\nfun=d/0\nfun=e/0\nfun=f/0\nfun=g/2\npreds=1\npred=p/1\n"
@@ -133,9 +148,9 @@ int main(void) {
            "the constant clause comes after those of the cells");
     written = nk_write(mapped, mapped_length, 1, 0, 0, output, sizeof output);
     expect(text_is(output, written.length, "p cnf 2 4\n1 0\n2 0\n-1 1 0\n-2 -1 0\n"), "there is none where it is not asked for");
-    found = nk_find(mapped, mapped_length, 1, 2, 0, 0, work, 1000, output, sizeof output);
+    found = nk_find(mapped, mapped_length, 1, 2, 0, 0, most, work, 1000, output, sizeof output);
     expect(text_is(output, found.length, "case=1\nsize=2\nf=1 1\na=2\n"), "the least model of all has a = 2");
-    found = nk_find(mapped, mapped_length, 1, 2, 0, 1u << 31, work, 1000, output, sizeof output);
+    found = nk_find(mapped, mapped_length, 1, 2, 0, 1u << 31, most, work, 1000, output, sizeof output);
     expect(found.outcome == NK_FOUND && found.size == 2, "with constant clauses the size is the same");
     expect(text_is(output, found.length, "case=1\nsize=2\nf=2 2\na=1\n"), "and a is 1");
 
@@ -143,6 +158,7 @@ int main(void) {
     found = nk_find_plain(sheet, sheet_length, 1, 3, output, sizeof output);
     expect(found.outcome == NK_FOUND && found.size == 2 && found.settled == 0, "the plain search finds a model of size 2");
     expect(text_is(output, found.length, least) && output[22] == 9, "the same, and the byte after it is as it was");
+    expect(found.choices == 0, "it makes no choices");
     found = nk_find_plain(sheet, sheet_length, 1, 3, output, 21);
     expect(found.reason == NK_OUTPUT_TOO_SHORT && found.length == 22, "21 bytes are too few for it");
     found = nk_find_plain((const uint8_t *)never, strlen(never), 1, 1, output, sizeof output);

@@ -98,6 +98,7 @@ fn nothing_is_searched() {
     tells("find - --named", &many, "GaveUp for -");
     tells("find group.sheet --low 0", "", "UsageError for group.sheet");
     tells("find group.sheet --low 3 --high 2", "", "UsageError for group.sheet");
+    tells("find group.sheet --allow 1000001", "", "UsageError for group.sheet");
     fails(
         "find group.sheet --szs --tables",
         "",

@@ -1,4 +1,4 @@
--- One call of each operation: what it was handed, the answer r, and each lent buffer before and after. These records are the promises of the calls, and the theorems
+-- One call of each operation but Find, whose record is `finding/specs/Calls`: what it was handed, the answer r, and each lent buffer before and after. These records are the promises of the calls, and the theorems
 -- on the calls speak of them.
 use Prim.Native.Nat.{ℕ}
 use mathlib.Core.Path.{_≡_}
@@ -7,10 +7,10 @@ use mathlib.Core.Option.{Option}
 use mathlib.Core.List.{List}
 use lib.ListN.{length}
 use Rattle.theory.specs.Refusals.{Answer}
-use Rattle.theory.specs.Operations.{readAnswer, judgeAnswer, Reason, explainAnswer, lengthAnswer, outputAfter, settingText, Search, findAnswer, findWork, findOutput}
+use Rattle.theory.specs.Operations.{readAnswer, judgeAnswer, Reason, explainAnswer, lengthAnswer, outputAfter, settingText, Search, findAnswer, findOutput}
 use Rattle.theory.specs.PlainSearch.{plainResult}
 use Rattle.naming.specs.NamedOperations.{readBackTextIn}
-use Rattle.symmetry.specs.SymmetricOperations.{writtenTextWith, findResultWith}
+use Rattle.symmetry.specs.SymmetricOperations.{writtenTextWith}
 use Rattle.answers.specs.declared.ReadAnswer.{ReadAnswer}
 use Rattle.answers.specs.declared.JudgeAnswer.{JudgeAnswer}
 use Rattle.answers.specs.declared.ExplainAnswer.{ExplainAnswer}
@@ -51,16 +51,6 @@ ReadBackCall sheet size named setting r output output′ = WritingCall (readBack
 -- Setting
 abbrev pub SettingCall : List ℕ → List ℕ → WriteAnswer → List ℕ → List ℕ → Type 0
 SettingCall sheet case r output output′ = WritingCall (settingText sheet case (length output)) r output output′
-
--- a call that searches with this result, or is refused
-pub record SearchingCall (result : Answer Search) (r : FindAnswer) (work work′ output output′ : List ℕ) : Type 0 where
-  pub answer : findIn r ≡ findAnswer result
-  pub worked : work′ ≡ findWork result work
-  pub left : output′ ≡ findOutput result output
-
--- Find; plain, or with named terms; with the constant clauses where `symmetry` says so
-abbrev pub FindCall : List ℕ → ℕ → ℕ → Bool → Bool → FindAnswer → List ℕ → List ℕ → List ℕ → List ℕ → Type 0
-FindCall sheet low high named symmetry r work work′ output output′ = SearchingCall (findResultWith named symmetry sheet low high (length work) (length output)) r work work′ output output′
 
 -- a call that searches with this result and is lent no work area, or is refused
 pub record PlainSearchingCall (result : Answer Search) (r : FindAnswer) (output output′ : List ℕ) : Type 0 where

@@ -6,17 +6,18 @@ use mathlib.Core.List.{List}
 use lib.Dec.{eqb}
 use lib.ListN.{length}
 use Rattle.theory.specs.Refusals.{Answer}
-use Rattle.theory.specs.Operations.{lengthAnswer, outputAfter, settingText, Search, findAnswer, findWork, findOutput}
+use Rattle.theory.specs.Operations.{lengthAnswer, outputAfter, settingText, Search, findAnswer, findOutput}
 use Rattle.theory.specs.PlainSearch.{plainResult}
 use Rattle.naming.specs.NamedOperations.{readBackTextIn}
-use Rattle.symmetry.specs.SymmetricOperations.{writtenTextWith, findResultWith}
+use Rattle.symmetry.specs.SymmetricOperations.{writtenTextWith}
+use Rattle.allowance.specs.AllowedFind.{Within, findWithin, allowedAnswer, allowedOutput, allowedWork}
 use Rattle.tptp.specs.Tptp.{tptpText}
 use Rattle.solver.specs.SolverText.{solverText, solverAnswer, solverOutput}
 use Rattle.sheet_merging.specs.Merging.{mergedText, whichSheet}
 use Rattle.exports.specs.declared.WriteOut.{WriteOut}
 use Rattle.exports.specs.declared.FindOut.{FindOut}
 use Rattle.exports.specs.declared.MergeOut.{MergeOut}
-use Rattle.exports.specs.Layouts.{writeOut, solverOut, mergeOut, findOut}
+use Rattle.exports.specs.Layouts.{writeOut, solverOut, mergeOut, findOut, plainOut}
 
 -- a call that writes this text, or is refused
 pub record WritingExport (text : Answer (List ℕ)) (r : WriteOut) (output output′ : List ℕ) : Type 0 where
@@ -40,18 +41,19 @@ abbrev pub SettingExport : List ℕ → List ℕ → WriteOut → List ℕ → L
 SettingExport sheet case r output output′ = WritingExport (settingText sheet case (length output)) r output output′
 
 -- a call that searches with this result, or is refused
-pub record SearchingExport (result : Answer Search) (r : FindOut) (work work′ output output′ : List ℕ) : Type 0 where
-  pub answer : r ≡ findOut (findAnswer result)
-  pub worked : work′ ≡ findWork result work
-  pub left : output′ ≡ findOutput result output
+pub record SearchingExport (result : Answer (Within Search)) (r : FindOut) (work work′ output output′ : List ℕ) : Type 0 where
+  pub answer : r ≡ findOut (allowedAnswer result)
+  pub worked : work′ ≡ allowedWork result work
+  pub left : output′ ≡ allowedOutput result output
 
 -- Find
-abbrev pub FindExport : List ℕ → ℕ → ℕ → ℕ → ℕ → FindOut → List ℕ → List ℕ → List ℕ → List ℕ → Type 0
-FindExport sheet low high named symmetry r work work′ output output′ = SearchingExport (findResultWith (isOn named) (isOn symmetry) sheet low high (length work) (length output)) r work work′ output output′
+abbrev pub FindExport : List ℕ → ℕ → ℕ → ℕ → ℕ → ℕ → FindOut → List ℕ → List ℕ → List ℕ → List ℕ → Type 0
+FindExport sheet low high named symmetry allowance r work work′ output output′ =
+    SearchingExport (findWithin (isOn named) (isOn symmetry) sheet low high allowance (length work) (length output)) r work work′ output output′
 
 -- Find plain, which is lent no work area
 pub record PlainExport (sheet : List ℕ) (low high : ℕ) (r : FindOut) (output output′ : List ℕ) : Type 0 where
-  pub answer : r ≡ findOut (findAnswer (plainResult sheet low high (length output)))
+  pub answer : r ≡ plainOut (findAnswer (plainResult sheet low high (length output)))
   pub left : output′ ≡ findOutput (plainResult sheet low high (length output)) output
 
 -- From TPTP

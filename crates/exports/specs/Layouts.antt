@@ -4,6 +4,7 @@ use mathlib.Core.Bool.{Bool, true, false, cond}
 use mathlib.Core.Option.{Option, none, some}
 use Rattle.theory.specs.Refusals.{Answer, answer, refused}
 use Rattle.theory.specs.Operations.{Counts, Reason, Found, foundCase, noCase}
+use Rattle.allowance.specs.AllowedFind.{Within, finished, stopped}
 use Rattle.solver.specs.SolverText.{Outcome, modelCase, claimedNone}
 use Rattle.exports.specs.declared.ReadOut.{ReadOut}
 use Rattle.exports.specs.declared.JudgeOut.{JudgeOut}
@@ -54,8 +55,18 @@ solverOut (answer (modelCase n)) = record { outcome = 1; reason = 0; line = 0; c
 solverOut (answer claimedNone) = record { outcome = 2; reason = 0; line = 0; column = 0; length = 0 }
 solverOut (refused r) = record { outcome = 0; reason = r .number; line = r .place .line; column = r .place .column; length = r .needed }
 
--- Find: outcome 1 with size and length, 2 with the mark settled; refused, the needed length
-abbrev pub findOut : Answer Found → FindOut
-findOut (answer (foundCase s n)) = record { outcome = 1; reason = 0; line = 0; column = 0; size = s; length = n; settled = 0 }
-findOut (answer (noCase b)) = record { outcome = 2; reason = 0; line = 0; column = 0; size = 0; length = 0; settled = cond b 1 0 }
-findOut (refused r) = record { outcome = 0; reason = r .number; line = r .place .line; column = r .place .column; size = 0; length = r .needed; settled = 0 }
+-- a result of Find: its outcome, size, length, choices and mark
+abbrev pub resultOut : ℕ → ℕ → ℕ → ℕ → ℕ → FindOut
+resultOut o s n k b = record { outcome = o; reason = 0; line = 0; column = 0; size = s; length = n; choices = k; settled = b }
+
+-- Find: outcome 1 with size and length, 2 with the mark settled, 3 stopped with the size, each with the choices made; refused, the needed length
+abbrev pub findOut : Answer (Within Found) → FindOut
+findOut (answer (finished (foundCase s n) k)) = resultOut 1 s n k 0
+findOut (answer (finished (noCase b) k)) = resultOut 2 0 0 k (cond b 1 0)
+findOut (answer (stopped s k)) = resultOut 3 s 0 k 0
+findOut (refused r) = record { outcome = 0; reason = r .number; line = r .place .line; column = r .place .column; size = 0; length = r .needed; choices = 0; settled = 0 }
+
+-- Find plain: the same, without choices
+abbrev pub plainOut : Answer Found → FindOut
+plainOut (answer f) = findOut (answer (finished f 0))
+plainOut (refused r) = findOut (refused r)

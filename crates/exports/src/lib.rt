@@ -6,6 +6,7 @@ use answers::FindAnswer;
 use answers::JudgeAnswer;
 use answers::ReadAnswer;
 use answers::WriteAnswer;
+use finding::allowed::AllowedAnswer;
 use syntax::limits::Problem;
 use uniting::merge::MergeAnswer;
 ghost use mathlib.Core.Path.{_≡_};
@@ -16,8 +17,9 @@ ghost use Rattle.answers.specs.Calls.{ReasoningCall};
 ghost use Rattle.theory.specs.Refusals.{Answer};
 ghost use Rattle.theory.specs.Operations as theory;
 ghost use Rattle.accepting.specs.Calls.{solverIn};
+ghost use Rattle.finding.specs.Calls.{allowedIn};
 ghost use Rattle.exports.specs.Exported.{FindExport, FromSolverExport, MergeExport, PlainExport, ReadBackExport, SettingExport, TptpExport, WriteExport};
-ghost use Rattle.exports.specs.Layouts.{readOut, judgeOut, explainOut, writeOut, solverOut, mergeOut, findOut};
+ghost use Rattle.exports.specs.Layouts.{readOut, judgeOut, explainOut, writeOut, solverOut, mergeOut, resultOut, findOut, plainOut};
 
 #[repr(C)]
 pub struct ReadOut {
@@ -67,6 +69,7 @@ pub struct FindOut {
     pub column: u64,
     pub size: u64,
     pub length: u64,
+    pub choices: u64,
     pub settled: u32,
 }
 
@@ -233,52 +236,76 @@ pub extern "C" fn nk_find(
     high: u64,
     named: u32,
     symmetry: u32,
+    allowance: u64,
     work: &mut [u32],
     output: &mut [u8],
 ) -> FindOut
-    ensures { λ r. ⌜ FindExport (now (sheet .entry)) low high named symmetry r (now (work .entry)) (now (work .exit)) (now (output .entry)) (now (output .exit)) ⌝ }
+    ensures { λ r. ⌜ FindExport (now (sheet .entry)) low high named symmetry allowance r (now (work .entry)) (now (work .exit)) (now (output .entry)) (now (output .exit)) ⌝ }
 {
-    find_out(nesskettle::find(sheet, low, high, named != 0, symmetry != 0, work, output))
+    let answer = nesskettle::find(
+        sheet,
+        low,
+        high,
+        named != 0,
+        symmetry != 0,
+        allowance,
+        work,
+        output,
+    );
+    find_out(answer)
 }
 
 #[no_mangle]
 pub extern "C" fn nk_find_plain(sheet: &[u8], low: u64, high: u64, output: &mut [u8]) -> FindOut
     ensures { λ r. ⌜ PlainExport (now (sheet .entry)) low high r (now (output .entry)) (now (output .exit)) ⌝ }
 {
-    find_out(nesskettle::find_plain(sheet, low, high, output))
+    plain_out(nesskettle::find_plain(sheet, low, high, output))
 }
 
-fn find_out(answer: FindAnswer) -> FindOut
-    ensures { λ r. ⌜ r ≡ findOut (findIn answer) ⌝ }
+fn find_out(answer: AllowedAnswer) -> FindOut
+    ensures { λ r. ⌜ r ≡ findOut (allowedIn answer) ⌝ }
 {
     match answer {
-        FindAnswer::Found(size, n) => FindOut {
-            outcome: 1,
-            reason: 0,
-            line: 0,
-            column: 0,
-            size,
-            length: n as u64,
-            settled: 0,
-        },
-        FindAnswer::Nothing(settled) => FindOut {
-            outcome: 2,
-            reason: 0,
-            line: 0,
-            column: 0,
-            size: 0,
-            length: 0,
-            settled: number_of(settled),
-        },
-        FindAnswer::Refused(r) => FindOut {
+        AllowedAnswer::Found(size, n, choices) => result_out(1, size, n as u64, choices, 0),
+        AllowedAnswer::Nothing(mark, choices) => result_out(2, 0, 0, choices, number_of(mark)),
+        AllowedAnswer::Stopped(size, choices) => result_out(3, size, 0, choices, 0),
+        AllowedAnswer::Refused(r) => FindOut {
             outcome: 0,
             reason: r.number as u32,
             line: r.line as u64,
             column: r.column as u64,
             size: 0,
             length: r.needed as u64,
+            choices: 0,
             settled: 0,
         },
+    }
+}
+
+// A result of Find.
+fn result_out(outcome: u32, size: u64, length: u64, choices: u64, settled: u32) -> FindOut
+    ensures { λ r. ⌜ r ≡ resultOut outcome size length choices settled ⌝ }
+{
+    FindOut {
+        outcome,
+        reason: 0,
+        line: 0,
+        column: 0,
+        size,
+        length,
+        choices,
+        settled,
+    }
+}
+
+// Find plain makes no choices of Find's kind.
+fn plain_out(answer: FindAnswer) -> FindOut
+    ensures { λ r. ⌜ r ≡ plainOut (findIn answer) ⌝ }
+{
+    match answer {
+        FindAnswer::Found(size, n) => find_out(AllowedAnswer::Found(size, n, 0)),
+        FindAnswer::Nothing(settled) => find_out(AllowedAnswer::Nothing(settled, 0)),
+        FindAnswer::Refused(r) => find_out(AllowedAnswer::Refused(r)),
     }
 }
 

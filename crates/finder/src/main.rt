@@ -1,4 +1,4 @@
-// The finder program: standard input to standard output. What it prints is `program::respond`'s, whose promise is `finder` of `symmetry/specs/FinderProgram`.
+// The finder program: standard input to standard output. What it prints is `program::respond`'s, whose promise is `finder` of `allowance/specs/FinderProgram`.
 use libc::STDIN_FILENO;
 use libc::STDOUT_FILENO;
 

@@ -1,4 +1,4 @@
--- A valuation that was found: it is one of all variables, functional, and is read back as the least model that is searched.
+-- A valuation that was found: it is one of all variables, and functional.
 use Prim.Native.Nat.{ℕ, zero, _<_}
 use mathlib.Core.Path.{_≡_, sym, ap, _∙_}
 use mathlib.Core.Bool.{Bool, true, false, _&&_}
@@ -13,7 +13,6 @@ use Rattle.theory.specs.Propositional.{PropClause, propCount}
 use Rattle.theory.specs.Valuation.{satisfies, isValuation, isFunctional, readBack}
 use Rattle.theory.specs.Problem.{Problem}
 use Rattle.theory.specs.Walk.{yesFirst}
-use Rattle.theory.specs.Claims.Walk.{readBackFound}
 use Rattle.theory.proofs.Tests.{and-left}
 use Rattle.theory.proofs.First.{first-some}
 use Rattle.theory.proofs.Numbering.{widths-total}
@@ -22,7 +21,7 @@ use Rattle.theory.proofs.Encoding.{encoding}
 use Rattle.theory.proofs.Completions.{completions, completion-bits}
 use Rattle.theory.proofs.Walking.{walked-first}
 use Rattle.symmetry.specs.ConstantClauses.{propClausesWith}
-use Rattle.symmetry.specs.Obeying.{obeys, leastWith, searchedWith}
+use Rattle.symmetry.specs.Obeying.{obeys, searchedWith}
 use Rattle.symmetry.proofs.ConstantClauses.{constantClauses}
 
 -- what is known of a valuation that the search at size s found
@@ -30,7 +29,6 @@ pub record FoundAt (used : Bool) (s : ℕ) (p : Problem) (σ : List ℕ) : Type 
   pub sized : length σ ≡ propCount s (p .symbols)
   pub binary : all (λ b. ltb b 2) σ ≡ true
   pub functional : isFunctional s (p .symbols) σ ≡ true
-  pub least : leastWith used s p ≡ some (readBack s (p .symbols) σ)
 
 -- a valuation that satisfies the clauses is functional, with the constant clauses or without
 functional-with : (used : Bool) (s : ℕ) (g : Signature) (cs : List Clause) → zero < s → all (clauseOk g) cs ≡ true → (σ : List ℕ) → isValuation s g σ ≡ true → satisfies σ (propClausesWith used s g cs) ≡ true
@@ -58,5 +56,4 @@ module _ (used : Bool) (s : ℕ) (p : Problem) (pos : zero < s) (ok : all (claus
         sized = l;
         binary = b .1;
         functional = functional-with used s g (p .clauses) pos ok σ i (m .1);
-        least = sym (constantClauses .walk used s p pos ok) ∙ ap (readBackFound s p) e;
       }

@@ -15,6 +15,7 @@ use Rattle.theory.specs.CaseText.{Case, caseLength}
 use Rattle.theory.specs.Cells.{cellKinds, isInterpretation, isModel}
 use Rattle.theory.specs.Least.{candidates, leastModel, withSize}
 use Rattle.theory.specs.Operations.{maxInstances, Search, found, searchOf}
+use Rattle.theory.proofs.Tests.{leb-true, and-left}
 use Rattle.theory.proofs.Answers.{bind-step, bind-refused, check-of-true, check-of-false}
 use Rattle.theory.proofs.Interpretations.{length-interpretation}
 use Rattle.theory.proofs.First.{firstOf-least, first-some}
@@ -24,8 +25,10 @@ use Rattle.naming.specs.NamedOperations.{namedSearchOf, placedIn, modeProblem}
 use Rattle.naming.proofs.Helpers.{shown-declared, shown-whole}
 use Rattle.symmetry.specs.ConstantClauses.{instanceCountWith, literalCountWith, workNeededWith}
 use Rattle.symmetry.specs.Obeying.{obeys, leastObeying, leastWith, smallestWith}
-use Rattle.symmetry.specs.SymmetricOperations.{findResultWith}
-use Rattle.symmetry.proofs.Chains.{findChain, find-chain}
+use Rattle.symmetry.proofs.Searched.{read-in, placed-read}
+use Rattle.allowance.specs.AllowedSearch.{countedSearch, Allowed, answered, stoppedAt, searchWithin}
+use Rattle.allowance.specs.AllowedFind.{maxAllowance, Within, finished, withinIn, findWithin}
+use Rattle.allowance.proofs.Allowance.{allowance}
 use Rattle.syntax.specs.declared.limits.Problem as code
 use Rattle.syntax.specs.declared.signature.Signature.{Signature}
 use Rattle.syntax.specs.Signatures.{signatureIn, withoutHelpers}
@@ -34,7 +37,7 @@ use Rattle.problem.specs.Modes.{Shows}
 use Rattle.finding.specs.Ranges.{areSizes}
 use Rattle.finding.specs.Ending.{foundIn, foundWithin, Ranged, Sizes}
 
-module _ (used : Bool) (p : Problem) (low high work room : ℕ) where
+module _ (used : Bool) (p : Problem) (low high allowance work room : ℕ) where
   abbrev i : ℕ
   i = instanceCountWith used high (p .symbols) (p .clauses)
 
@@ -44,31 +47,39 @@ module _ (used : Bool) (p : Problem) (low high work room : ℕ) where
   abbrev l : ℕ
   l = caseLength high (shownSymbols (p .symbols))
 
-  pub refused-9 : maxInstances < i → foundIn used p low high work room ≡ refused (unplaced 9)
+  pub refused-24 : maxAllowance < allowance → foundIn used p low high allowance work room ≡ refused (unplaced 24)
   unfolding foundIn
-  refused-9 e = bind-refused _ _ (unplaced 9) (check-of-false (leb i maxInstances) (unplaced 9) (lt-leb i maxInstances e))
+  refused-24 e = bind-refused _ _ (unplaced 24) (check-of-false (leb allowance maxAllowance) (unplaced 24) (lt-leb allowance maxAllowance e))
 
-  module _ (few : i ≤ maxInstances) where
-    pub refused-10 : work < w → foundIn used p low high work room ≡ refused (needing 10 w)
+  module _ (allowed : allowance ≤ maxAllowance) where
+    taken : check (leb allowance maxAllowance) (unplaced 24) ≡ answer tt
+    taken = check-of-true (leb allowance maxAllowance) (unplaced 24) (le-leb allowance maxAllowance allowed)
+
+    pub refused-9 : maxInstances < i → foundIn used p low high allowance work room ≡ refused (unplaced 9)
     unfolding foundIn
-    refused-10 e =
-        bind-step _ _ _ _ (check-of-true (leb i maxInstances) (unplaced 9) (le-leb i maxInstances few))
-        (bind-refused _ _ (needing 10 w) (check-of-false (leb w work) (needing 10 w) (lt-leb w work e)))
+    refused-9 e = bind-step _ _ _ _ taken (bind-refused _ _ (unplaced 9) (check-of-false (leb i maxInstances) (unplaced 9) (lt-leb i maxInstances e)))
 
-    module _ (enough : w ≤ work) where
-      pub refused-11 : room < l → foundIn used p low high work room ≡ refused (needing 11 l)
+    module _ (few : i ≤ maxInstances) where
+      pub refused-10 : work < w → foundIn used p low high allowance work room ≡ refused (needing 10 w)
       unfolding foundIn
-      refused-11 e =
-          bind-step _ _ _ _ (check-of-true (leb i maxInstances) (unplaced 9) (le-leb i maxInstances few))
-          (bind-step _ _ _ _ (check-of-true (leb w work) (needing 10 w) (le-leb w work enough))
-          (bind-refused _ _ (needing 11 l) (check-of-false (leb l room) (needing 11 l) (lt-leb l room e))))
+      refused-10 e =
+          bind-step _ _ _ _ taken (bind-step _ _ _ _ (check-of-true (leb i maxInstances) (unplaced 9) (le-leb i maxInstances few))
+          (bind-refused _ _ (needing 10 w) (check-of-false (leb w work) (needing 10 w) (lt-leb w work e))))
 
-      pub searches : l ≤ room → foundIn used p low high work room ≡ foundWithin used p low high work room
-      unfolding foundIn
-      searches e =
-          bind-step _ _ _ _ (check-of-true (leb i maxInstances) (unplaced 9) (le-leb i maxInstances few))
-          (bind-step _ _ _ _ (check-of-true (leb w work) (needing 10 w) (le-leb w work enough))
-          (bind-step _ _ _ _ (check-of-true (leb l room) (needing 11 l) (le-leb l room e)) refl))
+      module _ (enough : w ≤ work) where
+        pub refused-11 : room < l → foundIn used p low high allowance work room ≡ refused (needing 11 l)
+        unfolding foundIn
+        refused-11 e =
+            bind-step _ _ _ _ taken (bind-step _ _ _ _ (check-of-true (leb i maxInstances) (unplaced 9) (le-leb i maxInstances few))
+            (bind-step _ _ _ _ (check-of-true (leb w work) (needing 10 w) (le-leb w work enough))
+            (bind-refused _ _ (needing 11 l) (check-of-false (leb l room) (needing 11 l) (lt-leb l room e)))))
+
+        pub searches : l ≤ room → foundIn used p low high allowance work room ≡ foundWithin used p low high allowance work room
+        unfolding foundIn
+        searches e =
+            bind-step _ _ _ _ taken (bind-step _ _ _ _ (check-of-true (leb i maxInstances) (unplaced 9) (le-leb i maxInstances few))
+            (bind-step _ _ _ _ (check-of-true (leb w work) (needing 10 w) (le-leb w work enough))
+            (bind-step _ _ _ _ (check-of-true (leb l room) (needing 11 l) (le-leb l room e)) refl)))
 
 -- what is found is an interpretation
 least-in-range : (used : Bool) (s : ℕ) (p : Problem) (vs : List ℕ) → leastWith used s p ≡ some vs → isInterpretation s (p .symbols) vs ≡ true
@@ -93,39 +104,54 @@ plain-search used p low high h = go (smallestWith used p low high) refl
     go (some k) e =
         ap (found (k .size)) (sym (shown-whole (k .size) (p .symbols) (k .values) h (length-interpretation (k .size) (p .symbols) (k .values) (smallest-in-range used p low high k e))))
 
+-- with an allowance
+plain-within : (used : Bool) (p : Problem) (low high a : ℕ) → allDeclared (p .symbols) ≡ true → countedSearch used p low high .case ≡ smallestWith used p low high
+    → withinIn false p low high a (searchWithin used p low high a) ≡ withinIn true p low high a (searchWithin used p low high a)
+plain-within used p low high a h plain = go (searchWithin used p low high a) refl
+  where
+    go : (w : Allowed) → searchWithin used p low high a ≡ w → withinIn false p low high a w ≡ withinIn true p low high a w
+    go (stoppedAt s) e = refl
+    go (answered o n) e =
+        let same : o ≡ smallestWith used p low high = allowance used p low high .only a o n e .0 ∙ plain in
+        ap (λ (o : Option Case). finished (searchOf p low high o) n) same
+        ∙ ap (λ (r : Search). finished r n) (plain-search used p low high h)
+        ∙ sym (ap (λ (o : Option Case). finished (namedSearchOf p low high o) n) same)
+
 -- and checked
-plain-found : (used : Bool) (p : Problem) (low high work room : ℕ) → allDeclared (p .symbols) ≡ true
-    → (check (leb (instanceCountWith used high (p .symbols) (p .clauses)) maxInstances) (unplaced 9) >>= λ _. check (leb (workNeededWith used high (p .symbols) (p .clauses)) work) (needing 10 (workNeededWith used high (p .symbols) (p .clauses)))
-    >>= λ _. check (leb (caseLength high (p .symbols)) room) (needing 11 (caseLength high (p .symbols))) >>= λ _. answer (searchOf p low high (smallestWith used p low high)))
-    ≡ foundIn used p low high work room
+plain-found : (used : Bool) (p : Problem) (low high a work room : ℕ) → allDeclared (p .symbols) ≡ true → countedSearch used p low high .case ≡ smallestWith used p low high
+    → (check (leb a maxAllowance) (unplaced 24) >>= λ _. check (leb (instanceCountWith used high (p .symbols) (p .clauses)) maxInstances) (unplaced 9)
+    >>= λ _. check (leb (workNeededWith used high (p .symbols) (p .clauses)) work) (needing 10 (workNeededWith used high (p .symbols) (p .clauses)))
+    >>= λ _. check (leb (caseLength high (p .symbols)) room) (needing 11 (caseLength high (p .symbols))) >>= λ _. answer (withinIn false p low high a (searchWithin used p low high a)))
+    ≡ foundIn used p low high a work room
 unfolding foundIn
-plain-found used p low high work room h =
-    let all : ℕ → Search → Answer Search = λ n r. check (leb (instanceCountWith used high (p .symbols) (p .clauses)) maxInstances) (unplaced 9) >>= λ _.
+plain-found used p low high a work room h plain =
+    let all : ℕ → Within Search → Answer (Within Search) = λ n r. check (leb a maxAllowance) (unplaced 24) >>= λ _. check (leb (instanceCountWith used high (p .symbols) (p .clauses)) maxInstances) (unplaced 9) >>= λ _.
     check (leb (workNeededWith used high (p .symbols) (p .clauses)) work) (needing 10 (workNeededWith used high (p .symbols) (p .clauses))) >>= λ _. check (leb n room) (needing 11 n) >>= λ _. answer r in
-    ap (λ (n : ℕ). all n (searchOf p low high (smallestWith used p low high))) (ap (caseLength high) (sym (shown-declared (p .symbols) h)))
-    ∙ ap (all (caseLength high (shownSymbols (p .symbols)))) (plain-search used p low high h)
+    ap (λ (n : ℕ). all n (withinIn false p low high a (searchWithin used p low high a))) (ap (caseLength high) (sym (shown-declared (p .symbols) h)))
+    ∙ ap (all (caseLength high (shownSymbols (p .symbols)))) (plain-within used p low high a h plain)
 
 -- the whole call, of both modes, told yes or no
-module _ (sheet : List ℕ) (low high work room : ℕ) (used : Bool) where
+module _ (sheet : List ℕ) (low high a work room : ℕ) (used : Bool) where
   -- a sheet that is refused
-  pub result-refused : (named : Bool) (r : Refusal) → placedIn named sheet ≡ refused r → findResultWith named used sheet low high work room ≡ refused r
-  unfolding findChain
-  result-refused named r e = find-chain named used sheet low high work room ∙ bind-refused _ _ r e
+  pub result-refused : (named : Bool) (r : Refusal) → placedIn named sheet ≡ refused r → findWithin named used sheet low high a work room ≡ refused r
+  unfolding findWithin
+  result-refused named r e = bind-refused _ _ r e
 
   module _ (p : Problem) where
     -- one that was read, at what are no sizes
-    pub result-8 : (named : Bool) → placedIn named sheet ≡ answer p → areSizes low high ≡ false → findResultWith named used sheet low high work room ≡ refused (unplaced 8)
-    unfolding findChain
-    result-8 named read e =
-        find-chain named used sheet low high work room ∙ bind-step _ _ _ _ read (bind-refused _ _ (unplaced 8) (check-of-false (areSizes low high) (unplaced 8) e))
+    pub result-8 : (named : Bool) → placedIn named sheet ≡ answer p → areSizes low high ≡ false → findWithin named used sheet low high a work room ≡ refused (unplaced 8)
+    unfolding findWithin
+    result-8 named read e = bind-step _ _ _ _ read (bind-refused _ _ (unplaced 8) (check-of-false (areSizes low high) (unplaced 8) e))
 
     -- and at sizes
     pub result-read : (named : Bool) → placedIn named sheet ≡ answer p → allDeclared (p .symbols) ≡ true → areSizes low high ≡ true
-        → findResultWith named used sheet low high work room ≡ foundIn used (modeProblem named p) low high work room
-    unfolding findChain foundIn
+        → findWithin named used sheet low high a work room ≡ foundIn used (modeProblem named p) low high a work room
+    unfolding findWithin foundIn
     result-read false read h e =
-        find-chain false used sheet low high work room ∙ bind-step _ _ _ _ read (bind-step _ _ _ _ (check-of-true (areSizes low high) (unplaced 8) e) (plain-found used p low high work room h))
-    result-read true read h e = find-chain true used sheet low high work room ∙ bind-step _ _ _ _ read (bind-step _ _ _ _ (check-of-true (areSizes low high) (unplaced 8) e) refl)
+        let pos : 1 ≤ low = leb-true 1 low (and-left (leb 1 low) (leb high 8) (and-left (leb 1 low && leb high 8) (leb low high) e)) in
+        let plain = allowance used p low high .plain pos (read-in false sheet p (placed-read false sheet p read) .sheet .clauses) in
+        bind-step _ _ _ _ read (bind-step _ _ _ _ (check-of-true (areSizes low high) (unplaced 8) e) (plain-found used p low high a work room h plain))
+    result-read true read h e = bind-step _ _ _ _ read (bind-step _ _ _ _ (check-of-true (areSizes low high) (unplaced 8) e) refl)
 
 -- W, as the code has it
 pub work-is : (sheet : List ℕ) (p : code.Problem) (size v i l n : ℕ) → v ≡ propCount size (signatureIn sheet (p .signature))

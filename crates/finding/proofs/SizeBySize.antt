@@ -1,20 +1,19 @@
 -- The sizes from low to high, one after the other: what is left of them gives what all give.
-use Prim.Native.Nat.{ℕ, suc, _-_, _≤_, _<_}
-use mathlib.Core.Path.{_≡_, refl, sym, ap, _∙_}
+use Prim.Native.Nat.{ℕ, suc, _+_, _-_, _≤_, _<_}
+use mathlib.Core.Path.{_≡_, refl, ap, _∙_}
 use mathlib.Core.Bool.{Bool, true}
-use mathlib.Core.Option.{Option, none, some}
+use mathlib.Core.Option.{none, some}
 use mathlib.Core.List.{List}
 use native.Mathlib.Omega.{arith}
 use Rattle.theory.specs.Lists.{all, upFrom}
 use Rattle.theory.specs.Syntax.{clauseOk}
 use Rattle.theory.specs.Problem as theory
-use Rattle.theory.specs.CaseText.{Case, caseLength}
-use Rattle.theory.specs.Least.{orElse, firstOf, withSize}
-use Rattle.theory.specs.Claims.Walk.{readBackFound}
+use Rattle.theory.specs.CaseText.{caseLength}
 use Rattle.theory.proofs.Monotone.{caseLength-grows}
 use Rattle.naming.specs.NamedProblem.{shownSymbols}
-use Rattle.symmetry.specs.Obeying.{leastWith, smallestWith, searchedWith}
 use Rattle.symmetry.proofs.ConstantClauses.{constantClauses}
+use Rattle.allowance.specs.AllowedWalk.{End, ended, stopped, searchedWithin}
+use Rattle.allowance.specs.AllowedSearch.{caseOf, Allowed, answered, stoppedAt, before, sizeWithin, sizesWithin, searchWithin}
 use Rattle.syntax.specs.declared.limits.Problem.{Problem}
 use Rattle.problem.specs.Problems.{problemIn}
 use Rattle.encoding.proofs.Bounds as bounds
@@ -45,36 +44,51 @@ module _ (sheet : List ℕ) (p : Problem) (low high work room : ℕ) (h : Sizes 
   pub size-case : caseLength size (shownSymbols (q .symbols)) ≤ room
   size-case = omega (arith, h .case, caseLength-grows size high below (shownSymbols (q .symbols)))
 
--- The least model that is searched: with the constant clauses, or without.
+before-none : (w : Allowed) → w ≡ before 0 w
+before-none (answered o m) = let e : m ≡ 0 + m = omega arith in ap (answered o) e
+before-none (stoppedAt s) = refl
+
+before-before : (m n : ℕ) (w : Allowed) → before m (before n w) ≡ before (m + n) w
+before-before m n (answered o k) = let e : m + (n + k) ≡ m + n + k = omega arith in ap (answered o) e
+before-before m n (stoppedAt s) = refl
+
+-- The search with an allowance, with the constant clauses or without them.
 module _ (used : Bool) (p : theory.Problem) (high : ℕ) where
-  -- of size s, with its size
-  abbrev at : ℕ → Option Case
-  at s = withSize s (leastWith used s p)
+  -- over the sizes from this one on, with so many choices left
+  abbrev pub remaining : ℕ → ℕ → Allowed
+  remaining size left = sizesWithin used p (upFrom size (suc high - size)) left
 
-  -- at the smallest of the sizes from this one on that has one
-  abbrev pub remaining : ℕ → Option Case
-  remaining size = firstOf at (upFrom size (suc high - size))
+  pub remaining-all : (low a : ℕ) → searchWithin used p low high a ≡ before 0 (remaining low (a - 0))
+  unfolding searchWithin
+  remaining-all low a = let e : a ≡ a - 0 = omega arith in ap (remaining low) e ∙ before-none (remaining low (a - 0))
 
-  pub remaining-all : (low : ℕ) → smallestWith used p low high ≡ remaining low
-  unfolding smallestWith
-  remaining-all low = refl
+  module _ (size made a : ℕ) where
+    -- after the choices made, the rest of the allowance is left for these sizes
+    module _ (le : size ≤ high) where
+      remaining-ends : (e : End) → searchedWithin used size p (a - made) ≡ e
+          → before made (remaining size (a - made)) ≡ before made (sizeWithin size p (a - made) e (remaining (suc size)))
+      remaining-ends e h =
+          let m : suc high - size ≡ suc (suc high - suc size) = omega arith in
+          ap (λ (k : ℕ). before made (sizesWithin used p (upFrom size k) (a - made))) m
+          ∙ ap (λ (e : End). before made (sizeWithin size p (a - made) e (remaining (suc size)))) h
 
-  remaining-more : (size : ℕ) → size ≤ high → remaining size ≡ orElse (at size) (remaining (suc size))
-  remaining-more size le = let e : suc high - size ≡ suc (suc high - suc size) = omega arith in ap (λ (k : ℕ). firstOf at (upFrom size k)) e
+      pub remaining-stopped : searchedWithin used size p (a - made) ≡ stopped → before made (remaining size (a - made)) ≡ stoppedAt size
+      remaining-stopped h = remaining-ends stopped h
 
-  pub remaining-found : (size : ℕ) (vs : List ℕ) → size ≤ high → leastWith used size p ≡ some vs → remaining size ≡ withSize size (leastWith used size p)
-  remaining-found size vs le e =
-      remaining-more size le
-      ∙ ap (λ (o : Option (List ℕ)). orElse (withSize size o) (remaining (suc size))) e
-      ∙ sym (ap (withSize size) e)
+      pub remaining-found : (σ : List ℕ) (n : ℕ) → searchedWithin used size p (a - made) ≡ ended (some σ) n
+          → before made (remaining size (a - made)) ≡ answered (some (caseOf size p σ)) (made + n)
+      remaining-found σ n h = remaining-ends (ended (some σ) n) h
 
-  pub remaining-missed : (size : ℕ) → size ≤ high → leastWith used size p ≡ none → remaining size ≡ remaining (suc size)
-  remaining-missed size le e = remaining-more size le ∙ ap (λ (o : Option (List ℕ)). orElse (withSize size o) (remaining (suc size))) e
+      pub remaining-on : (n : ℕ) → searchedWithin used size p (a - made) ≡ ended none n
+          → before made (remaining size (a - made)) ≡ before (made + n) (remaining (suc size) (a - (made + n)))
+      remaining-on n h =
+          let d : a - made - n ≡ a - (made + n) = omega arith in
+          remaining-ends (ended none n) h
+          ∙ before-before made n (remaining (suc size) (a - made - n))
+          ∙ ap (λ (l : ℕ). before (made + n) (remaining (suc size) l)) d
 
-  pub remaining-none : (size : ℕ) → high < size → remaining size ≡ none
-  remaining-none size lt = let e : suc high - size ≡ 0 = omega arith in ap (λ (k : ℕ). firstOf at (upFrom size k)) e
-
--- a search that finds nothing: there is none
-pub missed : (sheet : List ℕ) (p : Problem) (size n : ℕ) → Searchable sheet p size n → searchedWith (p .symmetry) size (problemIn sheet p) .answer ≡ none → leastWith (p .symmetry) size (problemIn sheet p) ≡ none
-missed sheet p size n h e =
-    sym (constantClauses .walk (p .symmetry) size (problemIn sheet p) (h .positive) (clauses-over sheet p size n h)) ∙ ap (readBackFound size (problemIn sheet p)) e
+    pub remaining-done : high < size → before made (remaining size (a - made)) ≡ answered none made
+    remaining-done lt =
+        let e : suc high - size ≡ 0 = omega arith in
+        let m : made + 0 ≡ made = omega arith in
+        ap (λ (k : ℕ). before made (sizesWithin used p (upFrom size k) (a - made))) e ∙ ap (answered none) m

@@ -12,12 +12,13 @@ use Rattle.theory.specs.Syntax as theory
 use Rattle.theory.specs.Propositional.{propCount}
 use Rattle.theory.specs.Valuation.{isValuation, isFunctional, settingOf}
 use Rattle.theory.specs.CaseText.{caseLength}
-use Rattle.theory.specs.Operations.{over}
+use Rattle.theory.specs.Refusals.{answer}
+use Rattle.theory.specs.Operations.{foundCase, over}
 use Rattle.theory.proofs.Tests.{eqb-of-≡, and-join}
 use Rattle.theory.proofs.Lists.{map-take}
 use Rattle.naming.specs.NamedProblem.{shownSymbols}
 use Rattle.symmetry.specs.Obeying.{searchedWith}
-use Rattle.answers.specs.declared.FindAnswer.the-variants as find
+use Rattle.allowance.specs.AllowedFind.{finished}
 use Rattle.syntax.specs.declared.limits.Problem.{Problem}
 use Rattle.syntax.specs.declared.signature.Signature.{Signature}
 use Rattle.syntax.specs.Signatures.{signatureIn, withoutHelpers}
@@ -30,10 +31,11 @@ use Rattle.reading_back.specs.Settings.{SizedSymbols}
 use Rattle.reading_back.proofs.Fronts.{front-is, front-bits, front-lent, shown-said, shown-long}
 use Rattle.reading_back.proofs.Shown.{readable-first, variables-first}
 use Rattle.finding.specs.Searching.{Searchable}
-use Rattle.finding.specs.Ending.{Ends, foundWithin}
+use Rattle.finding.specs.declared.allowed.AllowedAnswer.the-variants as find
+use Rattle.finding.specs.Ending.{Ends, caseFound}
 use Rattle.finding.proofs.Found.{FoundAt, found-at}
 use Rattle.finding.proofs.SizeBySize.{clauses-over}
-use Rattle.finding.proofs.Endings.{alone, ends-found}
+use Rattle.finding.proofs.Endings.{ends-by}
 
 -- the bits of a search's values
 bits-held : (zs : List ℕ) → bitsHeld [] zs ≡ settingOf zs
@@ -95,13 +97,15 @@ module _ (sheet : List ℕ) (p : Problem) (size : ℕ) (work : List ℕ) (h : Se
   unfolding problemIn
   case-room room l = omega (arith, ap (λ (y : Signature). caseLength size (signatureIn sheet y)) is, ap (caseLength size) (h .shows))
 
-  pub written-ends : (length′ : ℕ) (work′ output output′ : List ℕ) → length′ ≡ caseLength size (signatureIn sheet y) → work′ ≡ replicate (length work) 0
+  pub written-ends : (length′ choices : ℕ) (work′ output output′ : List ℕ) → length′ ≡ caseLength size (signatureIn sheet y) → work′ ≡ replicate (length work) 0
       → output′ ≡ over (caseSaid sheet y size (bitsHeld [] (take (n .count) work))) output
-      → Ends (foundWithin (p .symmetry) (problemIn sheet p) size size) (find.Found size length′) work work′ output output′
+      → Ends (λ _ _. answer (caseFound (problemIn sheet p) size (take (variablesOf sheet p size) work) choices)) (find.Found size length′ choices) work work′ output output′
   unfolding problemIn
-  written-ends length′ work′ output output′ l w o =
-      ends-found (p .symmetry) (problemIn sheet p) size size work work′ output output′ size length′ σ found (l ∙ shown-long sheet (p .signature) size σ symbols y is valuation functional) w
+  written-ends length′ choices work′ output output′ l w o =
+      let it = answer (caseFound (problemIn sheet p) size (take (variablesOf sheet p size) work) choices) in
+      ends-by (λ _ _. it) (find.Found size length′ choices) work work′ output output′ it refl
+      (ap (λ (k : ℕ). answer (finished (foundCase size k) choices)) (l ∙ shown-long sheet (p .signature) size σ symbols y is valuation functional))
+      w
       (o
       ∙ ap (λ (τ : List ℕ). over (caseSaid sheet y size τ) output) (values-are ∙ front-is sheet y size σ lent n numbering)
       ∙ ap (λ (t : List ℕ). over t output) (shown-said sheet (p .signature) size σ symbols y is valuation functional))
-      (alone (p .symmetry) (problemIn sheet p) size _ (found .least))

@@ -1,3 +1,4 @@
+pub mod Calls
 pub mod Searching
 pub mod Ranges
 pub mod Ending

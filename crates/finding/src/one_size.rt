@@ -3,6 +3,7 @@ use crate::first_values::prefer_all;
 use encoding::all_clauses;
 use loading::bounds;
 use loading::clear_all;
+use search::Outcome;
 use search::solve;
 use stream::consumer::Mode;
 use stream::consumer::Progress;
@@ -14,13 +15,13 @@ ghost use mathlib.Core.List.{List};
 ghost use Prim.Native.Nat.{ℕ};
 ghost use lib.ListN.{length, take};
 ghost use Rattle.theory.specs.Walk.{yesFirst};
-ghost use Rattle.symmetry.specs.Obeying.{searchedWith};
+ghost use Rattle.allowance.specs.AllowedWalk.{searchedWithin};
 ghost use Rattle.syntax.specs.Signatures.{signatureIn};
 ghost use Rattle.propagation.specs.WorkArea.{Loaded};
 ghost use Rattle.loading.specs.Loading.{Tallied, Entered};
 ghost use Rattle.stream.specs.Literals.{allCodes};
 ghost use Rattle.problem.specs.Problems.{problemIn};
-ghost use Rattle.search.specs.Search.{searchAnswer};
+ghost use Rattle.search.specs.Search.{endOf};
 ghost use Rattle.valuations.specs.Numbers.{NumberingOf};
 ghost use Rattle.finding.specs.Searching.{Searchable, sheetClauses};
 
@@ -96,18 +97,19 @@ fn load(sheet: &[u8], p: Problem, n: Numbering, size: DomainSize, work: &mut [u3
     m
 }
 
-// Whether the problem has a model at the size, whose valuation the first numbers of the work area then are.
+// Searches the problem at the size with so many choices allowed. Where it has a model, the first numbers of the work area are the valuation of the least.
 pub fn search_size(
     sheet: &[u8],
     p: Problem,
     n: Numbering,
     size: DomainSize,
+    allowed: u64,
     work: &mut [u32],
-) -> bool
+) -> Outcome
     requires { ⌜ Searchable (now sheet) p (size .0) (length (now work)) ⌝ }
     requires { ⌜ ((text : List ℕ) → NumberingOf (signatureIn text (p .signature)) (size .0) n) ⌝ }
-    ensures { λ r. ⌜ searchedWith (p .symmetry) (size .0) (problemIn (now (sheet .entry)) p) .answer ≡ searchAnswer r (take (n .count) (now (work .exit))) ⌝ }
+    ensures { λ r. ⌜ searchedWithin (p .symmetry) (size .0) (problemIn (now (sheet .entry)) p) allowed ≡ endOf r (take (n .count) (now (work .exit))) ⌝ }
 {
     let m = load(sheet, p, n, size, work);
-    solve(work, n.count as usize, m)
+    solve(work, n.count as usize, m, allowed)
 }

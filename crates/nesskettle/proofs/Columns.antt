@@ -36,8 +36,9 @@ use Rattle.naming.specs.NamedReading.{namedColumn, placedNamed}
 use Rattle.naming.specs.NamedOperations.{namedReadBackText, placedIn, modeProblem, readBackTextIn}
 use Rattle.naming.proofs.NamedFaults.{named-fault, named-told}
 use Rattle.symmetry.specs.ConstantClauses.{propClausesWith, instanceCountWith, workNeededWith}
-use Rattle.symmetry.specs.SymmetricOperations.{shownIn, writtenTextWith, findResultWith}
-use Rattle.symmetry.proofs.Chains.{contentChain, writeChain, findChain, write-chain, find-chain}
+use Rattle.symmetry.specs.SymmetricOperations.{shownIn, writtenTextWith}
+use Rattle.symmetry.proofs.Chains.{contentChain, writeChain, write-chain}
+use Rattle.allowance.specs.AllowedFind.{maxAllowance, findWithin}
 use Rattle.solver.specs.Replies.{Reply, claimsNone, states, readReply}
 use Rattle.solver.specs.SolverText.{Outcome, modelCase, claimedNone, statedCase, outcomeOf, solverText, solverAnswer}
 use Rattle.sheet_merging.specs.Sheets.{Sheet, sheetOf, textOf}
@@ -45,6 +46,7 @@ use Rattle.sheet_merging.specs.Merging.{mergedSheet, agree, withinSheet, merged
 use Rattle.sheet_merging.proofs.Merging.{merging}
 use Rattle.nesskettle.proofs.Leaving.{refused-text}
 use Rattle.nesskettle.specs.Columns.{InSheet, OfTheSheet, OfTheCase, NoPlace, OfTwoSheets, inFirst, inSecond, inNeither, Columns}
+use Rattle.nesskettle.proofs.Unstopped.{allowed-refused}
 
 -- the sheet's refusal
 module _ (sheet : List ℕ) (q : Refusal) (e : placedProblem sheet ≡ refused q) where
@@ -171,15 +173,16 @@ write-placed named symmetry sheet size room q e =
     let text : List ℕ = dimacs (propCount size (m .symbols)) (propClausesWith symmetry size (m .symbols) (m .clauses)) in
     checked named sheet (leb (length text) room) (needing 11 (length text)) _ q (refl, refl) e₁ λ e₂. absurd (answer≢refused text q e₂)
 
-find-placed : (named symmetry : Bool) (sheet : List ℕ) (low high work room : ℕ) (q : Refusal) → findResultWith named symmetry sheet low high work room ≡ refused q → Placed named sheet q
-unfolding findChain
-find-placed named symmetry sheet low high work room q e =
-    unrefused (placedIn named sheet) _ q (sym (find-chain named symmetry sheet low high work room) ∙ e) (sheet-placed named sheet q) λ (p : Problem) _ e₁.
+find-placed : (named symmetry : Bool) (sheet : List ℕ) (low high a work room : ℕ) (q : Refusal) → findWithin named symmetry sheet low high a work room ≡ refused q → Placed named sheet q
+unfolding findWithin
+find-placed named symmetry sheet low high a work room q e =
+    unrefused (placedIn named sheet) _ q e (sheet-placed named sheet q) λ (p : Problem) _ e₁.
     let m : Problem = modeProblem named p in
     let w : ℕ = workNeededWith symmetry high (m .symbols) (m .clauses) in
     let n : ℕ = caseLength high (shownIn named (m .symbols)) in
     checked named sheet (leb 1 low && leb high maxSize && leb low high) (unplaced 8) _ q (refl, refl) e₁ λ e₂.
-    checked named sheet (leb (instanceCountWith symmetry high (m .symbols) (m .clauses)) maxInstances) (unplaced 9) _ q (refl, refl) e₂ λ e₃.
+    checked named sheet (leb a maxAllowance) (unplaced 24) _ q (refl, refl) e₂ λ e₀.
+    checked named sheet (leb (instanceCountWith symmetry high (m .symbols) (m .clauses)) maxInstances) (unplaced 9) _ q (refl, refl) e₀ λ e₃.
     checked named sheet (leb w work) (needing 10 w) _ q (refl, refl) e₃ λ e₄.
     checked named sheet (leb n room) (needing 11 n) _ q (refl, refl) e₄ λ e₅. absurd (answer≢refused _ q e₅)
 
@@ -275,7 +278,7 @@ outcome-refused (answer claimedNone) q e = absurd (answer≢refused _ q e)
 outcome-refused (refused p) q e = ap refused (refused-inj p q e)
 
 -- a search whose answer is refused is refused
-pub search-refused : (a : Answer Search) (q : Refusal) → findAnswer a ≡ refused q → a ≡ refused q
+search-refused : (a : Answer Search) (q : Refusal) → findAnswer a ≡ refused q → a ≡ refused q
 search-refused (answer (found s t)) q e = absurd (answer≢refused _ q e)
 search-refused (answer (nothing b)) q e = absurd (answer≢refused _ q e)
 search-refused (refused p) q e = ap refused (refused-inj p q e)
@@ -289,7 +292,7 @@ columns-of-calls =
       write = λ sheet size named symmetry r output output′ c q e. write-placed named symmetry sheet size (length output) q (refused-text _ q (sym (c .answer) ∙ e));
       readBack = λ sheet size named setting r output output′ c q e. read-back-placed-in named sheet size setting (length output) q (refused-text _ q (sym (c .answer) ∙ e));
       setting = λ sheet case r output output′ c q e. setting-placed sheet case (length output) q (refused-text _ q (sym (c .answer) ∙ e));
-      find = λ sheet low high named symmetry r work work′ output output′ c q e. find-placed named symmetry sheet low high (length work) (length output) q (search-refused _ q (sym (c .answer) ∙ e));
+      find = λ sheet low high named symmetry a r work work′ output output′ c q e. find-placed named symmetry sheet low high a (length work) (length output) q (allowed-refused _ q (sym (c .answer) ∙ e));
       findPlain = λ sheet low high r output output′ c q e. plain-placed sheet low high (length output) q (search-refused _ q (sym (c .answer) ∙ e));
       fromSolver = λ sheet size text r output output′ c q e. solver-placed sheet size text (length output) q (outcome-refused _ q (sym (c .answer) ∙ e));
       merge = λ first second r output output′ c q e. merge-placed first second (length output) q (refused-text _ q (sym (c .call .answer) ∙ e)) (r .sheet) (c .sheet);

@@ -19,7 +19,7 @@ use Rattle.theory.specs.Problem.{Problem}
 use Rattle.theory.specs.Columns.{placedProblem, placedCase}
 use Rattle.theory.specs.SheetText.{sheetText}
 use Rattle.theory.specs.CaseText.{caseLength}
-use Rattle.theory.specs.Operations.{maxSize, maxInstances, isSize, readAnswer, judgeAnswer, explainAnswer, lengthAnswer, outputAfter, readBackText, settingText, Search, found, nothing, findAnswer, findWork, findOutput}
+use Rattle.theory.specs.Operations.{maxSize, maxInstances, isSize, readAnswer, judgeAnswer, explainAnswer, lengthAnswer, outputAfter, readBackText, settingText, Search, found, nothing, findAnswer, findOutput}
 use Rattle.theory.specs.PlainSearch.{maxPlainCells, plainResult}
 use Rattle.theory.proofs.Tests.{leb-true, eqb-true, and-left, and-right, or-cases, or-left, or-right}
 use Rattle.theory.proofs.Lists.{elem-append, upFrom-elem}
@@ -32,8 +32,10 @@ use Rattle.naming.specs.NamedReading.{placedNamed}
 use Rattle.naming.specs.NamedOperations.{namedReadBackText, placedIn, modeProblem, readBackTextIn}
 use Rattle.naming.proofs.NamedFaults.{named-refusal, named-told}
 use Rattle.symmetry.specs.ConstantClauses.{propClausesWith, instanceCountWith, workNeededWith}
-use Rattle.symmetry.specs.SymmetricOperations.{shownIn, writtenTextWith, findResultWith}
-use Rattle.symmetry.proofs.Chains.{contentChain, writeChain, findChain, write-chain, find-chain}
+use Rattle.symmetry.specs.SymmetricOperations.{shownIn, writtenTextWith}
+use Rattle.symmetry.proofs.Chains.{contentChain, writeChain, write-chain}
+use Rattle.allowance.specs.AllowedFind as allowance
+use Rattle.allowance.specs.AllowedFind.{maxAllowance, finished, stopped, findWithin, allowedAnswer, allowedOutput, allowedWork}
 use Rattle.tptp.specs.Symbols.{problemOf}
 use Rattle.tptp.specs.Places.{placeOf}
 use Rattle.tptp.specs.Tptp.{readFile, clausesOfFile, Fault, faults, sheetIn, tptpText}
@@ -46,7 +48,9 @@ use Rattle.accepting.specs.Calls.{solverIn, OutcomeCall}
 use Rattle.answers.specs.declared.WriteAnswer.{WriteAnswer}
 use Rattle.answers.specs.declared.FindAnswer.{FindAnswer}
 use Rattle.answers.specs.Answers.{lengthIn, findIn}
-use Rattle.answers.specs.Calls.{WritingCall, SearchingCall, PlainSearchingCall}
+use Rattle.answers.specs.Calls.{WritingCall, PlainSearchingCall}
+use Rattle.finding.specs.declared.allowed.AllowedAnswer.{AllowedAnswer}
+use Rattle.finding.specs.Calls.{allowedIn, AllowedCall}
 use Rattle.nesskettle.specs.Demand1.{readNumbers, judgeNumbers, writeNumbers, readBackNumbers, settingNumbers, findNumbers, plainNumbers, tptpNumbers, solverNumbers, mergeNumbers, numbersIn, NumberOf, ResultOr, Demand1}
 use Rattle.nesskettle.proofs.TptpNumbers.{isTptpNumber, text-numbers}
 
@@ -171,16 +175,17 @@ module _ (named symmetry : Bool) (sheet : List ℕ) (numbers : List ℕ) (sheets
       let n : ℕ = length (dimacs (propCount size (m .symbols)) (propClausesWith symmetry size (m .symbols) (m .clauses))) in
       checks numbers (leb n room) (needing 11 n) _ eleven (ends numbers _)
 
-  find-within : elem 10 numbers ≡ true → (low high work room : ℕ) → Within numbers (findChain named symmetry sheet low high work room)
-  unfolding findChain
-  find-within ten low high work room =
+  find-within : elem 10 numbers ≡ true → elem 24 numbers ≡ true → (low high a work room : ℕ) → Within numbers (findWithin named symmetry sheet low high a work room)
+  unfolding findWithin
+  find-within ten twenty-four low high a work room =
       then numbers _ _ sheets λ (p : Problem).
       let m : Problem = modeProblem named p in
       let w : ℕ = workNeededWith symmetry high (m .symbols) (m .clauses) in
       let n : ℕ = caseLength high (shownIn named (m .symbols)) in
       checks numbers (leb 1 low && leb high maxSize && leb low high) (unplaced 8) _ eight
+      (checks numbers (leb a maxAllowance) (unplaced 24) _ twenty-four
       (checks numbers (leb (instanceCountWith symmetry high (m .symbols) (m .clauses)) maxInstances) (unplaced 9) _ nine
-      (checks numbers (leb w work) (needing 10 w) _ ten (checks numbers (leb n room) (needing 11 n) _ eleven (ends numbers _))))
+      (checks numbers (leb w work) (needing 10 w) _ ten (checks numbers (leb n room) (needing 11 n) _ eleven (ends numbers _)))))
 
 -- in either mode
 write-within-in : (named symmetry : Bool) (sheet : List ℕ) (size room : ℕ) → Within (numbersIn named writeNumbers) (writtenTextWith named symmetry sheet size room)
@@ -191,13 +196,11 @@ write-within-in true symmetry sheet size room =
     subst (Within (numbersIn true writeNumbers)) (sym (write-chain true symmetry sheet size room))
     (write-within true symmetry sheet (numbersIn true writeNumbers) (named-within (8 ∷ 9 ∷ 11 ∷ 21 ∷ []) refl sheet) refl refl refl size room)
 
-find-within-in : (named symmetry : Bool) (sheet : List ℕ) (low high work room : ℕ) → Within (numbersIn named findNumbers) (findResultWith named symmetry sheet low high work room)
-find-within-in false symmetry sheet low high work room =
-    subst (Within findNumbers) (sym (find-chain false symmetry sheet low high work room))
-    (find-within false symmetry sheet findNumbers (sheet-within (8 ∷ 9 ∷ 10 ∷ 11 ∷ []) sheet) refl refl refl refl low high work room)
-find-within-in true symmetry sheet low high work room =
-    subst (Within (numbersIn true findNumbers)) (sym (find-chain true symmetry sheet low high work room))
-    (find-within true symmetry sheet (numbersIn true findNumbers) (named-within (8 ∷ 9 ∷ 10 ∷ 11 ∷ 21 ∷ []) refl sheet) refl refl refl refl low high work room)
+find-within-in : (named symmetry : Bool) (sheet : List ℕ) (low high a work room : ℕ) → Within (numbersIn named findNumbers) (findWithin named symmetry sheet low high a work room)
+find-within-in false symmetry sheet low high a work room =
+    find-within false symmetry sheet findNumbers (sheet-within (8 ∷ 9 ∷ 10 ∷ 11 ∷ 24 ∷ []) sheet) refl refl refl refl refl low high a work room
+find-within-in true symmetry sheet low high a work room =
+    find-within true symmetry sheet (numbersIn true findNumbers) (named-within (8 ∷ 9 ∷ 10 ∷ 11 ∷ 24 ∷ 21 ∷ []) refl sheet) refl refl refl refl refl low high a work room
 
 read-back-within-in : (named : Bool) (sheet : List ℕ) (size : ℕ) (setting : List ℕ) (room : ℕ) → Within (numbersIn named readBackNumbers) (readBackTextIn named sheet size setting room)
 read-back-within-in false sheet size setting room = read-back-within sheet size setting room
@@ -274,15 +277,16 @@ writing-kept numbers text r output output′ w h = subst (ResultOr (λ q. Number
     go (refused q) l h = (h q refl, l)
 
 -- a refused search leaves work and output as they were
-searching-kept : (numbers : List ℕ) (result : Answer Search) (r : FindAnswer) (work work′ output output′ : List ℕ) → SearchingCall result r work work′ output output′ → Within numbers result
-    → ResultOr (λ q. NumberOf numbers q × (work′ ≡ work) × (output′ ≡ output)) (findIn r)
+searching-kept : (numbers : List ℕ) (result : Answer (allowance.Within Search)) (r : AllowedAnswer) (work work′ output output′ : List ℕ) → AllowedCall result r work work′ output output′ → Within numbers result
+    → ResultOr (λ q. NumberOf numbers q × (work′ ≡ work) × (output′ ≡ output)) (allowedIn r)
 searching-kept numbers result r work work′ output output′ f h =
     subst (ResultOr (λ q. NumberOf numbers q × (work′ ≡ work) × (output′ ≡ output))) (sym (f .answer)) (go result (f .worked) (f .left) h)
   where
-    go : (result : Answer Search) → work′ ≡ findWork result work → output′ ≡ findOutput result output → Within numbers result
-        → ResultOr (λ q. NumberOf numbers q × (work′ ≡ work) × (output′ ≡ output)) (findAnswer result)
-    go (answer (found s t)) w l h = tt
-    go (answer (nothing b)) w l h = tt
+    go : (result : Answer (allowance.Within Search)) → work′ ≡ allowedWork result work → output′ ≡ allowedOutput result output → Within numbers result
+        → ResultOr (λ q. NumberOf numbers q × (work′ ≡ work) × (output′ ≡ output)) (allowedAnswer result)
+    go (answer (finished (found s t) n)) w l h = tt
+    go (answer (finished (nothing b) n)) w l h = tt
+    go (answer (stopped s n)) w l h = tt
     go (refused q) w l h = (h q refl, w, l)
 
 -- a refused search that is lent no work leaves the output as it was
@@ -318,9 +322,9 @@ demand1-of-calls =
           writing-kept (numbersIn named readBackNumbers) (readBackTextIn named sheet size setting (length output)) r output output′ c (read-back-within-in named sheet size setting (length output));
       setting = λ sheet case r output output′ c.
           writing-kept settingNumbers (settingText sheet case (length output)) r output output′ c (setting-within sheet case (length output));
-      find = λ sheet low high named symmetry r work work′ output output′ c.
-          searching-kept (numbersIn named findNumbers) (findResultWith named symmetry sheet low high (length work) (length output)) r work work′ output output′ c
-          (find-within-in named symmetry sheet low high (length work) (length output));
+      find = λ sheet low high named symmetry a r work work′ output output′ c.
+          searching-kept (numbersIn named findNumbers) (findWithin named symmetry sheet low high a (length work) (length output)) r work work′ output output′ c
+          (find-within-in named symmetry sheet low high a (length work) (length output));
       findPlain = λ sheet low high r output output′ c. plain-kept plainNumbers (plainResult sheet low high (length output)) r output output′ c (plain-within sheet low high (length output));
       fromTptp = λ text r output output′ c. writing-kept tptpNumbers (tptpText text (length output)) r output output′ c (tptp-within text (length output));
       fromSolver = λ sheet size text r output output′ c. outcome-kept solverNumbers (solverText sheet size text (length output)) r output output′ c (solver-within sheet size text (length output));

@@ -27,12 +27,14 @@ use Rattle.answers.specs.declared.WriteAnswer.{WriteAnswer}
 use Rattle.answers.specs.declared.FindAnswer.{FindAnswer}
 use Rattle.answers.specs.declared.FindAnswer.the-variants.{Found, Nothing, Refused}
 use Rattle.answers.specs.Answers.{refusalIn, judgeIn, findIn}
-use Rattle.answers.specs.Calls.{JudgeCall, WriteCall, SearchingCall, FindCall}
+use Rattle.answers.specs.Calls.{JudgeCall, WriteCall}
 use Rattle.nesskettle.specs.Texts.{clausesText}
 use Rattle.nesskettle.specs.Leaving.{Leaves}
 use Rattle.nesskettle.specs.Models.{IsTrue}
+use Rattle.nesskettle.specs.Unstopped.{UnstoppedCall}
 use Rattle.nesskettle.specs.Demand2.{CaseOf, Judges, Writes, NoModel, LeastModel, Finds, Demand2}
 use Rattle.nesskettle.proofs.Leaving.{left-text}
+use Rattle.nesskettle.proofs.Unstopped.{SearchingCall, unstopped, found-taken, none-taken}
 use Rattle.nesskettle.proofs.Models.{true-if-model, model-if-true, judged-is-model, model-is-judged, sheet-model-is, is-sheet-model}
 
 -- Judge's answers
@@ -183,21 +185,24 @@ case-stands result r work work′ output output′ f size n e =
     )
 
 module _ (sheet : List ℕ) (p : Problem) (low high : ℕ) (named : Bool) (read : readProblemIn named sheet ≡ answer p) (r : FindAnswer) (work work′ output output′ : List ℕ)
-    (f : FindCall sheet low high named false r work work′ output output′) where
+    (f : UnstoppedCall sheet low high named false r work work′ output output′) where
   abbrev result : Answer Search
   result = findResultIn named sheet low high (length work) (length output)
+
+  call : ((q : answers.Refusal) → r ≡ Refused q → ⊥) → SearchingCall result r work work′ output output′
+  call = unstopped sheet low high named false r work work′ output output′ f
 
   d : Searched p low high result
   d = searched-in named sheet p low high (length work) (length output) read
 
   find-found : (size n : ℕ) → r ≡ Found size n → LeastModel p low high size (take n output′)
-  find-found size n e = let c = case-stands result r work work′ output output′ f size n e in rw (sym (c .2)) at (d .least size (c .0) (c .1))
+  find-found size n e = let c = case-stands result r work work′ output output′ (call (found-taken r size n e)) size n e in rw (sym (c .2)) at (d .least size (c .0) (c .1))
 
   finds : Finds p low high r output′
   finds =
       record {
         found = find-found;
-        saysNone = λ b e. d .none b (no-case result b (sym (f .answer) ∙ ap findIn e));
+        saysNone = λ b e. d .none b (no-case result b (sym (call (none-taken r b e) .answer) ∙ ap findIn e));
         noneIf = go r refl;
       }
     where

@@ -13,9 +13,9 @@ use Rattle.symmetry.proofs.Switches.{switches}
 use Rattle.answers.specs.declared.FindAnswer.{FindAnswer}
 use Rattle.answers.specs.declared.FindAnswer.the-variants as call
 use Rattle.answers.specs.Answers.{refusalIn, findIn}
-use Rattle.answers.specs.Calls.{SearchingCall}
 use Rattle.nesskettle.specs.SameAnswers.{NotRefused}
 use Rattle.nesskettle.specs.Named.{AnswersAlike, NamedAnswersHold}
+use Rattle.nesskettle.proofs.Unstopped.{SearchingCall, unstopped}
 use Rattle.nesskettle.proofs.Demand2.{case-stands}
 use Rattle.nesskettle.proofs.SameAnswers.{taken}
 
@@ -48,7 +48,9 @@ pub named-answers-of-calls : NamedAnswersHold
 named-answers-of-calls sheet low high symmetry r work work′ output output′ f h s area area′ other other′ g k =
     let a : Answer Search = findResultWith false symmetry sheet low high (length work) (length output) in
     let b : Answer Search = findResultWith true symmetry sheet low high (length area) (length other) in
-    let x = taken a r (f .answer) h in
-    let y = taken b s (g .answer) k in
+    let c = unstopped sheet low high false symmetry r work work′ output output′ f h in
+    let d = unstopped sheet low high true symmetry s area area′ other other′ g k in
+    let x = taken a r (c .answer) h in
+    let y = taken b s (d .answer) k in
     let same : x .0 ≡ y .0 = switches .sameInBothModes symmetry sheet low high (length work) (length output) (length area) (length other) (x .0) (y .0) (x .1) (y .1) in
-    alike a b (x .1 ∙ ap answer same ∙ sym (y .1)) r work work′ output output′ f h s area area′ other other′ g
+    alike a b (x .1 ∙ ap answer same ∙ sym (y .1)) r work work′ output output′ c h s area area′ other other′ d

@@ -2,7 +2,7 @@
 use Prim.Native.Nat.{ℕ}
 use mathlib.Core.Path.{_≡_, refl, sym, ap, _∙_}
 use mathlib.Core.Logic.{_⊎_, inl, inr}
-use mathlib.Core.Bool.{Bool}
+use mathlib.Core.Bool.{Bool, false}
 use mathlib.Core.List.{List}
 use native.Mathlib.Omega.{arith}
 use lib.ListN.{length, take, drop}
@@ -18,6 +18,7 @@ use Rattle.answers.specs.declared.FindAnswer.{FindAnswer}
 use Rattle.answers.specs.declared.FindAnswer.the-variants as find
 use Rattle.answers.specs.Answers.{refusalIn, findIn}
 use Rattle.nesskettle.specs.SameAnswers.{NotRefused, LeavesFound, SameCase, SameMark, SameAnswersHold}
+use Rattle.nesskettle.proofs.Unstopped.{SearchingCall, unstopped}
 
 -- a result is what is found of the problem that the sheet is read to
 pub record Searches (sheet : List ℕ) (low high : ℕ) (x : Search) : Type 0 where
@@ -86,18 +87,21 @@ pub sameAnswers : SameAnswersHold
 sameAnswers sheet low high r work work′ output output′ f h q plain plain′ p k =
     let a : Answer Search = findResult sheet low high (length work) (length output) in
     let b : Answer Search = plainResult sheet low high (length plain) in
-    let x = taken a r (f .answer) h in
+    let x = taken a r (call .answer) h in
     let y = taken b q (p .answer) k in
     let same : x .0 ≡ y .0 = same-search sheet low high (x .0) (y .0) (find-searches sheet low high (length work) (length output) (x .0) (x .1)) (plain-searches sheet low high (length plain) (y .0) (y .1)) in
     go (x .0) (x .1) (y .1 ∙ ap answer (sym same))
   where
+    call : SearchingCall (findResult sheet low high (length work) (length output)) r work work′ output output′
+    call = unstopped sheet low high false false r work work′ output output′ f h
+
     go : (x : Search) → findResult sheet low high (length work) (length output) ≡ answer x → plainResult sheet low high (length plain) ≡ answer x → SameCase r q output′ plain′ ⊎ SameMark r q
     go (found s c) e d =
         inl
         (record {
           size = s;
           case = c;
-          find = leaves-found (findResult sheet low high (length work) (length output)) r output output′ s c e (f .answer) (f .left);
+          find = leaves-found (findResult sheet low high (length work) (length output)) r output output′ s c e (call .answer) (call .left);
           findPlain = leaves-found (plainResult sheet low high (length plain)) q plain plain′ s c d (p .answer) (p .left);
         })
-    go (nothing b) e d = inr (record { settled = b; find = none-answered r b (f .answer ∙ ap findAnswer e); findPlain = none-answered q b (p .answer ∙ ap findAnswer d) })
+    go (nothing b) e d = inr (record { settled = b; find = none-answered r b (call .answer ∙ ap findAnswer e); findPlain = none-answered q b (p .answer ∙ ap findAnswer d) })

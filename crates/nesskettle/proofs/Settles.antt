@@ -15,6 +15,7 @@ use Rattle.symmetry.specs.SymmetricOperations.{findResultWith}
 use Rattle.symmetry.proofs.FindsObeying.{finds-obeying}
 use Rattle.answers.specs.Answers.{findIn}
 use Rattle.nesskettle.specs.Settles.{SettlesHolds}
+use Rattle.nesskettle.proofs.Unstopped.{unstopped, none-taken}
 use Rattle.nesskettle.proofs.Demand2.{no-case}
 
 none-in : (named symmetry : Bool) (sheet : List ℕ) (p : Problem) (low high work room : ℕ) → readProblemIn named sheet ≡ answer p
@@ -25,5 +26,6 @@ none-in named true sheet p low high work room read e = finds-obeying named sheet
 
 pub settles : SettlesHolds
 settles sheet p low high named symmetry read r work work′ output output′ f e =
+    let c = unstopped sheet low high named symmetry r work work′ output output′ f (none-taken r true e) in
     none-in named symmetry sheet p low high (length work) (length output) read
-    (no-case (findResultWith named symmetry sheet low high (length work) (length output)) true (sym (f .answer) ∙ ap findIn e))
+    (no-case (findResultWith named symmetry sheet low high (length work) (length output)) true (sym (c .answer) ∙ ap findIn e))

@@ -1,5 +1,5 @@
 -- Symmetry, of the calls, from what is proved of the definitions.
-use Prim.Native.Nat.{ℕ}
+use Prim.Native.Nat.{ℕ, _≤_}
 use mathlib.Core.Path.{_≡_, refl, sym, ap, subst, _∙_}
 use mathlib.Core.Logic.{_⊎_, _↔_, inl, inr, ⊎-elim}
 use mathlib.Core.Bool.{Bool, true, false, _&&_}
@@ -9,7 +9,7 @@ use Rattle.theory.specs.Valuation.{satisfiesText, isValuation, readBack}
 use Rattle.theory.specs.Refusals as theory
 use Rattle.theory.specs.Refusals.{Answer, answer, refused}
 use Rattle.theory.specs.Problem.{Problem}
-use Rattle.theory.specs.Operations.{Search, found, nothing, foundCase, noCase, findAnswer}
+use Rattle.theory.specs.Operations.{Search, found, nothing, findAnswer}
 use Rattle.theory.specs.Claims.ReadingBack.{Satisfying}
 use Rattle.theory.proofs.Tests.{and-left, and-right, and-join}
 use Rattle.theory.proofs.Answers.{answer≢refused}
@@ -21,24 +21,31 @@ use Rattle.symmetry.specs.Claims.Switches.{withoutCase, Told}
 use Rattle.symmetry.proofs.FindsObeying.{finds-obeying, every-model}
 use Rattle.symmetry.proofs.Switches.{switches}
 use Rattle.symmetry.proofs.Asked.{asked}
+use Rattle.allowance.specs.AllowedFind.{maxAllowance, findWithin, allowedAnswer}
+use Rattle.allowance.proofs.AllowedFind.{same-refusals}
 use Rattle.answers.specs.declared.Refusal as answers
 use Rattle.answers.specs.declared.WriteAnswer.{WriteAnswer}
 use Rattle.answers.specs.declared.FindAnswer.{FindAnswer}
 use Rattle.answers.specs.declared.FindAnswer.the-variants.{Found, Nothing, Refused}
 use Rattle.answers.specs.Answers.{refusalIn, findIn}
-use Rattle.answers.specs.Calls.{WriteCall, FindCall}
+use Rattle.answers.specs.Calls.{WriteCall}
+use Rattle.finding.specs.declared.allowed.AllowedAnswer.{AllowedAnswer}
+use Rattle.finding.specs.declared.allowed.AllowedAnswer.the-variants as allowed
+use Rattle.finding.specs.Calls.{allowedIn, FindCall}
 use Rattle.nesskettle.specs.Leaving.{Leaves}
 use Rattle.nesskettle.specs.Models.{Model}
+use Rattle.nesskettle.specs.Unstopped.{UnstoppedCall}
+use Rattle.nesskettle.specs.Allowance.{Taken}
 use Rattle.nesskettle.specs.Demand2.{NoModel}
 use Rattle.nesskettle.specs.SameAnswers.{NotRefused}
 use Rattle.nesskettle.specs.Named.{AnswersAlike}
 use Rattle.nesskettle.specs.Symmetry.{LeastObeyingModel, FindsToldYes, RenumberedModel, Answers, sizeOf, Symmetry}
 use Rattle.nesskettle.proofs.Leaving.{left-text}
 use Rattle.nesskettle.proofs.Models.{sheet-model-is, is-sheet-model}
+use Rattle.nesskettle.proofs.Unstopped.{SearchingCall, unstopped, found-taken, none-taken, answered, allowed-refused, limit-kept, answered-without}
 use Rattle.nesskettle.proofs.Demand2.{no-case, case-stands}
 use Rattle.nesskettle.proofs.SameAnswers.{taken, case-answered, none-answered}
 use Rattle.nesskettle.proofs.Named.{alike}
-use Rattle.nesskettle.proofs.Columns.{search-refused}
 
 -- models that obey, as the theorem on texts has them
 least-obeying : (p : Problem) (low high size : ℕ) (text : List ℕ) → texts.LeastObeyingText p low high size text → LeastObeyingModel p low high size text
@@ -64,23 +71,26 @@ renumbered-model p size values m =
 
 -- Find told yes
 module _ (sheet : List ℕ) (p : Problem) (low high : ℕ) (named : Bool) (read : readProblemIn named sheet ≡ answer p) (r : FindAnswer) (work work′ output output′ : List ℕ)
-    (f : FindCall sheet low high named true r work work′ output output′) where
+    (f : UnstoppedCall sheet low high named true r work work′ output output′) where
   abbrev result : Answer Search
   result = findResultWith named true sheet low high (length work) (length output)
+
+  call : NotRefused r → SearchingCall result r work work′ output output′
+  call = unstopped sheet low high named true r work work′ output output′ f
 
   d : texts.FindsObeying p low high result
   d = finds-obeying named sheet p low high (length work) (length output) read
 
   finds-found : (size n : ℕ) → r ≡ Found size n → LeastObeyingModel p low high size (take n output′)
   finds-found size n e =
-      let c = case-stands result r work work′ output output′ f size n e in
+      let c = case-stands result r work work′ output output′ (call (found-taken r size n e)) size n e in
       subst (LeastObeyingModel p low high size) (sym (c .2)) (least-obeying p low high size (c .0) (d .finds size (c .0) (c .1)))
 
   finds-told-yes : FindsToldYes p low high r output′
   finds-told-yes =
       record {
         found = finds-found;
-        saysNone = λ b e t c le₁ le₂ m. d .findsNone b (no-case result b (sym (f .answer) ∙ ap findIn e)) t c le₁ le₂ (is-sheet-model p t c m);
+        saysNone = λ b e t c le₁ le₂ m. d .findsNone b (no-case result b (sym (call (none-taken r b e) .answer) ∙ ap findIn e)) t c le₁ le₂ (is-sheet-model p t c m);
         noneIf = go r refl;
       }
     where
@@ -98,46 +108,57 @@ size-answered : (r : FindAnswer) (x : Search) → findIn r ≡ findAnswer (answe
 size-answered r (found s c) e = ap sizeOf (case-answered r s (length c) e)
 size-answered r (nothing b) e = ap sizeOf (none-answered r b e)
 
-answered-taken : (r : FindAnswer) (x : Search) → findIn r ≡ findAnswer (answer x) → NotRefused r
-answered-taken r (found s c) e q h = answer≢refused (foundCase s (length c)) (refusalIn q) (sym e ∙ ap findIn h)
-answered-taken r (nothing b) e q h = answer≢refused (noCase b) (refusalIn q) (sym e ∙ ap findIn h)
-
 -- told no and told yes, where neither is refused
 module _ (sheet : List ℕ) (low high : ℕ) (named : Bool) (r s : FindAnswer) (output other : List ℕ) (a : Answers sheet low high named false r output) (b : Answers sheet low high named true s other) where
+  no-call : SearchingCall (findResultWith named false sheet low high (length (a .work)) (length (a .output))) r (a .work) (a .work′) (a .output) output
+  no-call = unstopped sheet low high named false r (a .work) (a .work′) (a .output) output (a .call) (a .taken)
+
+  yes-call : SearchingCall (findResultWith named true sheet low high (length (b .work)) (length (b .output))) s (b .work) (b .work′) (b .output) other
+  yes-call = unstopped sheet low high named true s (b .work) (b .work′) (b .output) other (b .call) (b .taken)
+
   no-result : (x : Search) × (findResultWith named false sheet low high (length (a .work)) (length (a .output)) ≡ answer x)
-  no-result = taken (findResultWith named false sheet low high (length (a .work)) (length (a .output))) r (a .call .answer) (a .taken)
+  no-result = taken (findResultWith named false sheet low high (length (a .work)) (length (a .output))) r (no-call .answer) (a .taken)
 
   yes-result : (x : Search) × (findResultWith named true sheet low high (length (b .work)) (length (b .output)) ≡ answer x)
-  yes-result = taken (findResultWith named true sheet low high (length (b .work)) (length (b .output))) s (b .call .answer) (b .taken)
+  yes-result = taken (findResultWith named true sheet low high (length (b .work)) (length (b .output))) s (yes-call .answer) (b .taken)
 
   told : Told sheet named low high (no-result .0) (yes-result .0)
   told = record { work = length (a .work); room = length (a .output); no = no-result .1; work⁺ = length (b .work); room⁺ = length (b .output); yes = yes-result .1 }
 
   same-size : sizeOf r ≡ sizeOf s
   same-size =
-      size-answered r (no-result .0) (a .call .answer ∙ ap findAnswer (no-result .1))
+      size-answered r (no-result .0) (no-call .answer ∙ ap findAnswer (no-result .1))
       ∙ ap sized (switches .sameSize named sheet low high (no-result .0) (yes-result .0) told)
-      ∙ sym (size-answered s (yes-result .0) (b .call .answer ∙ ap findAnswer (yes-result .1)))
+      ∙ sym (size-answered s (yes-result .0) (yes-call .answer ∙ ap findAnswer (yes-result .1)))
 
   same-case : (p : Problem) → readProblemIn named sheet ≡ answer p → constantsFirst (p .symbols) ≡ true → AnswersAlike r output s other
   same-case p read first =
       let same : no-result .0 ≡ yes-result .0 = switches .sameCase named sheet p low high (no-result .0) (yes-result .0) read first told in
       alike (findResultWith named false sheet low high (length (a .work)) (length (a .output))) (findResultWith named true sheet low high (length (b .work)) (length (b .output)))
-      (no-result .1 ∙ ap answer same ∙ sym (yes-result .1)) r (a .work) (a .work′) (a .output) output (a .call) (a .taken) s (b .work) (b .work′) (b .output) other (b .call)
+      (no-result .1 ∙ ap answer same ∙ sym (yes-result .1)) r (a .work) (a .work′) (a .output) output no-call (a .taken) s (b .work) (b .work′) (b .output) other yes-call
 
--- told no and told yes with the same work and output
-module _ (sheet : List ℕ) (low high : ℕ) (named : Bool) (r s : FindAnswer) (work work′ work⁺ output output′ output⁺ : List ℕ)
-    (f : FindCall sheet low high named false r work work′ output output′) (g : FindCall sheet low high named true s work work⁺ output output⁺) where
-  no-refusal : NotRefused s → NotRefused r
-  no-refusal h =
-      let y = taken (findResultWith named true sheet low high (length work) (length output)) s (g .answer) h in
+-- told no and told yes with the same allowance, work and output
+module _ (sheet : List ℕ) (low high : ℕ) (named : Bool) (a : ℕ) (r s : AllowedAnswer) (work work′ work⁺ output output′ output⁺ : List ℕ)
+    (f : FindCall sheet low high named false a r work work′ output output′) (g : FindCall sheet low high named true a s work work⁺ output output⁺) where
+  -- a refusal where the allowance is within its limit is one without an allowance
+  refused-without : (symmetry : Bool) → a ≤ maxAllowance → (q : answers.Refusal) → allowedAnswer (findWithin named symmetry sheet low high a (length work) (length output)) ≡ refused (refusalIn q)
+      → findResultWith named symmetry sheet low high (length work) (length output) ≡ refused (refusalIn q)
+  refused-without symmetry limit q e = same-refusals named symmetry sheet low high a (length work) (length output) (refusalIn q) limit .0 (allowed-refused _ (refusalIn q) e)
+
+  no-refusal : Taken s → Taken r
+  no-refusal h q e =
+      let w = answered _ s (g .answer) h in
+      let y = answered-without named true sheet low high a (length work) (length output) (w .0) (w .1) in
       let x = switches .notRefused named sheet low high (length work) (length output) (y .0) (y .1) in
-      answered-taken r (x .0) (f .answer ∙ ap findAnswer (x .1))
+      let limit : a ≤ maxAllowance = limit-kept named true sheet low high a (length work) (length output) (w .0) (w .1) in
+      answer≢refused (x .0) (refusalIn q) (sym (x .1) ∙ refused-without false limit q (sym (f .answer) ∙ ap allowedIn e))
 
-  refused-more : NotRefused r → (q : answers.Refusal) → s ≡ Refused q → (q .number ≡ 9) ⊎ (q .number ≡ 10)
+  refused-more : Taken r → (q : answers.Refusal) → s ≡ allowed.Refused q → (q .number ≡ 9) ⊎ (q .number ≡ 10)
   refused-more h q e =
-      let x = taken (findResultWith named false sheet low high (length work) (length output)) r (f .answer) h in
-      let z = search-refused (findResultWith named true sheet low high (length work) (length output)) (refusalIn q) (sym (g .answer) ∙ ap findIn e) in
+      let w = answered _ r (f .answer) h in
+      let x = answered-without named false sheet low high a (length work) (length output) (w .0) (w .1) in
+      let limit : a ≤ maxAllowance = limit-kept named false sheet low high a (length work) (length output) (w .0) (w .1) in
+      let z = refused-without true limit q (sym (g .answer) ∙ ap allowedIn e) in
       let number : theory.Refusal → ℕ = λ (q : theory.Refusal). q .number in
       ⊎-elim (λ h. inl (ap number h)) (λ h. inr (ap number (h .1))) (switches .refusedMore named sheet low high (length work) (length output) (x .0) (refusalIn q) (x .1) z)
 
@@ -174,7 +195,7 @@ symmetry-of-calls =
       everyModel = λ sheet p named read size text m. renumbered-model p size (m .case .values) (every-model named sheet p read size text (is-sheet-model p size text m));
       sameSize = same-size;
       sameCase = λ sheet p low high named read first r s output other a b. same-case sheet low high named r s output other a b p read first;
-      notRefused = λ sheet low high named r s work work′ work⁺ output output′ output⁺ f g h. no-refusal sheet low high named r s work work′ work⁺ output output′ output⁺ f g h;
-      refusedMore = λ sheet low high named r s work work′ work⁺ output output′ output⁺ f g h. refused-more sheet low high named r s work work′ work⁺ output output′ output⁺ f g h;
+      notRefused = λ sheet low high named a r s work work′ work⁺ output output′ output⁺ f g h. no-refusal sheet low high named a r s work work′ work⁺ output output′ output⁺ f g h;
+      refusedMore = λ sheet low high named a r s work work′ work⁺ output output′ output⁺ f g h. refused-more sheet low high named a r s work work′ work⁺ output output′ output⁺ f g h;
       write = asked-exactly;
     }

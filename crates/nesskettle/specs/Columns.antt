@@ -15,7 +15,9 @@ use Rattle.answers.specs.declared.ExplainAnswer.{ExplainAnswer}
 use Rattle.answers.specs.declared.WriteAnswer.{WriteAnswer}
 use Rattle.answers.specs.declared.FindAnswer.{FindAnswer}
 use Rattle.answers.specs.Answers.{readIn, judgeIn, explainIn, lengthIn, findIn}
-use Rattle.answers.specs.Calls.{ReadCall, JudgeCall, ExplainCall, WriteCall, ReadBackCall, SettingCall, FindCall, PlainCall}
+use Rattle.answers.specs.Calls.{ReadCall, JudgeCall, ExplainCall, WriteCall, ReadBackCall, SettingCall, PlainCall}
+use Rattle.finding.specs.declared.allowed.AllowedAnswer.{AllowedAnswer}
+use Rattle.finding.specs.Calls.{allowedIn, FindCall}
 use Rattle.accepting.specs.declared.SolverAnswer.{SolverAnswer}
 use Rattle.accepting.specs.Calls.{solverIn, FromSolverCall}
 use Rattle.uniting.specs.declared.merge.MergeAnswer.{MergeAnswer}
@@ -70,8 +72,8 @@ pub record Columns : Type 0 where
       → (q : Refusal) → lengthIn r ≡ refused q → OfTheSheet named sheet q ⊎ NoPlace q
   pub setting : (sheet case : List ℕ) (r : WriteAnswer) (output output′ : List ℕ) → SettingCall sheet case r output output′
       → (q : Refusal) → lengthIn r ≡ refused q → OfTheSheet false sheet q ⊎ (OfTheCase sheet case q ⊎ NoPlace q)
-  pub find : (sheet : List ℕ) (low high : ℕ) (named symmetry : Bool) (r : FindAnswer) (work work′ output output′ : List ℕ) → FindCall sheet low high named symmetry r work work′ output output′
-      → (q : Refusal) → findIn r ≡ refused q → OfTheSheet named sheet q ⊎ NoPlace q
+  pub find : (sheet : List ℕ) (low high : ℕ) (named symmetry : Bool) (a : ℕ) (r : AllowedAnswer) (work work′ output output′ : List ℕ) → FindCall sheet low high named symmetry a r work work′ output output′
+      → (q : Refusal) → allowedIn r ≡ refused q → OfTheSheet named sheet q ⊎ NoPlace q
   pub findPlain : (sheet : List ℕ) (low high : ℕ) (r : FindAnswer) (output output′ : List ℕ) → PlainCall sheet low high r output output′
       → (q : Refusal) → findIn r ≡ refused q → OfTheSheet false sheet q ⊎ NoPlace q
   pub fromSolver : (sheet : List ℕ) (size : ℕ) (text : List ℕ) (r : SolverAnswer) (output output′ : List ℕ) → FromSolverCall sheet size text r output output′

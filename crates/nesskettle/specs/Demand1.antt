@@ -12,7 +12,9 @@ use Rattle.answers.specs.declared.ExplainAnswer.{ExplainAnswer}
 use Rattle.answers.specs.declared.WriteAnswer.{WriteAnswer}
 use Rattle.answers.specs.declared.FindAnswer.{FindAnswer}
 use Rattle.answers.specs.Answers.{readIn, judgeIn, explainIn, lengthIn, findIn}
-use Rattle.answers.specs.Calls.{ReadCall, JudgeCall, ExplainCall, WriteCall, ReadBackCall, SettingCall, FindCall, PlainCall}
+use Rattle.answers.specs.Calls.{ReadCall, JudgeCall, ExplainCall, WriteCall, ReadBackCall, SettingCall, PlainCall}
+use Rattle.finding.specs.declared.allowed.AllowedAnswer.{AllowedAnswer}
+use Rattle.finding.specs.Calls.{allowedIn, FindCall}
 use Rattle.importing.specs.Calls.{TptpCall}
 use Rattle.accepting.specs.declared.SolverAnswer.{SolverAnswer}
 use Rattle.accepting.specs.Calls.{solverIn, FromSolverCall}
@@ -39,9 +41,9 @@ readBackNumbers = upFrom 1 8 ++ (11 ∷ 13 ∷ 14 ∷ [])
 abbrev pub settingNumbers : List ℕ
 settingNumbers = upFrom 1 7 ++ (11 ∷ 12 ∷ [])
 
--- Find: 1 to 11
+-- Find: 1 to 11, and 24
 abbrev pub findNumbers : List ℕ
-findNumbers = upFrom 1 11
+findNumbers = upFrom 1 11 ++ (24 ∷ [])
 
 -- Find plain: 1 to 8, 11 and 20
 abbrev pub plainNumbers : List ℕ
@@ -84,8 +86,8 @@ pub record Demand1 : Type 0 where
       → ResultOr (λ q. NumberOf (numbersIn named readBackNumbers) q × (output′ ≡ output)) (lengthIn r)
   pub setting : (sheet case : List ℕ) (r : WriteAnswer) (output output′ : List ℕ) → SettingCall sheet case r output output′
       → ResultOr (λ q. NumberOf settingNumbers q × (output′ ≡ output)) (lengthIn r)
-  pub find : (sheet : List ℕ) (low high : ℕ) (named symmetry : Bool) (r : FindAnswer) (work work′ output output′ : List ℕ) → FindCall sheet low high named symmetry r work work′ output output′
-      → ResultOr (λ q. NumberOf (numbersIn named findNumbers) q × (work′ ≡ work) × (output′ ≡ output)) (findIn r)
+  pub find : (sheet : List ℕ) (low high : ℕ) (named symmetry : Bool) (a : ℕ) (r : AllowedAnswer) (work work′ output output′ : List ℕ) → FindCall sheet low high named symmetry a r work work′ output output′
+      → ResultOr (λ q. NumberOf (numbersIn named findNumbers) q × (work′ ≡ work) × (output′ ≡ output)) (allowedIn r)
   pub findPlain : (sheet : List ℕ) (low high : ℕ) (r : FindAnswer) (output output′ : List ℕ) → PlainCall sheet low high r output output′
       → ResultOr (λ q. NumberOf plainNumbers q × (output′ ≡ output)) (findIn r)
   pub fromTptp : (text : List ℕ) (r : WriteAnswer) (output output′ : List ℕ) → TptpCall text r output output′

@@ -1,6 +1,7 @@
 pub mod Leaving
 pub mod Models
 pub mod Texts
+pub mod Unstopped
 pub mod Demand1
 pub mod Demand2
 pub mod Demand3
@@ -14,3 +15,4 @@ pub mod Merges
 pub mod SameAnswers
 pub mod Named
 pub mod Symmetry
+pub mod Allowance

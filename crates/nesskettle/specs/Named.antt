@@ -1,4 +1,4 @@
--- The mode of named terms, of the calls (document 02, slip 9): Find in the mode gives the same answers as plain, where neither is refused, with one setting of `symmetry` on both sides. That the demands hold in the mode too
+-- The mode of named terms, of the calls (document 02, slip 9): Find in the mode gives the same answers as plain, where neither is refused or stopped, with one setting of `symmetry` on both sides; the number of choices is left out. That the demands hold in the mode too
 -- is said where they are: `Demand1`, `Demand2` and `Demand3` have the switch, and so have `Settles` and `Columns`.
 use Prim.Native.Nat.{ℕ}
 use mathlib.Core.Path.{_≡_}
@@ -7,7 +7,7 @@ use mathlib.Core.List.{List}
 use lib.ListN.{take}
 use Rattle.answers.specs.declared.FindAnswer.{FindAnswer}
 use Rattle.answers.specs.declared.FindAnswer.the-variants.{Found}
-use Rattle.answers.specs.Calls.{FindCall}
+use Rattle.nesskettle.specs.Unstopped.{UnstoppedCall}
 use Rattle.nesskettle.specs.SameAnswers.{NotRefused}
 
 -- two calls answer alike: size, length and mark, and the case that is found
@@ -15,8 +15,8 @@ pub record AnswersAlike (r : FindAnswer) (output : List ℕ) (s : FindAnswer) (o
   pub same : r ≡ s
   pub case : (size n : ℕ) → r ≡ Found size n → take n output ≡ take n other
 
--- it holds of a plain call and a call in the mode, whatever work and output are lent to each
+-- it holds of a plain call and a call in the mode, whatever allowance, work and output each has
 abbrev pub NamedAnswersHold : Type 0
 NamedAnswersHold = (sheet : List ℕ) (low high : ℕ) (symmetry : Bool)
-    → (r : FindAnswer) (work work′ output output′ : List ℕ) → FindCall sheet low high false symmetry r work work′ output output′ → NotRefused r
-    → (s : FindAnswer) (area area′ other other′ : List ℕ) → FindCall sheet low high true symmetry s area area′ other other′ → NotRefused s → AnswersAlike r output′ s other′
+    → (r : FindAnswer) (work work′ output output′ : List ℕ) → UnstoppedCall sheet low high false symmetry r work work′ output output′ → NotRefused r
+    → (s : FindAnswer) (area area′ other other′ : List ℕ) → UnstoppedCall sheet low high true symmetry s area area′ other other′ → NotRefused s → AnswersAlike r output′ s other′

@@ -1,4 +1,4 @@
--- SameAnswers, of the calls (document 02, slip 8): where neither is refused, Find told no and Find plain find the same case at the same size, or both say none with the same mark. It holds of all sheets and sizes,
+-- SameAnswers, of the calls (document 02, slip 8): where neither is refused, Find told no and not stopped and Find plain find the same case at the same size, or both say none with the same mark. It holds of all sheets and sizes,
 -- so of all arities, and whatever is lent.
 use Prim.Native.Nat.{ℕ}
 use mathlib.Core.Path.{_≡_}
@@ -9,7 +9,8 @@ use lib.ListN.{length, take}
 use Rattle.answers.specs.declared.Refusal.{Refusal}
 use Rattle.answers.specs.declared.FindAnswer.{FindAnswer}
 use Rattle.answers.specs.declared.FindAnswer.the-variants.{Found, Nothing, Refused}
-use Rattle.answers.specs.Calls.{FindCall, PlainCall}
+use Rattle.answers.specs.Calls.{PlainCall}
+use Rattle.nesskettle.specs.Unstopped.{UnstoppedCall}
 
 -- the call is not refused
 abbrev pub NotRefused : FindAnswer → Type 0
@@ -36,6 +37,6 @@ pub record SameMark (r plain : FindAnswer) : Type 0 where
 -- it holds of every two calls with the same sheet and sizes
 abbrev pub SameAnswersHold : Type 0
 SameAnswersHold = (sheet : List ℕ) (low high : ℕ)
-    → (r : FindAnswer) (work work′ output output′ : List ℕ) → FindCall sheet low high false false r work work′ output output′ → NotRefused r
+    → (r : FindAnswer) (work work′ output output′ : List ℕ) → UnstoppedCall sheet low high false false r work work′ output output′ → NotRefused r
     → (plain : FindAnswer) (plainOutput plainOutput′ : List ℕ) → PlainCall sheet low high plain plainOutput plainOutput′ → NotRefused plain
     → SameCase r plain output′ plainOutput′ ⊎ SameMark r plain

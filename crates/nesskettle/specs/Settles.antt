@@ -10,9 +10,9 @@ use Rattle.theory.specs.Claims.Settling.{Unsatisfiable}
 use Rattle.naming.specs.NamedOperations.{readProblemIn}
 use Rattle.answers.specs.declared.FindAnswer.{FindAnswer}
 use Rattle.answers.specs.declared.FindAnswer.the-variants.{Nothing}
-use Rattle.answers.specs.Calls.{FindCall}
+use Rattle.nesskettle.specs.Unstopped.{UnstoppedCall}
 
 -- it holds of every call, in the mode of named terms too, whether the constant clauses are used or not
 abbrev pub SettlesHolds : Type 0
 SettlesHolds = (sheet : List ℕ) (p : Problem) (low high : ℕ) (named symmetry : Bool) → readProblemIn named sheet ≡ answer p
-    → (r : FindAnswer) (work work′ output output′ : List ℕ) → FindCall sheet low high named symmetry r work work′ output output′ → r ≡ Nothing true → Unsatisfiable p
+    → (r : FindAnswer) (work work′ output output′ : List ℕ) → UnstoppedCall sheet low high named symmetry r work work′ output output′ → r ≡ Nothing true → Unsatisfiable p

@@ -19,9 +19,14 @@ use Rattle.answers.specs.declared.Refusal.{Refusal}
 use Rattle.answers.specs.declared.WriteAnswer.{WriteAnswer}
 use Rattle.answers.specs.declared.FindAnswer.{FindAnswer}
 use Rattle.answers.specs.declared.FindAnswer.the-variants.{Found, Nothing, Refused}
-use Rattle.answers.specs.Calls.{WriteCall, FindCall}
+use Rattle.answers.specs.Calls.{WriteCall}
+use Rattle.finding.specs.declared.allowed.AllowedAnswer.{AllowedAnswer}
+use Rattle.finding.specs.declared.allowed.AllowedAnswer.the-variants as allowed
+use Rattle.finding.specs.Calls.{FindCall}
 use Rattle.nesskettle.specs.Leaving.{Leaves}
 use Rattle.nesskettle.specs.Models.{Model}
+use Rattle.nesskettle.specs.Unstopped.{UnstoppedCall}
+use Rattle.nesskettle.specs.Allowance.{Taken}
 use Rattle.nesskettle.specs.Demand2.{NoModel}
 use Rattle.nesskettle.specs.SameAnswers.{NotRefused}
 use Rattle.nesskettle.specs.Named.{AnswersAlike}
@@ -38,7 +43,7 @@ pub record LeastObeyingModel (p : Problem) (low high size : ℕ) (text : List �
   pub smallest : (t : ℕ) (d : List ℕ) → low ≤ t → t < size → Model p t d → ⊥
   pub least : (d : List ℕ) (m : ObeyingModel p size d) → NotAfter (obeying .model .case .values) (m .model .case .values)
 
--- of a call of Find told yes that is not refused; none exactly if no case of a searched size is a model, obeying or not
+-- of a call of Find told yes that is neither refused nor stopped; none exactly if no case of a searched size is a model, obeying or not
 pub record FindsToldYes (p : Problem) (low high : ℕ) (r : FindAnswer) (output : List ℕ) : Type 0 where
   pub found : (size n : ℕ) → r ≡ Found size n → LeastObeyingModel p low high size (take n output)
   pub saysNone : (settled : Bool) → r ≡ Nothing settled → NoModel p low high
@@ -52,12 +57,12 @@ pub record RenumberedModel (p : Problem) (size : ℕ) (values : List ℕ) : Type
   pub obeying : ObeyingModel p size text
   pub turned : obeying .model .case .values ≡ renumbered size (p .symbols) by values
 
--- some call of Find, lent whatever it was, answers r and is not refused
+-- some call of Find, with whatever allowance and lent whatever it was, answers r and is neither refused nor stopped
 pub record Answers (sheet : List ℕ) (low high : ℕ) (named symmetry : Bool) (r : FindAnswer) (output′ : List ℕ) : Type 0 where
   pub work : List ℕ
   pub work′ : List ℕ
   pub output : List ℕ
-  pub call : FindCall sheet low high named symmetry r work work′ output output′
+  pub call : UnstoppedCall sheet low high named symmetry r work work′ output output′
   pub taken : NotRefused r
 
 -- the answer without the length of its case: the size, or none with the mark
@@ -70,23 +75,23 @@ sizeOf (Refused q) = Refused q
 pub record Symmetry : Type 0 where
   -- what Find told yes finds
   pub find : (sheet : List ℕ) (p : Problem) (low high : ℕ) (named : Bool) → readProblemIn named sheet ≡ answer p
-      → (r : FindAnswer) (work work′ output output′ : List ℕ) → FindCall sheet low high named true r work work′ output output′ → FindsToldYes p low high r output′
+      → (r : FindAnswer) (work work′ output output′ : List ℕ) → UnstoppedCall sheet low high named true r work work′ output output′ → FindsToldYes p low high r output′
   -- every model of a sheet has a renumbering that obeys
   pub everyModel : (sheet : List ℕ) (p : Problem) (named : Bool) → readProblemIn named sheet ≡ answer p
       → (size : ℕ) (text : List ℕ) (m : Model p size text) → RenumberedModel p size (m .case .values)
-  -- told no and told yes, where neither is refused: the same size, or both none with the same mark,
+  -- told no and told yes, where neither is refused or stopped: the same size, or both none with the same mark,
   pub sameSize : (sheet : List ℕ) (low high : ℕ) (named : Bool) (r s : FindAnswer) (output other : List ℕ)
       → Answers sheet low high named false r output → Answers sheet low high named true s other → sizeOf r ≡ sizeOf s
   -- and the same case where all constants are declared before other functions
   pub sameCase : (sheet : List ℕ) (p : Problem) (low high : ℕ) (named : Bool) → readProblemIn named sheet ≡ answer p → constantsFirst (p .symbols) ≡ true
       → (r s : FindAnswer) (output other : List ℕ) → Answers sheet low high named false r output → Answers sheet low high named true s other → AnswersAlike r output s other
-  -- told yes and told no with the same work and output: where told yes it is not refused, told no it is not,
-  pub notRefused : (sheet : List ℕ) (low high : ℕ) (named : Bool) (r s : FindAnswer) (work work′ work⁺ output output′ output⁺ : List ℕ)
-      → FindCall sheet low high named false r work work′ output output′ → FindCall sheet low high named true s work work⁺ output output⁺ → NotRefused s → NotRefused r
+  -- told yes and told no with the same allowance, work and output, stopped or not: where told yes it is not refused, told no it is not,
+  pub notRefused : (sheet : List ℕ) (low high : ℕ) (named : Bool) (a : ℕ) (r s : AllowedAnswer) (work work′ work⁺ output output′ output⁺ : List ℕ)
+      → FindCall sheet low high named false a r work work′ output output′ → FindCall sheet low high named true a s work work⁺ output output⁺ → Taken s → Taken r
   -- and where told no it is not refused, told yes it is refused with 9 or 10 at most
-  pub refusedMore : (sheet : List ℕ) (low high : ℕ) (named : Bool) (r s : FindAnswer) (work work′ work⁺ output output′ output⁺ : List ℕ)
-      → FindCall sheet low high named false r work work′ output output′ → FindCall sheet low high named true s work work⁺ output output⁺ → NotRefused r
-      → (q : Refusal) → s ≡ Refused q → (q .number ≡ 9) ⊎ (q .number ≡ 10)
+  pub refusedMore : (sheet : List ℕ) (low high : ℕ) (named : Bool) (a : ℕ) (r s : AllowedAnswer) (work work′ work⁺ output output′ output⁺ : List ℕ)
+      → FindCall sheet low high named false a r work work′ output output′ → FindCall sheet low high named true a s work work⁺ output output⁺ → Taken r
+      → (q : Refusal) → s ≡ allowed.Refused q → (q .number ≡ 9) ⊎ (q .number ≡ 10)
   -- Write: a setting satisfies the text of Write asked exactly if it satisfies the text of Write not asked, and the values that it is read back as obey; helpers are no constants of the sheet
   pub write : (sheet : List ℕ) (p : Problem) (size : ℕ) (named : Bool) → readProblemIn named sheet ≡ answer p
       → (r : WriteAnswer) (output output′ text : List ℕ) → WriteCall sheet size named false r output output′ → Leaves r output′ text

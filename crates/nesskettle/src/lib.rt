@@ -1,11 +1,11 @@
 // The operations of documents 01 and 02. Each answers every byte string, number and lent buffer with a result or a numbered refusal, and
-// ends. A promise is a record of `answers/specs/Calls` (From TPTP's of `importing/specs/Calls`, From solver's of `accepting/specs/Calls`, Merge's of
+// ends. A promise is a record of `answers/specs/Calls` (Find's of `finding/specs/Calls`, From TPTP's of `importing/specs/Calls`, From solver's of `accepting/specs/Calls`, Merge's of
 // `uniting/specs/Calls`): equations with the definitions of `theory/specs/Operations`, `naming/specs/NamedOperations`,
-// `symmetry/specs/SymmetricOperations`, `theory/specs/PlainSearch`, `tptp/specs/Tptp`, `solver/specs/SolverText` and `sheet_merging/specs/Merging`, where
+// `symmetry/specs/SymmetricOperations`, `allowance/specs/AllowedFind`, `theory/specs/PlainSearch`, `tptp/specs/Tptp`, `solver/specs/SolverText` and `sheet_merging/specs/Merging`, where
 // `answers/specs/Answers` says what each answer means. What is lent as `&` cannot change; what is lent as `&mut` is told to the last byte
 // and number. The demands (`specs/Demand1` to `specs/Demand3`) and what is asked of From TPTP (`specs/FromTptp`), From solver
 // (`specs/FromSolver`), Merge (`specs/Merges`), Explain (`specs/Explains`) and Setting (`specs/Settings`), what settled means (`specs/Settles`), that Find and Find
-// plain answer the same (`specs/SameAnswers`), what the mode of named terms (`specs/Named`) and the constant clauses (`specs/Symmetry`) do to the answers, and where
+// plain answer the same (`specs/SameAnswers`), what the mode of named terms (`specs/Named`), the constant clauses (`specs/Symmetry`) and the allowance (`specs/Allowance`) do to the answers, and where
 // refusals point (`specs/Columns`), are proved of these records.
 mod reading;
 
@@ -16,6 +16,7 @@ use answers::FindAnswer;
 use answers::JudgeAnswer;
 use answers::ReadAnswer;
 use answers::WriteAnswer;
+use finding::allowed::AllowedAnswer;
 use finding::find_model;
 use importing::import_clauses;
 use judging::explain::explain_case;
@@ -26,7 +27,8 @@ use settings::setting::write_case_setting;
 use uniting::merge::MergeAnswer;
 use uniting::merge::merge_sheets;
 use writing::write_clauses;
-ghost use Rattle.answers.specs.Calls.{ExplainCall, FindCall, JudgeCall, PlainCall, ReadBackCall, ReadCall, SettingCall, WriteCall};
+ghost use Rattle.answers.specs.Calls.{ExplainCall, JudgeCall, PlainCall, ReadBackCall, ReadCall, SettingCall, WriteCall};
+ghost use Rattle.finding.specs.Calls.{FindCall};
 ghost use Rattle.importing.specs.Calls.{TptpCall};
 ghost use Rattle.accepting.specs.Calls.{FromSolverCall};
 ghost use Rattle.uniting.specs.Calls.{MergeCall};
@@ -80,19 +82,20 @@ pub fn setting(sheet: &[u8], case: &[u8], output: &mut [u8]) -> WriteAnswer
 }
 
 // Find: the least model at the smallest size from low to high that has one, as a case at the front of the output; or none. It searches the sheet's clauses as they stand, or with named terms. Told yes
-// to `symmetry` it uses the constant clauses, and what it finds is the least of the models that obey them.
+// to `symmetry` it uses the constant clauses, and what it finds is the least of the models that obey them. It is stopped exactly if it needs one more choice than the allowance.
 pub fn find(
     sheet: &[u8],
     low: u64,
     high: u64,
     named: bool,
     symmetry: bool,
+    allowance: u64,
     work: &mut [u32],
     output: &mut [u8],
-) -> FindAnswer
-    ensures { λ r. ⌜ FindCall (now (sheet .entry)) low high named symmetry r (now (work .entry)) (now (work .exit)) (now (output .entry)) (now (output .exit)) ⌝ }
+) -> AllowedAnswer
+    ensures { λ r. ⌜ FindCall (now (sheet .entry)) low high named symmetry allowance r (now (work .entry)) (now (work .exit)) (now (output .entry)) (now (output .exit)) ⌝ }
 {
-    find_model(sheet, low, high, named, symmetry, work, output)
+    find_model(sheet, low, high, named, symmetry, allowance, work, output)
 }
 
 // Find plain: what Find told no finds, by trying all cases in order, for at most 64 cells, without a work area.

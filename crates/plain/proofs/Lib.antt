@@ -1,3 +1,4 @@
+pub mod SizeBySize
 pub mod Guesses
 pub mod Filled
 pub mod Choosing

@@ -1,5 +1,5 @@
 -- The reader of a key and one digit reads as the definition does.
-use Prim.Native.Nat.{ℕ, suc, _+_, _-_, _≤_, _<_}
+use Prim.Native.Nat.{ℕ, _+_, _-_, _≤_, _<_}
 use mathlib.Core.Path.{_≡_, refl, sym, ap, _∙_}
 use mathlib.Core.Bool.{Bool, true, false, _&&_, cond}
 use mathlib.Core.Option.{Option, none, some}
@@ -9,15 +9,15 @@ use native.Mathlib.Numerals.{add-one}
 use lib.Dec.{ltb}
 use lib.ListN.{length, getD, drop}
 use Rattle.theory.specs.Bytes.{isDigit}
-use Rattle.theory.specs.Lines.{cutLine, afterKey}
-use Rattle.theory.specs.Program.{digitOf, digitLine, _>>?_}
+use Rattle.theory.specs.Program.{digitOf, digitLine}
 use Rattle.theory.proofs.Tests.{leb-of-≤, leb-of-<, ltb-of-<, ltb-of-≤}
 use Rattle.solver.proofs.Options.{read-on, not-read}
 use Rattle.text.specs.Lines.{part, LineEnd, StartsWith}
-use Rattle.text.proofs.Part.{length-part, part-cons, part-none, drop-part}
+use Rattle.text.proofs.Part.{length-part, part-cons, part-none}
 use Rattle.program.specs.declared.digits.DigitLine.{DigitLine}
 use Rattle.program.specs.declared.digits.DigitLine.the-variants.{Digit, Fault}
 use Rattle.program.specs.Digits.{DigitRead, ValueRead}
+use Rattle.program.proofs.KeyedLines as keyed-lines
 
 not-one : (bs : List ℕ) → (length bs ≡ 1 → ⊥) → digitOf bs ≡ none
 not-one [] h = refl
@@ -57,30 +57,13 @@ module _ (input : List ℕ) (from end : ℕ) (h : from ≤ end) (k : end < lengt
 module _ (input : List ℕ) (at end : ℕ) (key : List ℕ) (l : LineEnd input at end) where
   pub no-line : end ≡ length input → DigitRead input at key Fault
   unfolding digitLine
-  no-line e =
-      let cut : cutLine (drop at input) ≡ none = l .cut ∙ ap (λ (b : Bool). cond b (some (part input at end, drop (suc end) input)) none) (ltb-of-≤ end (length input) (omega arith)) in
-      record { read = sym (not-read (cutLine (drop at input)) _ cut); within = tt }
+  no-line e = record { read = sym (keyed-lines.no-line digitOf input at end key l e); within = tt }
 
   module _ (h : end ≡ length input → ⊥) where
-    cut : cutLine (drop at input) ≡ some (part input at end, drop (suc end) input)
-    cut = l .cut ∙ ap (λ (b : Bool). cond b (some (part input at end, drop (suc end) input)) none) (ltb-of-< end (length input) (omega (arith, l .within)))
-
     pub no-key : StartsWith (part input at end) key false → DigitRead input at key Fault
     unfolding digitLine
-    no-key s =
-        record {
-          read = sym (read-on (cutLine (drop at input)) _ (part input at end, drop (suc end) input) cut ∙ not-read (afterKey key (part input at end)) _ (s .found));
-          within = tt;
-        }
-
-    pub value-from : StartsWith (part input at end) key true → at + length key ≤ end
-    value-from s = omega (arith, s .room refl, length-part input at end (l .from) (l .within), l .from)
+    no-key s = record { read = sym (keyed-lines.no-key digitOf input at end key l h s); within = tt }
 
     pub keyed : StartsWith (part input at end) key true → (r : DigitLine) → ValueRead input (at + length key) end r → DigitRead input at key r
     unfolding digitLine
-    keyed s r v =
-        let value : afterKey key (part input at end) ≡ some (part input (at + length key) end) = s .found ∙ ap some (drop-part input at end (length key)) in
-        record {
-          read = v .read ∙ sym (read-on (cutLine (drop at input)) _ (part input at end, drop (suc end) input) cut ∙ read-on (afterKey key (part input at end)) _ (part input (at + length key) end) value);
-          within = v .within;
-        }
+    keyed s r v = record { read = v .read ∙ sym (keyed-lines.keyed digitOf input at end key l h s); within = v .within }

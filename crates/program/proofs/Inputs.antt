@@ -1,4 +1,4 @@
--- The input line by line: two digit lines, the line that says yes or no, then the sheet.
+-- The input line by line: two digit lines, the line that says yes or no, the line that says how many choices are allowed, then the sheet.
 use Prim.Native.Nat.{ℕ, _-_, _≤_}
 use mathlib.Core.Path.{_≡_, sym, ap, _∙_}
 use mathlib.Core.Bool.{Bool, false}
@@ -9,17 +9,20 @@ use lib.ListN.{length, take, drop, length-drop}
 use lib.Seq.{take-all}
 use Rattle.theory.specs.Bytes.{bytes}
 use Rattle.theory.specs.Refusals.{refused, unplaced}
-use Rattle.theory.specs.Program.{digitLine, switchLine, answered, printed, program}
+use Rattle.theory.specs.Program.{digitLine, switchLine}
 use Rattle.solver.proofs.Options.{read-on, not-read}
-use Rattle.symmetry.specs.SymmetricOperations.{findResultWith}
-use Rattle.symmetry.specs.FinderProgram.{finds, finder}
+use Rattle.allowance.specs.AllowedFind.{findWithin}
+use Rattle.allowance.specs.FinderProgram.{allowanceLine, finderAnswer, printedWithin, finder}
 use Rattle.program.specs.declared.digits.DigitLine.{DigitLine}
 use Rattle.program.specs.declared.digits.DigitLine.the-variants.{Digit, Fault}
 use Rattle.program.specs.declared.switches.SwitchLine.{SwitchLine}
 use Rattle.program.specs.declared.switches.SwitchLine.the-variants as switch
+use Rattle.program.specs.declared.allowances.AllowanceLine.{AllowanceLine}
+use Rattle.program.specs.declared.allowances.AllowanceLine.the-variants as allowances
 use Rattle.program.specs.Digits.{digitIn, DigitRead}
 use Rattle.program.specs.Switches.{switchIn, SwitchRead}
-use Rattle.program.specs.Reports.{fromHigh, fromSwitch}
+use Rattle.program.specs.Allowances.{allowanceIn, AllowanceRead}
+use Rattle.program.specs.Reports.{fromHigh, fromSwitch, fromAllowance}
 
 module _ (input : List ℕ) (at : ℕ) (key : List ℕ) (r : DigitLine) (h : DigitRead input at key r) where
   pub next-within : (d next : ℕ) → r ≡ Digit d next → next ≤ length input
@@ -35,36 +38,46 @@ module _ (input : List ℕ) (at : ℕ) (key : List ℕ) (r : DigitLine) (h : Dig
 pub rest : (input : List ℕ) (next : ℕ) → next ≤ length input → take (length input - next) (drop next input) ≡ drop next input
 rest input next h = take-all (length input - next) (drop next input) (omega (arith, length-drop next input))
 
+-- the fourth line
+module _ (input : List ℕ) (at low high : ℕ) (symmetry : Bool) (r : AllowanceLine) (h : AllowanceRead input at r) where
+  pub sheet-within : (n next : ℕ) → r ≡ allowances.Allowance n next → next ≤ length input
+  sheet-within n next e = rw e at (h .within)
+
+  pub allowance-fault : r ≡ allowances.Fault → refused (unplaced 8) ≡ fromAllowance low high symmetry (drop at input)
+  allowance-fault e = sym (ap finderAnswer (not-read (allowanceLine (drop at input)) _ (sym (h .read) ∙ ap (allowanceIn input) e)))
+
+  pub allowance-said : (n next : ℕ) → r ≡ allowances.Allowance n next
+      → findWithin false symmetry (take (length input - next) (drop next input)) low high n 16000 24902 ≡ fromAllowance low high symmetry (drop at input)
+  allowance-said n next e =
+      ap (λ (sheet : List ℕ). findWithin false symmetry sheet low high n 16000 24902) (rest input next (sheet-within n next e))
+      ∙ sym (ap finderAnswer (read-on (allowanceLine (drop at input)) _ (n, drop next input) (sym (h .read) ∙ ap (allowanceIn input) e)))
+
 -- the third line
 module _ (input : List ℕ) (at low high : ℕ) (r : SwitchLine) (h : SwitchRead input at r) where
-  pub sheet-within : (b : Bool) (next : ℕ) → r ≡ switch.Switch b next → next ≤ length input
-  sheet-within b next e = rw e at (h .within)
+  pub allowance-within : (b : Bool) (next : ℕ) → r ≡ switch.Switch b next → next ≤ length input
+  allowance-within b next e = rw e at (h .within)
 
   pub switch-fault : r ≡ switch.Fault → refused (unplaced 8) ≡ fromSwitch low high (drop at input)
-  switch-fault e = sym (ap (answered finds) (not-read (switchLine (drop at input)) _ (sym (h .read) ∙ ap (switchIn input) e)))
+  switch-fault e = sym (ap finderAnswer (not-read (switchLine (drop at input)) _ (sym (h .read) ∙ ap (switchIn input) e)))
 
-  pub switch-said : (b : Bool) (next : ℕ) → r ≡ switch.Switch b next
-      → findResultWith false b (take (length input - next) (drop next input)) low high 16000 24902 ≡ fromSwitch low high (drop at input)
-  switch-said b next e =
-      ap (λ (sheet : List ℕ). findResultWith false b sheet low high 16000 24902) (rest input next (sheet-within b next e))
-      ∙ sym (ap (answered finds) (read-on (switchLine (drop at input)) _ (b, drop next input) (sym (h .read) ∙ ap (switchIn input) e)))
+  pub switch-said : (b : Bool) (next : ℕ) → r ≡ switch.Switch b next → fromAllowance low high b (drop next input) ≡ fromSwitch low high (drop at input)
+  switch-said b next e = sym (ap finderAnswer (read-on (switchLine (drop at input)) _ (b, drop next input) (sym (h .read) ∙ ap (switchIn input) e)))
 
 -- the second line
 module _ (input : List ℕ) (at low : ℕ) (r : DigitLine) (h : DigitRead input at (bytes "high=") r) where
   pub high-fault : r ≡ Fault → refused (unplaced 8) ≡ fromHigh low (drop at input)
-  high-fault e = sym (ap (answered finds) (not-read (digitLine (bytes "high=") (drop at input)) _ (no-digit input at (bytes "high=") r h e)))
+  high-fault e = sym (ap finderAnswer (not-read (digitLine (bytes "high=") (drop at input)) _ (no-digit input at (bytes "high=") r h e)))
 
   pub high-digit : (d next : ℕ) → r ≡ Digit d next → fromSwitch low d (drop next input) ≡ fromHigh low (drop at input)
-  high-digit d next e =
-      sym (ap (answered finds) (read-on (digitLine (bytes "high=") (drop at input)) _ (d, drop next input) (one-digit input at (bytes "high=") r h d next e)))
+  high-digit d next e = sym (ap finderAnswer (read-on (digitLine (bytes "high=") (drop at input)) _ (d, drop next input) (one-digit input at (bytes "high=") r h d next e)))
 
 -- the first line
 module _ (input : List ℕ) (r : DigitLine) (h : DigitRead input 0 (bytes "low=") r) where
-  pub low-fault : r ≡ Fault → printed (refused (unplaced 8)) ≡ finder input
-  unfolding program
-  low-fault e = ap printed (sym (ap (answered finds) (not-read (digitLine (bytes "low=") input) _ (no-digit input 0 (bytes "low=") r h e))))
+  pub low-fault : r ≡ Fault → printedWithin (refused (unplaced 8)) ≡ finder input
+  unfolding finder
+  low-fault e = ap printedWithin (sym (ap finderAnswer (not-read (digitLine (bytes "low=") input) _ (no-digit input 0 (bytes "low=") r h e))))
 
-  pub low-digit : (d next : ℕ) → r ≡ Digit d next → printed (fromHigh d (drop next input)) ≡ finder input
-  unfolding program
+  pub low-digit : (d next : ℕ) → r ≡ Digit d next → printedWithin (fromHigh d (drop next input)) ≡ finder input
+  unfolding finder
   low-digit d next e =
-      ap printed (sym (ap (answered finds) (read-on (digitLine (bytes "low=") input) _ (d, drop next input) (one-digit input 0 (bytes "low=") r h d next e))))
+      ap printedWithin (sym (ap finderAnswer (read-on (digitLine (bytes "low=") input) _ (d, drop next input) (one-digit input 0 (bytes "low=") r h d next e))))

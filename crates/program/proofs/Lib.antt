@@ -1,7 +1,9 @@
 pub mod Printing
 pub mod RefusalLines
+pub mod KeyedLines
 pub mod DigitLines
 pub mod SwitchLines
+pub mod AllowanceLines
 pub mod Results
 pub mod Searching
 pub mod Inputs

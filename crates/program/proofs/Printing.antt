@@ -11,6 +11,8 @@ use Rattle.theory.specs.Bytes.{bytes, LF, decimal}
 use Rattle.theory.specs.Refusals.{Refusal, answer, atPlace}
 use Rattle.theory.specs.Operations.{over, found, nothing}
 use Rattle.theory.specs.Program.{refusalText, printed}
+use Rattle.allowance.specs.AllowedFind.{stopped}
+use Rattle.allowance.specs.FinderProgram.{printedWithin}
 use Rattle.text.specs.Put.{put, put-cursor, put-run, cursor-run}
 use Rattle.answers.proofs.Answering.{put-over}
 use Rattle.text.proofs.Decimal.{decimal-within}
@@ -50,6 +52,9 @@ line-short m h = omega (arith, length-append line (decimal m), digits m h)
 pub column-short : (m : ℕ) → m < 2 ^ 32 → length (column ++ decimal m) ≤ 18
 column-short m h = omega (arith, length-append column (decimal m), digits m h)
 
+pub stopped-short : (n : ℕ) → n < 2 ^ 32 → length (bytes "answer=stopped\nsize=" ++ decimal n) ≤ 30
+stopped-short n h = omega (arith, length-append (bytes "answer=stopped\nsize=") (decimal n), digits n h)
+
 -- a refusal with this number, line and column
 abbrev refusalAt : ℕ → ℕ → ℕ → Refusal
 refusalAt n m k = atPlace n (record { line = m; column = k })
@@ -81,6 +86,21 @@ refusal l l₁ l₂ l₃ a b c n m k hn hm hk h p e q f r g =
     let p₄ : set l₃ c LF ≡ put l 0 text = put-cursor l l₃ 0 c all text LF p₃ e₃ (omega (arith, e, f, g, x, y, z)) (refusal-text n m k) in
     let e₄ : c + 1 ≡ 0 + length text = omega (arith, e₃, length-append all (LF ∷ []), ap length (refusal-text n m k)) in
     responds l (set l₃ c LF) (c + 1) text p₄ e₄
+
+abbrev stopped-at : List ℕ
+stopped-at = bytes "answer=stopped\nsize="
+
+-- stopped, and at which size
+pub stopped-size : (l l₁ : List ℕ) (a n : ℕ) → n < 2 ^ 32 → 80 ≤ length l → l₁ ≡ put l 0 (stopped-at ++ decimal n) → a ≡ 0 + length (stopped-at ++ decimal n)
+    → Responds (printedWithin (answer (stopped n 0))) (a + 1) l (set l₁ a LF)
+unfolding printedWithin
+stopped-size l l₁ a n hn h p e =
+    let x : length (stopped-at ++ decimal n) ≤ 30 = stopped-short n hn in
+    let text : List ℕ = stopped-at ++ (decimal n ++ (LF ∷ [])) in
+    let joined : (stopped-at ++ decimal n) ++ (LF ∷ []) ≡ text = append-assoc stopped-at (decimal n) (LF ∷ []) in
+    let p₂ : set l₁ a LF ≡ put l 0 text = put-cursor l l₁ 0 a (stopped-at ++ decimal n) text LF p e (omega (arith, e, x)) joined in
+    let e₂ : a + 1 ≡ 0 + length text = omega (arith, e, length-append (stopped-at ++ decimal n) (LF ∷ []), ap length joined) in
+    responds l (set l₁ a LF) (a + 1) text p₂ e₂
 
 abbrev none : List ℕ
 none = bytes "answer=none\nsettled="

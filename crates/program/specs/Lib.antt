@@ -1,4 +1,5 @@
 pub mod Digits
 pub mod Switches
+pub mod Allowances
 pub mod Reports
 pub mod Reasons

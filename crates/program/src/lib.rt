@@ -1,10 +1,13 @@
 // The programs' work: the whole output of each as a function of its input, the finder's here, the explainer's in `explaining`. The programs themselves (crates `finder`, `explainer`) only read and print.
+mod allowances;
 mod digits;
 pub mod explaining;
 mod reasons;
 mod report;
 mod switches;
 
+use crate::allowances::AllowanceLine;
+use crate::allowances::allowance_line;
 use crate::digits::DigitLine;
 use crate::digits::digit_line;
 use crate::report::OUTCOME;
@@ -18,13 +21,12 @@ ghost use mathlib.Core.Path.{_≡_};
 ghost use Prim.Native.Nat.{_≤_};
 ghost use lib.ListN.{length, drop};
 ghost use mathlib.Core.Bool.{false};
-ghost use Rattle.theory.specs.Program as theory;
-ghost use Rattle.symmetry.specs.SymmetricOperations.{findResultWith};
-ghost use Rattle.symmetry.specs.FinderProgram.{finder};
-ghost use Rattle.program.specs.Reports.{Responds, fromHigh, fromSwitch};
+ghost use Rattle.allowance.specs.AllowedFind.{findWithin};
+ghost use Rattle.allowance.specs.FinderProgram.{printedWithin, finder};
+ghost use Rattle.program.specs.Reports.{Responds, fromHigh, fromSwitch, fromAllowance};
 
-// Three lines of at most 21 bytes together, the largest sheet, and one byte more: no answer depends on what comes after.
-pub const MAX_INPUT: usize = 21 + Problem::MAX_BYTES + 1;
+// Four lines of at most 35 bytes together, the largest sheet, and one byte more: no answer depends on what comes after.
+pub const MAX_INPUT: usize = 35 + Problem::MAX_BYTES + 1;
 
 // The outcome's line, and the longest case.
 pub const OUTPUT: usize = OUTCOME + LONGEST_CASE;
@@ -49,7 +51,7 @@ pub fn respond(input: &[u8], out: &mut [u8; OUTPUT]) -> usize
 // The same from the second line on.
 fn respond_from(input: &[u8], at: usize, low: u64, out: &mut [u8]) -> usize
     requires { ⌜ (at ≤ length (now input)) × (length (now out) ≡ 24915) ⌝ }
-    ensures { λ r. ⌜ Responds (theory.printed (fromHigh low (drop at (now (input .entry))))) r (now (out .entry)) (now (out .exit)) ⌝ }
+    ensures { λ r. ⌜ Responds (printedWithin (fromHigh low (drop at (now (input .entry))))) r (now (out .entry)) (now (out .exit)) ⌝ }
 {
     match digit_line(input, at, b"high=") {
         DigitLine::Fault => put_refusal(out, 8, 0, 0),
@@ -60,20 +62,47 @@ fn respond_from(input: &[u8], at: usize, low: u64, out: &mut [u8]) -> usize
 // The same from the third line on.
 fn respond_switch(input: &[u8], at: usize, low: u64, high: u64, out: &mut [u8]) -> usize
     requires { ⌜ (at ≤ length (now input)) × (length (now out) ≡ 24915) ⌝ }
-    ensures { λ r. ⌜ Responds (theory.printed (fromSwitch low high (drop at (now (input .entry))))) r (now (out .entry)) (now (out .exit)) ⌝ }
+    ensures { λ r. ⌜ Responds (printedWithin (fromSwitch low high (drop at (now (input .entry))))) r (now (out .entry)) (now (out .exit)) ⌝ }
 {
     match switch_line(input, at) {
         SwitchLine::Fault => put_refusal(out, 8, 0, 0),
         SwitchLine::Switch(symmetry, next) => {
-            search_sheet(&input[next..], low, high, symmetry, out)
+            respond_allowance(input, next, low, high, symmetry, out)
+        }
+    }
+}
+
+// The same from the fourth line on.
+fn respond_allowance(
+    input: &[u8],
+    at: usize,
+    low: u64,
+    high: u64,
+    symmetry: bool,
+    out: &mut [u8],
+) -> usize
+    requires { ⌜ (at ≤ length (now input)) × (length (now out) ≡ 24915) ⌝ }
+    ensures { λ r. ⌜ Responds (printedWithin (fromAllowance low high symmetry (drop at (now (input .entry))))) r (now (out .entry)) (now (out .exit)) ⌝ }
+{
+    match allowance_line(input, at) {
+        AllowanceLine::Fault => put_refusal(out, 8, 0, 0),
+        AllowanceLine::Allowance(allowance, next) => {
+            search_sheet(&input[next..], low, high, symmetry, allowance, out)
         }
     }
 }
 
 // Searches the sheet, and prints what was found.
-fn search_sheet(sheet: &[u8], low: u64, high: u64, symmetry: bool, out: &mut [u8]) -> usize
+fn search_sheet(
+    sheet: &[u8],
+    low: u64,
+    high: u64,
+    symmetry: bool,
+    allowance: u64,
+    out: &mut [u8],
+) -> usize
     requires { ⌜ length (now out) ≡ 24915 ⌝ }
-    ensures { λ r. ⌜ Responds (theory.printed (findResultWith false symmetry (now (sheet .entry)) low high 16000 24902)) r (now (out .entry)) (now (out .exit)) ⌝ }
+    ensures { λ r. ⌜ Responds (printedWithin (findWithin false symmetry (now (sheet .entry)) low high allowance 16000 24902)) r (now (out .entry)) (now (out .exit)) ⌝ }
 {
     let mut work = [0u32; WORK];
     let answer = find(
@@ -82,6 +111,7 @@ fn search_sheet(sheet: &[u8], low: u64, high: u64, symmetry: bool, out: &mut [u8
         high,
         false,
         symmetry,
+        allowance,
         &mut work,
         &mut out[OUTCOME..],
     );

@@ -1,5 +1,5 @@
 // What the program prints for an answer.
-use answers::FindAnswer;
+use finding::allowed::AllowedAnswer;
 use text::writing::put_bytes;
 use text::writing::put_number;
 ghost use mathlib.Core.Path.{_≡_};
@@ -10,6 +10,8 @@ ghost use Rattle.theory.specs.Bytes.{decimal};
 ghost use Rattle.theory.specs.Program as theory;
 ghost use Rattle.theory.specs.Refusals as refusals;
 ghost use Rattle.theory.specs.Operations as operations;
+ghost use Rattle.allowance.specs.AllowedFind as allowance;
+ghost use Rattle.allowance.specs.FinderProgram.{printedWithin};
 ghost use Rattle.text.specs.Put.{put};
 ghost use Rattle.program.specs.Reports.{Reportable, Responds};
 
@@ -17,14 +19,15 @@ ghost use Rattle.program.specs.Reports.{Reportable, Responds};
 pub const OUTCOME: usize = 13;
 
 // A found case stands after the outcome's line already.
-pub fn put_result(out: &mut [u8], answer: FindAnswer) -> usize
+pub fn put_result(out: &mut [u8], answer: AllowedAnswer) -> usize
     requires { ⌜ Reportable answer (now out) ⌝ }
-    ensures { λ r. ⌜ ((s : Reportable answer (now (out .entry))) → Responds (theory.printed (s .result)) r (s .before) (now (out .exit))) ⌝ }
+    ensures { λ r. ⌜ ((s : Reportable answer (now (out .entry))) → Responds (printedWithin (s .result)) r (s .before) (now (out .exit))) ⌝ }
 {
     match answer {
-        FindAnswer::Found(_, count) => put_found(out, count),
-        FindAnswer::Nothing(settled) => put_none(out, settled),
-        FindAnswer::Refused(r) => put_refusal(out, r.number, r.line, r.column),
+        AllowedAnswer::Found(_, count, _) => put_found(out, count),
+        AllowedAnswer::Nothing(settled, _) => put_none(out, settled),
+        AllowedAnswer::Stopped(size, _) => put_stopped(out, size),
+        AllowedAnswer::Refused(r) => put_refusal(out, r.number, r.line, r.column),
     }
 }
 
@@ -46,6 +49,16 @@ fn put_none(out: &mut [u8], settled: bool) -> usize
         return put_bytes(out, at, b"yes\n");
     }
     put_bytes(out, at, b"no\n")
+}
+
+// Stopped, and at which size.
+fn put_stopped(out: &mut [u8], size: u64) -> usize
+    requires { ⌜ (80 ≤ length (now out)) × (size < 2 ^ 32) ⌝ }
+    ensures { λ r. ⌜ Responds (printedWithin (refusals.answer (allowance.stopped size 0))) r (now (out .entry)) (now (out .exit)) ⌝ }
+{
+    let at = put_field(out, 0, b"answer=stopped\nsize=", size as u32);
+    out[at] = 10;
+    at + 1
 }
 
 // A refusal's number, line and column.

@@ -17,7 +17,6 @@ use Rattle.propagation.proofs.Lives.{one-names, all-at}
 use Rattle.propagation.proofs.Holds.{weight-at}
 use Rattle.propagation.proofs.Visits.{Looked, visit-at, forces-trans, quiet-on}
 use Rattle.theory.specs.Propositional.{PropClause}
-use Rattle.theory.specs.Walk.{Walked}
 use Rattle.search.proofs.Walks.{from-start, from-void}
 use Rattle.search.proofs.Kept.{frame-coded, frame-prefers}
 use Rattle.search.specs.Search.{Begun}
@@ -103,9 +102,7 @@ module _ (v : ℕ) (cs : List PropClause) (first : ℕ → Bool) (w₀ : List �
       record {
         frame = frame-coded cs f;
         started = λ k. absurd (true≢false k);
-        failed = λ k.
-            ap (λ (r : Walked). r .answer)
-            (from-start v cs first (loaded .numbered) (trail w′ v n′) s (h .fresh) ∙ from-void v cs first (loaded .numbered) (trail w′ v n′) (h .fresh) z);
+        failed = λ k. from-start v cs first (loaded .numbered) (trail w′ v n′) s (h .fresh) ∙ from-void v cs first (loaded .numbered) (trail w′ v n′) (h .fresh) z;
       }
 
   -- every clause is quiet: a search can start

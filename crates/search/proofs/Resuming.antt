@@ -3,7 +3,7 @@ use mathlib.Core.Path.{_≡_, refl, sym, ap, _∙_}
 use mathlib.Core.Bool.{Bool, true, false, cond}
 use mathlib.Core.Option.{Option, none, some}
 use mathlib.Core.List.{List, [], _∷_}
-use Prim.Native.Nat.{ℕ, suc, _+_, _*_, _/_, _%_}
+use Prim.Native.Nat.{ℕ, suc, _+_, _*_, _/_, _%_, _<_}
 use native.Mathlib.Omega.{arith}
 use borrow.Author.Tests.{eq-eqb, ne-eqb}
 use lib.Dec.{eqb}
@@ -51,6 +51,11 @@ added-none : (r : Walked) → added 0 r ≡ r
 added-none r =
     let n : 0 + r .choices ≡ r .choices = omega arith in
     ap (λ (k : ℕ). record { answer = r .answer; choices = k }) n
+
+added-end : (k : ℕ) (o : Option (List ℕ)) → added k (record { answer = o; choices = 0 }) ≡ record { answer = o; choices = k }
+added-end k o =
+    let n : k + 0 ≡ k = omega arith in
+    ap (λ (k : ℕ). record { answer = o; choices = k }) n
 
 added-added : (k : ℕ) (r : Walked) → added k (added 1 r) ≡ added (k + 1) r
 added-added k r =
@@ -127,15 +132,17 @@ module _ (v : ℕ) (cs : List PropClause) (first : ℕ → Bool) (numbered : all
   pub whole-back : (k : ℕ) (ts us : List ℕ) → Fresh v ts → Void (coded cs) (falses ts) → BackTo ts us → Whole k ts → Whole k us
   whole-back k ts us f z b e = e ∙ ap (added k) (ap (later ts) (from-void v cs first numbered ts f z) ∙ later-back b)
 
-  pub whole-none : (k : ℕ) (ts : List ℕ) → Fresh v ts → Void (coded cs) (falses ts) → NoneOpen ts → Whole k ts → walked v cs first .answer ≡ none
-  whole-none k ts f z c e = ap (λ (r : Walked). r .answer) (e ∙ ap (added k) (ap (later ts) (from-void v cs first numbered ts f z) ∙ later-closed ts nothing c))
+  pub whole-none : (k : ℕ) (ts : List ℕ) → Fresh v ts → Void (coded cs) (falses ts) → NoneOpen ts → Whole k ts → walked v cs first ≡ record { answer = none; choices = k }
+  whole-none k ts f z c e = e ∙ ap (added k) (ap (later ts) (from-void v cs first numbered ts f z) ∙ later-closed ts nothing c) ∙ added-end k none
 
   module _ (k : ℕ) (ts : List ℕ) (f : Fresh v ts) (q : AllQuiet v (coded cs) ts) where
-    pub whole-found : lowest (partial v ts) ≡ none → Whole k ts → walked v cs first .answer ≡ some (settingOf (values v ts))
+    pub whole-found : lowest (partial v ts) ≡ none → Whole k ts → walked v cs first ≡ record { answer = some (settingOf (values v ts)); choices = k }
     whole-found low e =
         let r : Walked = record { answer = some (bytesOf (partial v ts)); choices = 0 } in
-        ap (λ (r : Walked). r .answer) (e ∙ ap (added k) (ap (later ts) (from-end v cs first numbered ts f q low) ∙ later-found (bytesOf (partial v ts)) ts r refl))
-        ∙ ap some (partial-bytes (values v ts))
+        e
+        ∙ ap (added k) (ap (later ts) (from-end v cs first numbered ts f q low) ∙ later-found (bytesOf (partial v ts)) ts r refl)
+        ∙ added-end k (some (bytesOf (partial v ts)))
+        ∙ ap (λ (σ : List ℕ). record { answer = some σ; choices = k }) (partial-bytes (values v ts))
 
     -- a choice is one one-more, and leaves its other value open
     pub whole-choice : (x : ℕ) → lowest (partial v ts) ≡ some x → Whole k ts
@@ -152,3 +159,10 @@ module _ (v : ℕ) (cs : List PropClause) (first : ℕ → Bool) (numbered : all
         ∙ ap (added (k + 1))
         (ap (λ (n : ℕ). later ts (orElse (one .answer) one (go ((2 * negated n + 0) ∷ ts)))) (sym half)
         ∙ sym (later-open (2 * u + 1) ts one (omega arith)))
+
+    -- where a choice is needed, the whole walk makes more than k
+    pub whole-more : (x : ℕ) → lowest (partial v ts) ≡ some x → Whole k ts → k < walked v cs first .choices
+    whole-more x low e =
+        let us : List ℕ = (2 * cond (first x) (2 * x) (2 * x + 1) + 1) ∷ ts in
+        let made : walked v cs first .choices ≡ k + 1 + later us (go us) .choices = ap (λ (r : Walked). r .choices) (whole-choice x low e) in
+        omega (arith, made)

@@ -1,7 +1,7 @@
 -- A turn of the search, and its ends.
 use mathlib.Core.Path.{_≡_, refl, sym, ap, _∙_, subst, subst⁻¹}
 use mathlib.Core.Bool.{Bool, true, false, cond}
-use mathlib.Core.Option.{none, some}
+use mathlib.Core.Option.{Option, none, some}
 use mathlib.Core.List.{List, [], _∷_}
 use Prim.Native.Nat.{ℕ, _+_, _*_, _/_, _%_, _≤_, _<_}
 use native.Mathlib.Numerals.{add-one}
@@ -11,8 +11,11 @@ use lib.ListN.{length, getD, take}
 use lib.Seq.{getD-take}
 use Rattle.theory.specs.Lists.{all}
 use Rattle.theory.specs.Propositional.{PropClause}
-use Rattle.theory.specs.Walk.{lowest}
+use Rattle.theory.specs.Walk.{lowest, walked}
 use Rattle.theory.specs.Claims.Counts.{isNumbered}
+use Rattle.allowance.specs.AllowedWalk.{ended}
+use Rattle.allowance.specs.Claims.AllowedWalk.{cut}
+use Rattle.allowance.proofs.AllowedWalk.{cut-enough, cut-stopped}
 use Rattle.propagation.specs.Clauses.{coded}
 use Rattle.propagation.specs.Units.{pushed, Pushable}
 use Rattle.propagation.specs.WorkArea.{negated, trail, values, Fresh, falses, WorkHeld, Regions, Prefers, Frame}
@@ -21,14 +24,19 @@ use Rattle.propagation.specs.Advance.{Calm, Propagated}
 use Rattle.propagation.proofs.Frames.{trail-length, frame-none, frame-trans}
 use Rattle.propagation.proofs.Trails.{set-nonzero, values-length}
 use Rattle.propagation.proofs.Pushing.{free, pushed-held, pushed-frame, pushed-trail, older}
+use Rattle.search.specs.declared.Outcome.{Outcome}
 use Rattle.search.specs.Moves.{BackTo, flips, pops, NoneOpen, OpenUnder}
-use Rattle.search.specs.Search.{partialOf, preferred, searchAnswer, Returned, Started, Solved}
+use Rattle.search.specs.Search.{partialOf, preferred, finishedWith, searchAnswer, Returned, Started, Solved}
 use Rattle.search.proofs.LowestUnset.{lowest-is}
 use Rattle.search.proofs.Partials.{partial}
 use Rattle.search.proofs.Kept.{frame-coded, frame-prefers}
 use Rattle.search.proofs.Walks.{AllQuiet, from-start}
-use Rattle.search.proofs.Resuming.{Whole, whole-start, whole-forces, whole-back, whole-none, whole-found, whole-choice}
+use Rattle.search.proofs.Resuming.{Whole, whole-start, whole-forces, whole-back, whole-none, whole-found, whole-choice, whole-more}
 use Rattle.search.proofs.Potential.{potential, forced-falls, choice-falls, back-falls}
+
+-- the same of an outcome that is this one
+pub solved-as : {v : ℕ} {cs : List PropClause} {first : ℕ → Bool} {allowed : ℕ} {r q : Outcome} {w w′ : List ℕ} → r ≡ q → Solved v cs first allowed q w w′ → Solved v cs first allowed r w w′
+solved-as {v} {cs} {first} {allowed} {r} {q} {w} {w′} e s = subst⁻¹ (λ (r : Outcome). Solved v cs first allowed r w w′) e s
 
 -- every open choice was made where no clause forced anything
 abbrev Grounded : ℕ → List (List ℕ) → List ℕ → Type 0
@@ -36,7 +44,7 @@ Grounded v ds [] = Unit
 Grounded v ds (t ∷ ts) = (t % 2 ≡ 1 → AllQuiet v ds ts) × Grounded v ds ts
 
 -- What holds at the head of the loop: `whole` says that the whole walk has made so many choices, and goes on from the trail and its open choices.
-pub record Searching (v : ℕ) (cs : List PropClause) (first : ℕ → Bool) (w₀ : List ℕ) (head n : ℕ) (w : List ℕ) : Type 0 where
+pub record Searching (v : ℕ) (cs : List PropClause) (first : ℕ → Bool) (w₀ : List ℕ) (head n choices : ℕ) (w : List ℕ) : Type 0 where
   pub numbered : all (all (isNumbered v)) cs ≡ true
   pub held : WorkHeld v (coded cs) head n w
   pub frame : Frame v (length (coded cs)) w₀ w
@@ -44,8 +52,12 @@ pub record Searching (v : ℕ) (cs : List PropClause) (first : ℕ → Bool) (w�
   pub calm : Calm v (coded cs) head n w
   pub under : OpenUnder (head + 1) (trail w v n)
   pub grounded : Grounded v (coded cs) (trail w v n)
-  pub choices : ℕ
   pub whole : Whole v cs first numbered choices (trail w v n)
+
+-- the end of a walk that makes k choices, which are allowed
+pub ends-so : (v : ℕ) (cs : List PropClause) (first : ℕ → Bool) (allowed k : ℕ) (o : Option (List ℕ)) → walked v cs first ≡ record { answer = o; choices = k } → k ≤ allowed
+    → ended o k ≡ cut allowed (walked v cs first)
+ends-so v cs first allowed k o e h = sym (ap (cut allowed) e ∙ cut-enough allowed (record { answer = o; choices = k }) h)
 
 forces-closed : {v : ℕ} {ds : List (List ℕ)} {ts us : List ℕ} → Forces v ds ts us → NoneOpen ts → NoneOpen us
 forces-closed no-more c = c
@@ -75,7 +87,7 @@ grounded-forced : {v : ℕ} {ds : List (List ℕ)} {ts us : List ℕ} → Forces
 grounded-forced no-more u = u
 grounded-forced (one-more i t g is even l named unset) u = (λ e. absurd (omega (arith, e, even)), grounded-forced g u)
 
-pub searching-start : (v : ℕ) (cs : List PropClause) (first : ℕ → Bool) (len : ℕ) (w : List ℕ) → Started v cs first len w → Searching v cs first w 0 len w
+pub searching-start : (v : ℕ) (cs : List PropClause) (first : ℕ → Bool) (len : ℕ) (w : List ℕ) → Started v cs first len w → Searching v cs first w 0 len 0 w
 searching-start v cs first len w s =
     let c : NoneOpen (trail w v len) = forces-closed (s .forces) tt in
     record {
@@ -86,7 +98,6 @@ searching-start v cs first len w s =
       calm = s .calm;
       under = under-closed (0 + 1) (trail w v len) c;
       grounded = grounded-closed v (coded cs) (trail w v len) c;
-      choices = 0;
       whole = whole-start v cs first (s .numbered) (trail w v len) c (from-start v cs first (s .numbered) (trail w v len) (s .forces) (s .held .fresh));
     }
 
@@ -106,7 +117,7 @@ back-ground : {v : ℕ} {ds : List (List ℕ)} {ts us : List ℕ} → BackTo ts 
 back-ground (flips {ts} t e) g = (2 * negated (t / 2) + 0, ts, refl, omega arith, g .0 e, g .1)
 back-ground (pops t e b) g = back-ground b (g .1)
 
-module _ (v : ℕ) (cs : List PropClause) (first : ℕ → Bool) (w₀ : List ℕ) (head n : ℕ) (w : List ℕ) (s : Searching v cs first w₀ head n w)
+module _ (v : ℕ) (cs : List PropClause) (first : ℕ → Bool) (w₀ : List ℕ) (head n k : ℕ) (w : List ℕ) (s : Searching v cs first w₀ head n k w)
     (head₁ n₁ : ℕ) (clash : Bool) (w₁ : List ℕ) (p : Propagated v (coded cs) head n w head₁ n₁ clash w₁) where
   abbrev ds : List (List ℕ)
   ds = coded cs
@@ -123,8 +134,8 @@ module _ (v : ℕ) (cs : List PropClause) (first : ℕ → Bool) (w₀ : List �
   grounded₁ : Grounded v ds us
   grounded₁ = grounded-forced (p .forces) (s .grounded)
 
-  whole₁ : Whole v cs first (s .numbered) (s .choices) us
-  whole₁ = whole-forces v cs first (s .numbered) (s .choices) (p .forces) (p .held .fresh) (s .whole)
+  whole₁ : Whole v cs first (s .numbered) k us
+  whole₁ = whole-forces v cs first (s .numbered) k (p .forces) (p .held .fresh) (s .whole)
 
   falls₁ : potential v us ≤ potential v (trail w v n)
   falls₁ = forced-falls v (p .forces)
@@ -134,10 +145,10 @@ module _ (v : ℕ) (cs : List PropClause) (first : ℕ → Bool) (w₀ : List �
     frame₂ : Frame v (length ds) w₀ w₂
     frame₂ = frame-trans frame₁ (r .frame)
 
-    pub search-none : back ≡ false → Solved v cs first false w₀ w₂
-    search-none e =
+    pub search-none : back ≡ false → (allowed : ℕ) → k ≤ allowed → Solved v cs first allowed (finishedWith false k) w₀ w₂
+    search-none e allowed h =
         record {
-          answer = whole-none v cs first (s .numbered) (s .choices) us (p .held .fresh) (p .void clashes) (r .closed e) whole₁;
+          ends = ends-so v cs first allowed k none (whole-none v cs first (s .numbered) k us (p .held .fresh) (p .void clashes) (r .closed e) whole₁) h;
           frame = frame-coded cs frame₂;
         }
 
@@ -166,7 +177,7 @@ module _ (v : ℕ) (cs : List PropClause) (first : ℕ → Bool) (w₀ : List �
           (quiet-push v (getD w₂ (v + head₂) 0) (trail w₂ v head₂) (falses (trail w₂ v head₂)) (getD ds i []) ((subst (λ (l : List ℕ). Fresh v l) trail₂ (r .held .fresh)) .0)
           (subst⁻¹ (λ (l : List ℕ). Quiet (falses l) (values v l) (getD ds i [])) tail (g .4 i h)))
 
-      pub search-back : Searching v cs first w₀ head₂ n₂ w₂
+      pub search-back : Searching v cs first w₀ head₂ n₂ k w₂
       search-back =
           record {
             numbered = s .numbered;
@@ -176,8 +187,7 @@ module _ (v : ℕ) (cs : List PropClause) (first : ℕ → Bool) (w₀ : List �
             calm = calm₂;
             under = under-all (head₂ + 1) (trail w₂ v n₂) (omega (arith, level, trail-length v w₂ n₂));
             grounded = subst⁻¹ (Grounded v ds) (g .2) (λ e. absurd (omega (arith, e, g .3)), g .5);
-            choices = s .choices;
-            whole = whole-back v cs first (s .numbered) (s .choices) us (trail w₂ v n₂) (p .held .fresh) (p .void clashes) (r .back b) whole₁;
+            whole = whole-back v cs first (s .numbered) k us (trail w₂ v n₂) (p .held .fresh) (p .void clashes) (r .back b) whole₁;
           }
 
   -- no clash: every clause is quiet
@@ -192,14 +202,21 @@ module _ (v : ℕ) (cs : List PropClause) (first : ℕ → Bool) (w₀ : List �
     lowest-given : lowest (partial v us) ≡ lowest (partialOf (take v w₁))
     lowest-given = ap (λ (l : List ℕ). lowest (partialOf l)) (sym (p .held .gives))
 
-    pub search-found : lowest (partialOf (take v w₁)) ≡ none → Solved v cs first true w₀ w₁
-    search-found low =
+    pub search-found : lowest (partialOf (take v w₁)) ≡ none → (allowed : ℕ) → k ≤ allowed → Solved v cs first allowed (finishedWith true k) w₀ w₁
+    search-found low allowed h =
         record {
-          answer = whole-found v cs first (s .numbered) (s .choices) us (p .held .fresh) quiet (lowest-given ∙ low) whole₁ ∙ ap (searchAnswer true) (sym (p .held .gives));
+          ends = ap (λ (zs : List ℕ). ended (searchAnswer true zs) k) (p .held .gives)
+              ∙ ends-so v cs first allowed k (searchAnswer true (values v us)) (whole-found v cs first (s .numbered) k us (p .held .fresh) quiet (lowest-given ∙ low) whole₁) h;
           frame = frame-coded cs frame₁;
         }
 
     module _ (x : ℕ) (low : lowest (partialOf (take v w₁)) ≡ some x) where
+      -- a choice is needed, and none is left
+      pub search-stopped : (allowed : ℕ) → allowed ≤ k → Solved v cs first allowed (record { stopped = true; found = false; choices = k }) w₀ w₁
+      search-stopped allowed h =
+          let more = whole-more v cs first (s .numbered) k us (p .held .fresh) quiet x (lowest-given ∙ low) whole₁ in
+          record { ends = sym (cut-stopped allowed (walked v cs first) (omega (arith, more, h))); frame = frame-coded cs frame₁ }
+
       pub inside : x < v
       inside = omega (arith, lowest-is (values v us) x (lowest-given ∙ low) .0, values-length v us)
 
@@ -268,7 +285,7 @@ module _ (v : ℕ) (cs : List PropClause) (first : ℕ → Bool) (w₀ : List �
               subst⁻¹ (λ (l : List ℕ). potential v l < potential v (trail w v n)) trail-new
               (omega (arith, choice-falls v l us (omega (arith, trail-length v w₁ n₁, choice-free)), falls₁))
 
-          pub search-choice : Searching v cs first w₀ head₁ (n₁ + 1) w₂
+          pub search-choice : Searching v cs first w₀ head₁ (n₁ + 1) (k + 1) w₂
           search-choice =
               record {
                 numbered = s .numbered;
@@ -281,8 +298,7 @@ module _ (v : ℕ) (cs : List PropClause) (first : ℕ → Bool) (w₀ : List �
                     (quiet-push v (2 * l + 1) us (falses (trail w₁ v head₁)) (getD ds i []) ((subst (λ (l : List ℕ). Fresh v l) trail-new (held₂ .fresh)) .0) (p .calm calm .1 i h)));
                 under = under-all (head₁ + 1) (trail w₂ v (n₁ + 1)) (omega (arith, p .calm calm .0, trail-length v w₂ (n₁ + 1)));
                 grounded = subst⁻¹ (Grounded v ds) trail-new (λ e. quiet, grounded₁);
-                choices = s .choices + 1;
                 whole =
-                    subst⁻¹ (Whole v cs first (s .numbered) (s .choices + 1)) trail-new
-                    (whole-choice v cs first (s .numbered) (s .choices) us (p .held .fresh) quiet x (lowest-given ∙ low) whole₁);
+                    subst⁻¹ (Whole v cs first (s .numbered) (k + 1)) trail-new
+                    (whole-choice v cs first (s .numbered) k us (p .held .fresh) quiet x (lowest-given ∙ low) whole₁);
               }

@@ -1,4 +1,4 @@
--- What the parts of the search ask and leave, and what the whole search answers: the theory's walk.
+-- What the parts of the search ask and leave, and what the whole search answers: the theory's walk, cut off where it needs more choices than are allowed.
 use mathlib.Core.Path.{_≡_}
 use mathlib.Core.Bool.{Bool, true, false, cond}
 use mathlib.Core.Option.{Option, none, some}
@@ -12,6 +12,8 @@ use Rattle.theory.specs.Propositional.{PropClause}
 use Rattle.theory.specs.Walk.{Partial, lowest, walked}
 use Rattle.theory.specs.Claims.Counts.{isNumbered}
 use Rattle.theory.specs.Valuation.{settingOf}
+use Rattle.allowance.specs.AllowedWalk.{End, ended, stopped}
+use Rattle.allowance.specs.Claims.AllowedWalk.{cut}
 use Rattle.propagation.specs.Clauses.{coded}
 use Rattle.propagation.specs.Weights.{changed, more}
 use Rattle.propagation.specs.WorkArea.{trail, WorkHeld, Prefers, Loaded, Frame}
@@ -21,6 +23,7 @@ use Rattle.propagation.specs.declared.units.Seen.{Seen}
 use Rattle.search.specs.declared.Lowest.{Lowest}
 use Rattle.search.specs.declared.Lowest.the-variants.{Variable, AllSet}
 use Rattle.search.specs.declared.Back.{Back}
+use Rattle.search.specs.declared.Outcome.{Outcome}
 use Rattle.search.specs.Moves.{BackTo, NoneOpen, OpenUnder}
 
 -- a number of the values' region as the theory has it: 0 unset, 1 yes, else no
@@ -32,14 +35,22 @@ partialValue (suc (suc z)) = some false
 abbrev pub partialOf : List ℕ → Partial
 partialOf zs = map partialValue zs
 
--- what the search answers, from whether it found a valuation and the values' region
+-- a search that was not stopped
+abbrev pub finishedWith : Bool → ℕ → Outcome
+finishedWith found choices = record { stopped = false; found = found; choices = choices }
+
+-- what the search found, from whether it found a valuation and the values' region
 abbrev pub searchAnswer : Bool → List ℕ → Option (List ℕ)
 searchAnswer true zs = some (settingOf zs)
 searchAnswer false zs = none
 
--- From w to w′, the search answered what the walk over the clauses answers, and changed only the values, the trail and the weights.
-pub record Solved (v : ℕ) (cs : List PropClause) (first : ℕ → Bool) (found : Bool) (w w′ : List ℕ) : Type 0 where
-  pub answer : walked v cs first .answer ≡ searchAnswer found (take v w′)
+-- how the search says that the walk ends, with the choices that it made
+abbrev pub endOf : Outcome → List ℕ → End
+endOf r zs = cond (r .stopped) stopped (ended (searchAnswer (r .found) zs) (r .choices))
+
+-- From w to w′, the search ended as the walk over the clauses does with so many choices allowed, and changed only the values, the trail and the weights.
+pub record Solved (v : ℕ) (cs : List PropClause) (first : ℕ → Bool) (allowed : ℕ) (r : Outcome) (w w′ : List ℕ) : Type 0 where
+  pub ends : endOf r (take v w′) ≡ cut allowed (walked v cs first)
   pub frame : Frame v (length cs) w w′
 
 -- What a search asks: a work area that is loaded with m clauses.
@@ -50,9 +61,9 @@ pub record Loadable (v m : ℕ) (w : List ℕ) : Type 0 where
   pub number : length clauses ≡ m
 
 -- What a search leaves, of whatever clauses and first values the work area is loaded with.
-abbrev pub Solves : ℕ → ℕ → List ℕ → Bool → List ℕ → Type 0
-Solves v m w found w′ =
-    (cs : List PropClause) (first : ℕ → Bool) → Loaded v cs first w → length cs ≡ m → Solved v cs first found w w′
+abbrev pub Solves : ℕ → ℕ → ℕ → List ℕ → Outcome → List ℕ → Type 0
+Solves v m allowed w r w′ =
+    (cs : List PropClause) (first : ℕ → Bool) → Loaded v cs first w → length cs ≡ m → Solved v cs first allowed r w w′
 
 -- a work area from which a search starts: its trail has what the clauses force, none of it false in its clauses yet, and every clause is quiet
 pub record Started (v : ℕ) (cs : List PropClause) (first : ℕ → Bool) (len : ℕ) (w : List ℕ) : Type 0 where
@@ -68,15 +79,15 @@ pub record Startable (v len : ℕ) (w : List ℕ) : Type 0 where
   pub started : Started v clauses first len w
 
 -- a search from where it starts, of whatever clauses and first values
-abbrev pub Searches : ℕ → ℕ → List ℕ → Bool → List ℕ → Type 0
-Searches v len w found w′ =
-    (cs : List PropClause) (first : ℕ → Bool) → Started v cs first len w → Solved v cs first found w w′
+abbrev pub Searches : ℕ → ℕ → ℕ → List ℕ → Outcome → List ℕ → Type 0
+Searches v len allowed w r w′ =
+    (cs : List PropClause) (first : ℕ → Bool) → Started v cs first len w → Solved v cs first allowed r w w′
 
 -- From w to w′, every clause was looked at once: a search can start, or a clause is wholly false.
 pub record Begun (v : ℕ) (cs : List PropClause) (first : ℕ → Bool) (len : ℕ) (clash : Bool) (w w′ : List ℕ) : Type 0 where
   pub frame : Frame v (length cs) w w′
   pub started : clash ≡ false → Started v cs first len w′
-  pub failed : clash ≡ true → walked v cs first .answer ≡ none
+  pub failed : clash ≡ true → walked v cs first ≡ record { answer = none; choices = 0 }
 
 -- of whatever clauses and first values the work area is loaded with
 abbrev pub Begins : ℕ → ℕ → List ℕ → Seen → List ℕ → Type 0

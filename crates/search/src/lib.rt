@@ -4,7 +4,7 @@ ghost use Prim.Native.Nat.{_+_, _<_};
 ghost use lib.ListN.{take};
 ghost use Rattle.propagation.specs.WorkArea.{Regions};
 ghost use Rattle.propagation.specs.Advance.{Ready};
-ghost use Rattle.search.specs.Search.{lowestUnset, preferred, floated, Lowered, Pops, Returns, Startable, Searches, Loadable, Begins, Solves};
+ghost use Rattle.search.specs.Search.{lowestUnset, preferred, floated, Lowered, Pops, Returns, finishedWith, Startable, Searches, Loadable, Begins, Solves};
 use indices::PropVar;
 use propagation::literals::literal;
 use propagation::literals::negated;
@@ -17,6 +17,13 @@ pub struct Back {
     pub head: usize,
     pub len: usize,
     pub found: bool,
+}
+
+// How a search ends: stopped where one more choice was needed than allowed, else whether all variables could be set; and the choices made.
+pub struct Outcome {
+    pub stopped: bool,
+    pub found: bool,
+    pub choices: u64,
 }
 
 // The lowest unset variable, where there is one.
@@ -108,13 +115,25 @@ pub fn backtrack(work: &mut [u32], v: usize, head: usize, len: usize) -> Back
     }
 }
 
-// Searches from a trail of len entries that has no choices: whether all variables could be set.
-pub fn search(work: &mut [u32], v: usize, len: usize) -> bool
+// A search that was not stopped.
+pub fn finished(found: bool, choices: u64) -> Outcome
+    ensures { λ r. ⌜ r ≡ finishedWith found choices ⌝ }
+{
+    Outcome {
+        stopped: false,
+        found,
+        choices,
+    }
+}
+
+// Searches from a trail of len entries that has no choices, with so many choices allowed. What a choice is: a value put where nothing is forced.
+pub fn search(work: &mut [u32], v: usize, len: usize, allowed: u64) -> Outcome
     requires { ⌜ Startable v len (now work) ⌝ }
-    ensures { λ r. ⌜ Searches v len (now (work .entry)) r (now (work .exit)) ⌝ }
+    ensures { λ r. ⌜ Searches v len allowed (now (work .entry)) r (now (work .exit)) ⌝ }
 {
     let mut head = 0;
     let mut entries = len;
+    let mut choices = 0;
     loop {
         let front = propagation::propagate(work, v, head, entries);
         head = front.head;
@@ -122,16 +141,24 @@ pub fn search(work: &mut [u32], v: usize, len: usize) -> bool
         if front.clash {
             let back = backtrack(work, v, head, entries);
             if !back.found {
-                return false;
+                return finished(false, choices);
             }
             head = back.head;
             entries = back.len;
         } else {
             let Lowest::Variable(variable) = unset(work, v) else {
-                return true;
+                return finished(true, choices);
             };
+            if allowed <= choices {
+                return Outcome {
+                    stopped: true,
+                    found: false,
+                    choices,
+                };
+            }
             units::push(work, v, entries, first(work, v, variable), 1);
             entries += 1;
+            choices += 1;
         }
     }
 }
@@ -162,15 +189,15 @@ pub fn begin(work: &mut [u32], v: usize, m: usize) -> units::Seen
     }
 }
 
-// The whole search in a work area that holds m clauses over v variables: whether a satisfying valuation was found, which the values then are.
-pub fn solve(work: &mut [u32], v: usize, m: usize) -> bool
+// The whole search in a work area that holds m clauses over v variables, with so many choices allowed: where a satisfying valuation was found, the values are it.
+pub fn solve(work: &mut [u32], v: usize, m: usize, allowed: u64) -> Outcome
     requires { ⌜ Loadable v m (now work) ⌝ }
-    ensures { λ r. ⌜ Solves v m (now (work .entry)) r (now (work .exit)) ⌝ }
+    ensures { λ r. ⌜ Solves v m allowed (now (work .entry)) r (now (work .exit)) ⌝ }
 {
     let seen = begin(work, v, m);
     if seen.clash {
-        return false;
+        return finished(false, 0);
     }
     let len = seen.len;
-    search(work, v, len)
+    search(work, v, len, allowed)
 }

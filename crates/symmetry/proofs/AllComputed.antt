@@ -16,7 +16,6 @@ use Rattle.theory.specs.DueLines.{countOn, dueInSheet, sheetSymbols}
 use Rattle.theory.specs.Columns.{byteColumn, wordColumn, firstUnknown, firstMisplaced, firstOver, lineColumn, sheetColumn, placedProblem}
 use Rattle.theory.specs.Least.{leastModel, smallestModel, settled}
 use Rattle.theory.specs.Operations.{contentOf, writtenText, findResult}
-use Rattle.theory.specs.Program.{_>>?_, digitLine, switchLine, refusalText, printed, program}
 use Rattle.theory.specs.Examples.{twoConstants, nestedTerms}
 use Rattle.naming.specs.FixedTerms.{namedTerms, namedClauses}
 use Rattle.naming.specs.NamedProblem.{inMode, shownSymbols}
@@ -28,7 +27,7 @@ use Rattle.symmetry.specs.SymmetricOperations.{symmetricContentOf, symme
 use Rattle.symmetry.specs.Examples.{threeConstants, functionBefore, symbolsOf, constantText, Examples}
 
 pub examples : Examples
-unfolding twoConstants nestedTerms decimal cellKinds judged isModel merged liftedTerms flatten variableCount propBase propCount instances functionPart clausePart parts propClauses instanceCount literalCount workNeeded literalText clauseText header dimacs _>>=_ grammar readClause countLine isName symbolLines wordOf withinLimits clauseOf clauseLines readProblem tableText tablesText caseText caseLength goodValue goodLine countOn dueInSheet sheetSymbols byteColumn wordColumn firstUnknown firstMisplaced firstOver lineColumn sheetColumn placedProblem leastModel smallestModel settled findResult namedTerms namedClauses inMode shownSymbols isWithinNamed namedClauseOf namedClauseLines readNamed namedColumn placedNamed namedContentOf namedWrittenText namedFindResult contentOf writtenText constantPart constantParts partsWith propClausesWith instanceCountWith literalCountWith workNeededWith obeys leastObeying smallestWith symmetricContentOf symmetricWrittenText symmetricFindResult threeConstants functionBefore symbolsOf constantText _>>?_ digitLine switchLine refusalText printed program
+unfolding twoConstants nestedTerms decimal cellKinds judged isModel merged liftedTerms flatten variableCount propBase propCount instances functionPart clausePart parts propClauses instanceCount literalCount workNeeded literalText clauseText header dimacs _>>=_ grammar readClause countLine isName symbolLines wordOf withinLimits clauseOf clauseLines readProblem tableText tablesText caseText caseLength goodValue goodLine countOn dueInSheet sheetSymbols byteColumn wordColumn firstUnknown firstMisplaced firstOver lineColumn sheetColumn placedProblem leastModel smallestModel settled findResult namedTerms namedClauses inMode shownSymbols isWithinNamed namedClauseOf namedClauseLines readNamed namedColumn placedNamed namedContentOf namedWrittenText namedFindResult contentOf writtenText constantPart constantParts partsWith propClausesWith instanceCountWith literalCountWith workNeededWith obeys leastObeying smallestWith symmetricContentOf symmetricWrittenText symmetricFindResult threeConstants functionBefore symbolsOf constantText
 examples =
     record {
       two-text = refl;
@@ -51,11 +50,4 @@ examples =
       before-told-no = refl;
       before-told-yes = refl;
       before-named = refl;
-      program-no = refl;
-      program-before-no = refl;
-      program-before-yes = refl;
-      program-missing = refl;
-      program-capital = refl;
-      program-space = refl;
-      program-line = refl;
     }

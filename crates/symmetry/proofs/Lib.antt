@@ -10,5 +10,5 @@ pub mod Searched
 pub mod FindsObeying
 pub mod Switches
 pub mod Asked
-pub mod FinderProgram
+pub mod NearRefusals
 pub mod ToldNo

@@ -5,5 +5,4 @@ pub mod NamedTwins
 pub mod FindsObeying
 pub mod Switches
 pub mod Asked
-pub mod FinderProgram
 pub mod ToldNo

@@ -15,7 +15,6 @@ use Rattle.theory.specs.Examples.{twoConstants, nestedTerms}
 use Rattle.symmetry.specs.ConstantClauses.{constantParts}
 use Rattle.symmetry.specs.Obeying.{obeys, constantsFirst}
 use Rattle.symmetry.specs.SymmetricOperations.{writtenTextWith, findResultWith}
-use Rattle.symmetry.specs.FinderProgram.{finder}
 
 -- three constants, a function of one argument after the first
 unfoldable pub threeConstants : List ℕ
@@ -65,11 +64,3 @@ pub record Examples : Type 0 where
   pub before-told-no : findResultWith false false functionBefore 1 2 1000 100 ≡ answer (found 2 (bytes "case=1\nsize=2\nf=1 1\nc=2\n"))
   pub before-told-yes : findResultWith false true functionBefore 1 2 1000 100 ≡ answer (found 2 (bytes "case=1\nsize=2\nf=2 1\nc=1\n"))
   pub before-named : findResultWith true true functionBefore 1 2 1000 100 ≡ answer (found 2 (bytes "case=1\nsize=2\nf=2 1\nc=1\n"))
-  -- the program: its third line, and an 8 where it is missing or not so laid out, before the sheet is read
-  pub program-no : finder (bytes "low=1\nhigh=3\nsym=no\n" ++ twoConstants) ≡ bytes "answer=found\ncase=1\nsize=2\na=1\nb=2\n"
-  pub program-before-no : finder (bytes "low=1\nhigh=2\nsym=no\n" ++ functionBefore) ≡ bytes "answer=found\ncase=1\nsize=2\nf=1 1\nc=2\n"
-  pub program-before-yes : finder (bytes "low=1\nhigh=2\nsym=yes\n" ++ functionBefore) ≡ bytes "answer=found\ncase=1\nsize=2\nf=2 1\nc=1\n"
-  pub program-missing : finder (bytes "low=1\nhigh=3\n" ++ twoConstants) ≡ bytes "answer=refused\nreason=8\nline=0\ncolumn=0\n"
-  pub program-capital : finder (bytes "low=1\nhigh=3\nsym=Yes\nsheet=2\n") ≡ bytes "answer=refused\nreason=8\nline=0\ncolumn=0\n"
-  pub program-space : finder (bytes "low=1\nhigh=3\nsym=no \nsheet=2\n") ≡ bytes "answer=refused\nreason=8\nline=0\ncolumn=0\n"
-  pub program-line : finder (bytes "low=1\nhigh=3\nsym=no\nsheet=2\n") ≡ bytes "answer=refused\nreason=2\nline=1\ncolumn=7\n"

@@ -92,5 +92,4 @@ pub mod PlacedCases
 pub mod CutCases
 pub mod ColumnsWithin
 pub mod PlacedRefusals
-pub mod Program
 pub mod Explainer

@@ -14,5 +14,4 @@ pub mod SheetRead
 pub mod Columns
 pub mod Explaining
 pub mod Settings
-pub mod Program
 pub mod Explainer

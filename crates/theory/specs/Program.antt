@@ -1,11 +1,11 @@
--- The finder program: its output as a function of its input.
+-- The parts of the finder program: its lines and what it prints. The program is `allowance/specs/FinderProgram`.
 use Prim.Native.Nat.{ℕ, _-_}
 use mathlib.Core.Bool.{Bool, true, false, cond}
 use mathlib.Core.Option.{Option, none, some}
 use mathlib.Core.List.{List, [], _∷_, _++_}
 use Rattle.theory.specs.Bytes.{bytes, LF, zeroDigit, isDigit, decimal}
 use Rattle.theory.specs.Lines.{cutLine, afterKey}
-use Rattle.theory.specs.Refusals.{Refusal, Answer, answer, refused, unplaced}
+use Rattle.theory.specs.Refusals.{Refusal, Answer, answer, refused}
 use Rattle.theory.specs.Least.{orElse}
 use Rattle.theory.specs.Operations.{Search, found, nothing}
 
@@ -52,27 +52,3 @@ unfoldable pub printed : Answer Search → List ℕ
 printed (answer (found s text)) = bytes "answer=found\n" ++ text
 printed (answer (nothing b)) = bytes "answer=none\nsettled=" ++ (yesNo b ++ (LF ∷ []))
 printed (refused r) = refusalText r
-
--- what is asked: the two sizes, whether the constant clauses are used, and the sheet
-pub record Asked : Type 0 where
-  pub low : ℕ
-  pub high : ℕ
-  pub symmetry : Bool
-  pub sheet : List ℕ
-
--- the three lines and the sheet
-abbrev pub asked : List ℕ → Option Asked
-asked input =
-    digitLine (bytes "low=") input >>? λ a.
-    digitLine (bytes "high=") (a .1) >>? λ b.
-    switchLine (b .1) >>? λ c.
-    some (record { low = a .0; high = b .0; symmetry = c .0; sheet = c .1 })
-
--- the answer to the input, by what Find answers; a line that is not so laid out is 8, before the sheet is read
-abbrev pub answered : (Asked → Answer Search) → Option Asked → Answer Search
-answered find none = refused (unplaced 8)
-answered find (some a) = find a
-
--- the output for an input, by what Find answers
-unfoldable pub program : (Asked → Answer Search) → List ℕ → List ℕ
-program find input = printed (answered find (asked input))

@@ -1,5 +1,5 @@
-// A stored input: a line of six numbers, each with one byte after it, then the bytes of a sheet or of TPTP clauses and those of a case, a setting, a solver's answer or a second sheet. The numbers are the lengths of the two,
-// a size or low, high, and the lengths of the work and the output that are lent; those that an operation does not take are 0.
+// A stored input: a line of seven numbers, each with one byte after it, then the bytes of a sheet or of TPTP clauses and those of a case, a setting, a solver's answer or a second sheet. The numbers are the lengths of the two,
+// a size or low, high, the allowance, and the lengths of the work and the output that are lent; those that an operation does not take are 0.
 ghost use Prim.Native.Nat.{_≤_};
 ghost use lib.ListN.{length};
 
@@ -10,6 +10,7 @@ pub struct Input {
     pub end: usize,
     pub low: u64,
     pub high: u64,
+    pub allowance: u64,
     pub work: usize,
     pub output: usize,
 }
@@ -57,6 +58,7 @@ fn broken() -> Input
         end: 0,
         low: 0,
         high: 0,
+        allowance: 0,
         work: 0,
         output: 0,
     }
@@ -70,7 +72,8 @@ pub fn input_at(stored: &[u8], at: usize) -> Input
     let second = number_at(stored, first.next);
     let low = number_at(stored, second.next);
     let high = number_at(stored, low.next);
-    let work = number_at(stored, high.next);
+    let allowance = number_at(stored, high.next);
+    let work = number_at(stored, allowance.next);
     let output = number_at(stored, work.next);
     let sheet = output.next;
     if stored.len() < sheet {
@@ -85,12 +88,14 @@ pub fn input_at(stored: &[u8], at: usize) -> Input
     if stored.len() - beside < beside_length {
         return broken();
     }
+    let end = beside + beside_length;
     Input {
         sheet,
         beside,
-        end: beside + beside_length,
+        end,
         low: low.value,
         high: high.value,
+        allowance: allowance.value,
         work: work.value as usize,
         output: output.value as usize,
     }

@@ -8,6 +8,7 @@ use crate::lines::counts;
 use crate::lines::failure;
 use crate::lines::kept;
 use crate::lines::length;
+use crate::lines::made;
 use crate::lines::nothing;
 use crate::lines::refusal;
 use crate::lines::rest;
@@ -19,6 +20,7 @@ use answers::FindAnswer;
 use answers::JudgeAnswer;
 use answers::ReadAnswer;
 use answers::WriteAnswer;
+use finding::allowed::AllowedAnswer;
 
 pub enum Operation {
     Read,
@@ -85,23 +87,33 @@ fn read_back(sheet: &[u8], size: u64, named: bool, setting: &[u8], output: &mut 
 }
 
 // What Find answers and leaves.
-fn search(answer: FindAnswer, work: &[u32], output: &[u8]) {
+fn search(answer: AllowedAnswer, work: &[u32], output: &[u8]) {
     match answer {
-        FindAnswer::Found(size, n) => {
+        AllowedAnswer::Found(size, n, choices) => {
             say(b" found");
             tell(size);
+            made(choices);
             length(output, n);
             cleared(work);
             say(b"\n");
             short(output, n);
         }
-        FindAnswer::Nothing(settled) => {
+        AllowedAnswer::Nothing(settled, choices) => {
             nothing(settled);
+            made(choices);
             rest(output, 0);
             cleared(work);
             say(b"\n");
         }
-        FindAnswer::Refused(r) => {
+        AllowedAnswer::Stopped(size, choices) => {
+            say(b" stopped");
+            tell(size);
+            made(choices);
+            rest(output, 0);
+            cleared(work);
+            say(b"\n");
+        }
+        AllowedAnswer::Refused(r) => {
             refusal(r);
             rest(output, 0);
             kept(work);
@@ -110,16 +122,17 @@ fn search(answer: FindAnswer, work: &[u32], output: &[u8]) {
     }
 }
 
-fn find(
-    sheet: &[u8],
-    low: u64,
-    high: u64,
-    named: bool,
-    symmetry: bool,
-    work: &mut [u32],
-    output: &mut [u8],
-) {
-    let answer = nesskettle::find(sheet, low, high, named, symmetry, work, output);
+fn find(sheet: &[u8], x: Input, named: bool, symmetry: bool, work: &mut [u32], output: &mut [u8]) {
+    let answer = nesskettle::find(
+        sheet,
+        x.low,
+        x.high,
+        named,
+        symmetry,
+        x.allowance,
+        work,
+        output,
+    );
     search(answer, work, output);
 }
 
@@ -250,7 +263,7 @@ fn answer(
         Operation::Judge => judge(sheet, beside),
         Operation::Write => write(sheet, x.low, false, false, output),
         Operation::ReadBack => read_back(sheet, x.low, false, beside, output),
-        Operation::Find => find(sheet, x.low, x.high, false, false, work, output),
+        Operation::Find => find(sheet, x, false, false, work, output),
         Operation::FromTptp => from_tptp(sheet, output),
         Operation::Explain => explain(sheet, beside),
         Operation::Setting => setting(sheet, beside, output),
@@ -258,11 +271,11 @@ fn answer(
         Operation::FindPlain => find_plain(sheet, x.low, x.high, output),
         Operation::WriteNamed => write(sheet, x.low, true, false, output),
         Operation::ReadBackNamed => read_back(sheet, x.low, true, beside, output),
-        Operation::FindNamed => find(sheet, x.low, x.high, true, false, work, output),
+        Operation::FindNamed => find(sheet, x, true, false, work, output),
         Operation::WriteSymmetry => write(sheet, x.low, false, true, output),
-        Operation::FindSymmetry => find(sheet, x.low, x.high, false, true, work, output),
+        Operation::FindSymmetry => find(sheet, x, false, true, work, output),
         Operation::WriteNamedSymmetry => write(sheet, x.low, true, true, output),
-        Operation::FindNamedSymmetry => find(sheet, x.low, x.high, true, true, work, output),
+        Operation::FindNamedSymmetry => find(sheet, x, true, true, work, output),
         Operation::Merge => merge(sheet, beside, output),
     }
 }

@@ -55,11 +55,13 @@ pub enum Reason {
     NamesDiffer = 22,
     /// 23: the merged sheet has over 12 functions, 12 predicates, 64 clauses or 16,384 bytes.
     MergeTooLarge = 23,
+    /// 24: the allowance is over [`FindOptions::LARGEST_ALLOWANCE`].
+    AllowanceTooLarge = 24,
 }
 
 impl Reason {
     /// Every reason, in order of its number.
-    pub const ALL: [Reason; 23] = [
+    pub const ALL: [Reason; 24] = [
         Reason::SheetTooLong,
         Reason::Layout,
         Reason::OverLimit,
@@ -83,6 +85,7 @@ impl Reason {
         Reason::TooManyHelpers,
         Reason::NamesDiffer,
         Reason::MergeTooLarge,
+        Reason::AllowanceTooLarge,
     ];
 
     /// The specification's number of this reason.
@@ -155,6 +158,7 @@ impl fmt::Display for Reason {
             Reason::MergeTooLarge => {
                 "the merged sheet would be over the limit (12 functions, 12 predicates, 64 clauses, 16,384 bytes)"
             }
+            Reason::AllowanceTooLarge => "at most 1,000,000 choices can be allowed",
         })
     }
 }
@@ -269,15 +273,28 @@ impl Default for WriteOptions {
     }
 }
 
-/// How Find searches a sheet; unless said otherwise, with terms as they are written, and with the constant clauses.
+/// How Find searches a sheet; unless said otherwise, with terms as they are written, with the constant clauses, and with the
+/// largest allowance.
 ///
 /// With [`Symmetry::Kept`] the model found is the least one of its size, with [`Symmetry::Reduced`] the least of those that
 /// obey the constant clauses. None, the smallest size and, where all constants are declared before other functions, the case
-/// are the same where neither search is refused.
+/// are the same where neither search is refused or stopped.
 #[derive(Clone, Copy, Debug, PartialEq, Eq)]
 pub struct FindOptions {
     pub terms: Terms,
     pub symmetry: Symmetry,
+    /// How many choices the search may make over all sizes, 0 to [`FindOptions::LARGEST_ALLOWANCE`]. It is
+    /// [`Search::Stopped`] exactly if it needs one more; a larger allowance that is not refused changes no other answer.
+    ///
+    /// A choice is made when a propositional variable is unset and no clause is wholly false or forces a variable (one literal
+    /// of it is unset, the others are false). It sets the lowest unset variable: to yes for a function, to no for a predicate.
+    /// Where that fails, the other value is tried, which is no choice.
+    pub allowance: u64,
+}
+
+impl FindOptions {
+    /// The most choices that a search may be allowed.
+    pub const LARGEST_ALLOWANCE: u64 = 1_000_000;
 }
 
 impl Default for FindOptions {
@@ -285,6 +302,7 @@ impl Default for FindOptions {
         FindOptions {
             terms: Terms::default(),
             symmetry: Symmetry::Reduced,
+            allowance: FindOptions::LARGEST_ALLOWANCE,
         }
     }
 }
@@ -330,15 +348,37 @@ impl FirstFailure {
     }
 }
 
-/// What a search over sizes came to.
+/// What a search over sizes came to, and the choices that it made over all sizes so far. The plain search makes none, and is
+/// never stopped.
 #[derive(Clone, Copy, Debug, PartialEq, Eq)]
 pub enum Search {
     /// The least model at the smallest size, of those that [`FindOptions`] speaks of, stands in the output's first `length`
     /// bytes.
-    Found { size: u64, length: usize },
+    Found { size: u64, length: usize, choices: u64 },
     /// No case of a searched size is a model. Where it is `settled`, no interpretation of any size is one, above 8
     /// included: the search began at size 1, no function has arguments, and high is at least the number of constants.
-    None { settled: bool },
+    None { settled: bool, choices: u64 },
+    /// At this size one more choice is needed than [`FindOptions::allowance`] has. No case of a smaller searched size is a
+    /// model; of this size and larger ones nothing is known.
+    Stopped { size: u64, choices: u64 },
+}
+
+impl Search {
+    /// The choices that it made.
+    pub fn choices(self) -> u64 {
+        match self {
+            Search::Found { choices, .. } | Search::None { choices, .. } | Search::Stopped { choices, .. } => choices,
+        }
+    }
+
+    /// The same with so many choices.
+    pub fn with_choices(self, choices: u64) -> Search {
+        match self {
+            Search::Found { size, length, .. } => Search::Found { size, length, choices },
+            Search::None { settled, .. } => Search::None { settled, choices },
+            Search::Stopped { size, .. } => Search::Stopped { size, choices },
+        }
+    }
 }
 
 /// What a solver's answer comes to.
@@ -382,7 +422,7 @@ mod tests {
             assert_eq!(Reason::from_number(reason.number()), Some(reason));
         }
         assert_eq!(Reason::from_number(0), None);
-        assert_eq!(Reason::from_number(24), None);
+        assert_eq!(Reason::from_number(25), None);
     }
 
     #[test]
@@ -391,6 +431,31 @@ mod tests {
         assert_eq!(WriteOptions::default().symmetry, Symmetry::Kept);
         assert_eq!(FindOptions::default().terms, Terms::AsWritten);
         assert_eq!(WriteOptions::default().terms, Terms::AsWritten);
+    }
+
+    #[test]
+    fn find_is_allowed_the_most_choices() {
+        assert_eq!(FindOptions::default().allowance, 1_000_000);
+    }
+
+    #[test]
+    fn every_search_has_its_choices() {
+        for search in [
+            Search::Found {
+                size: 2,
+                length: 22,
+                choices: 7,
+            },
+            Search::None {
+                settled: true,
+                choices: 7,
+            },
+            Search::Stopped { size: 2, choices: 7 },
+        ] {
+            assert_eq!(search.choices(), 7);
+            assert_eq!(search.with_choices(8).choices(), 8);
+            assert_eq!(search.with_choices(8).with_choices(7), search);
+        }
     }
 
     #[test]

@@ -1,9 +1,10 @@
 //! Nesskettle's specification a second time, in plain Rust.
 //!
-//! Written from the specification, without a look at the proved code, so that both can be compared. Two parts are an
+//! Written from the specification, without a look at the proved code, so that both can be compared. Three parts are an
 //! exception in part: the author of [`from_solver`] had seen in which order the proved code refuses, though not how it reads
-//! the text; the author of [`Terms::Named`] had read notes on how the proved code is laid out. The calls take and answer what
-//! the proved library's calls do.
+//! the text; the author of [`Terms::Named`] had read notes on how the proved code is laid out; that of
+//! [`FindOptions::allowance`] had read a definition of what Find answers with one, though not of the walk. The calls take and
+//! answer what the proved library's calls do.
 
 mod flattening;
 mod grounding;
@@ -108,7 +109,7 @@ pub fn setting(sheet: &[u8], case: &[u8], out: &mut [u8]) -> Result<usize, Refus
     put(&interpretation.setting(&problem), out)
 }
 
-/// Searches the sizes from low to high for the least model at the smallest size.
+/// Searches the sizes from low to high for the least model at the smallest size, with at most so many choices as are allowed.
 pub fn find(
     sheet: &[u8],
     low: u64,
@@ -117,22 +118,11 @@ pub fn find(
     work: &mut [u32],
     out: &mut [u8],
 ) -> Result<Search, Refusal> {
-    find_within(sheet, low, high, options, work, out, u64::MAX)
-        .map(|search| search.expect("no search makes so many choices"))
-}
-
-/// As [`find`], but a search that needs more choices than allowed ends with nothing, and has changed nothing.
-pub fn find_within(
-    sheet: &[u8],
-    low: u64,
-    high: u64,
-    options: FindOptions,
-    work: &mut [u32],
-    out: &mut [u8],
-    allowance: u64,
-) -> Result<Option<Search>, Refusal> {
     let problem = Problem::read(sheet, options.terms)?;
     let top = checked_range(low, high)?;
+    if options.allowance > FindOptions::LARGEST_ALLOWANCE {
+        return Err(refused(Reason::AllowanceTooLarge));
+    }
     let counted = Counted::new(&problem, top, options.symmetry);
     few_instances(&counted)?;
     if (work.len() as u64) < counted.work() {
@@ -142,29 +132,38 @@ pub fn find_within(
     if out.len() < longest {
         return Err(short(Reason::OutputTooShort, longest as u64));
     }
-    let mut left = allowance;
-    for size in low as usize..=top {
-        match search::least_model(&problem, size, options.symmetry, &mut left) {
-            search::Outcome::Stopped => return Ok(None),
+    work.fill(0);
+    search_sizes(&problem, low, high, options, out)
+}
+
+/// What one size leaves of the allowance is the next one's.
+fn search_sizes(
+    problem: &Problem,
+    low: u64,
+    high: u64,
+    options: FindOptions,
+    out: &mut [u8],
+) -> Result<Search, Refusal> {
+    let mut left = options.allowance;
+    for size in low..=high {
+        let outcome = search::least_model(problem, size as usize, options.symmetry, &mut left);
+        let choices = options.allowance - left;
+        match outcome {
             search::Outcome::None => {}
+            search::Outcome::Stopped => return Ok(Search::Stopped { size, choices }),
             search::Outcome::Found(cells) => {
-                let text = Interpretation::new(size, cells).text(&problem);
-                let length = put(&text, out)?;
-                work.fill(0);
-                return Ok(Some(Search::Found {
-                    size: size as u64,
-                    length,
-                }));
+                let length = put(&Interpretation::new(size as usize, cells).text(problem), out)?;
+                return Ok(Search::Found { size, length, choices });
             }
         }
     }
-    work.fill(0);
-    Ok(Some(Search::None {
-        settled: settled(&problem, low, high),
-    }))
+    Ok(Search::None {
+        settled: settled(problem, low, high),
+        choices: options.allowance - left,
+    })
 }
 
-/// The same search as on a whiteboard: it fills cells one by one and judges full cases.
+/// The same search as on a whiteboard: it fills cells one by one and judges full cases. It makes no choices and never stops.
 pub fn find_plain(sheet: &[u8], low: u64, high: u64, out: &mut [u8]) -> Result<Search, Refusal> {
     let search = find_plain_within(sheet, low, high, out, u64::MAX)?;
     Ok(search.expect("no search judges so many cases"))
@@ -193,14 +192,18 @@ pub fn find_plain_within(
             plain::Outcome::Stopped => return Ok(None),
             plain::Outcome::None => {}
             plain::Outcome::Found(case) => {
-                let length = put(&case.text(&problem), out)?;
-                let size = size as u64;
-                return Ok(Some(Search::Found { size, length }));
+                return Ok(Some(Search::Found {
+                    size: size as u64,
+                    length: put(&case.text(&problem), out)?,
+                    choices: 0,
+                }));
             }
         }
     }
-    let settled = settled(&problem, low, high);
-    Ok(Some(Search::None { settled }))
+    Ok(Some(Search::None {
+        settled: settled(&problem, low, high),
+        choices: 0,
+    }))
 }
 
 /// Reads TPTP clauses into a sheet and writes it; the sheet's length.

@@ -18,10 +18,11 @@ pub fn program(input: &[u8]) -> Vec<u8> {
             text.extend_from_slice(&out[..length]);
             text
         }
-        Ok(Search::None { settled }) => {
+        Ok(Search::None { settled, .. }) => {
             let mark = if settled { "yes" } else { "no" };
             format!("answer=none\nsettled={mark}\n").into_bytes()
         }
+        Ok(Search::Stopped { size, .. }) => format!("answer=stopped\nsize={size}\n").into_bytes(),
         Err(refusal) => refusal_lines(refusal),
     }
 }
@@ -52,16 +53,34 @@ fn start_of_case(input: &[u8]) -> usize {
     lines.take_while(|&line| line != b"case=1\n").map(<[u8]>::len).sum()
 }
 
-/// The two digits, what the third line says, and the sheet after it; nothing where one of the three lines is not as laid out.
+/// What the first four lines say, and the sheet after them; nothing where one of the four is not as laid out.
 fn read_input(input: &[u8]) -> Option<(u64, u64, FindOptions, &[u8])> {
     let (low, rest) = digit_line(input, b"low=")?;
     let (high, rest) = digit_line(rest, b"high=")?;
-    let (symmetry, sheet) = match rest.strip_prefix(b"sym=yes\n") {
-        Some(sheet) => (Symmetry::Reduced, sheet),
+    let (symmetry, rest) = match rest.strip_prefix(b"sym=yes\n") {
+        Some(rest) => (Symmetry::Reduced, rest),
         None => (Symmetry::Kept, rest.strip_prefix(b"sym=no\n")?),
     };
-    let terms = Terms::AsWritten;
-    Some((low, high, FindOptions { terms, symmetry }, sheet))
+    let (allowance, sheet) = allowance_line(rest)?;
+    let options = FindOptions {
+        terms: Terms::AsWritten,
+        symmetry,
+        allowance,
+    };
+    Some((low, high, options, sheet))
+}
+
+/// The number of one to seven digits, without a leading zero, of the line `allow=`, and what follows the line.
+fn allowance_line(text: &[u8]) -> Option<(u64, &[u8])> {
+    let rest = text.strip_prefix(b"allow=")?;
+    let end = rest.iter().position(|&b| b == b'\n')?;
+    let (digits, rest) = (&rest[..end], &rest[end + 1..]);
+    let is_number = (1..=7).contains(&digits.len()) && digits.iter().all(u8::is_ascii_digit);
+    if !is_number || digits.len() > 1 && digits[0] == b'0' {
+        return None;
+    }
+    let value = digits.iter().fold(0, |value, digit| 10 * value + (digit - b'0') as u64);
+    Some((value, rest))
 }
 
 /// The digit of the line with this key, and what follows the line.

@@ -45,6 +45,15 @@ impl Vector {
         }
     }
 
+    /// The largest of a search without the field `allowance`, 0 of other operations.
+    pub fn allowance(&self) -> u64 {
+        match self.operation.as_str() {
+            _ if self.inputs.has("allowance") => self.inputs.number("allowance"),
+            "find" => FindOptions::LARGEST_ALLOWANCE,
+            _ => 0,
+        }
+    }
+
     fn is_on(&self, switch: &str) -> bool {
         self.inputs.has(switch) && self.inputs.number(switch) > 0
     }
@@ -160,9 +169,16 @@ pub fn run(operations: &Operations, vector: &Vector) -> Result<(), String> {
         "setting" => (operations.setting)(sheet, given.bytes("case"), &mut out).map(|n| format!("length={n}")),
         "find" => {
             let (low, high) = (given.number("low"), given.number("high"));
-            (operations.find)(sheet, low, high, FindOptions { terms, symmetry }, &mut work, &mut out).map(found)
+            let options = FindOptions {
+                terms,
+                symmetry,
+                allowance: vector.allowance(),
+            };
+            (operations.find)(sheet, low, high, options, &mut work, &mut out)
+                .map(|search| found(search, &vector.answer))
         }
-        "find-plain" => (operations.find_plain)(sheet, given.number("low"), given.number("high"), &mut out).map(found),
+        "find-plain" => (operations.find_plain)(sheet, given.number("low"), given.number("high"), &mut out)
+            .map(|search| found(search, &vector.answer)),
         "from-tptp" => (operations.from_tptp)(given.bytes("text"), &mut out).map(|n| format!("length={n}")),
         "from-solver" => {
             (operations.from_solver)(sheet, given.number("size"), given.bytes("text"), &mut out).map(from_solver)
@@ -216,8 +232,10 @@ fn expected(answer: &Fields) -> String {
         "choice",
         "settled",
         "found",
+        "stopped",
         "claimed",
         "length",
+        "choices",
     ];
     let shown = keys.into_iter().filter(|key| answer.has(key));
     let shown = shown.map(|key| format!("{key}={}", String::from_utf8_lossy(answer.bytes(key))));
@@ -234,10 +252,17 @@ fn explained(failure: Option<FirstFailure>) -> String {
     format!("fits=no clause={} choice={choice}", failure.clause)
 }
 
-fn found(search: Search) -> String {
-    match search {
-        Search::Found { size, length } => format!("found={size} length={length}"),
-        Search::None { settled } => format!("settled={}", yes_no(settled)),
+/// With the choices made where the stored answer has them.
+fn found(search: Search, stored: &Fields) -> String {
+    let told = match search {
+        Search::Found { size, length, .. } => format!("found={size} length={length}"),
+        Search::None { settled, .. } => format!("settled={}", yes_no(settled)),
+        Search::Stopped { size, .. } => format!("stopped={size}"),
+    };
+    if stored.has("choices") {
+        format!("{told} choices={}", search.choices())
+    } else {
+        told
     }
 }
 

@@ -3,6 +3,7 @@
 
 use crate::buffers::Lent;
 use crate::expected;
+use crate::options::told;
 use crate::tally::Tally;
 use nesskettle::raw;
 use nesskettle_reference::{self as reference, FindOptions, Symmetry, Terms, WriteOptions};
@@ -24,8 +25,7 @@ impl Switches {
     }
 
     pub fn find_options(self) -> FindOptions {
-        let (terms, symmetry) = (terms(self.named), symmetry(self.symmetry));
-        FindOptions { terms, symmetry }
+        told(terms(self.named), symmetry(self.symmetry))
     }
 }
 
@@ -107,23 +107,22 @@ pub fn check_read_back(tally: &mut Tally, sheet: &[u8], size: u64, named: u32, s
     tally.add("written", answer.reason);
 }
 
-/// A search that needs more choices than this is left out.
-pub fn check_find_within(
+pub fn check_find(
     tally: &mut Tally,
     sheet: &[u8],
     (low, high): (u64, u64),
     switches: Switches,
+    allowance: u64,
     work_length: usize,
     output_length: usize,
-    choices: u64,
 ) {
     let mut should = vec![0; output_length];
     let mut scratch = vec![0; work_length];
-    let options = switches.find_options();
-    let within = reference::find_within(sheet, low, high, options, &mut scratch, &mut should, choices);
-    let Some(search) = within.transpose() else {
-        return tally.add("left out", 0);
+    let options = FindOptions {
+        allowance,
+        ..switches.find_options()
     };
+    let search = reference::find(sheet, low, high, options, &mut scratch, &mut should);
     let zeros = if search.is_ok() { work_length } else { 0 };
     let (expected, front) = expected::search(search);
     let lent = sheet.to_vec();
@@ -138,6 +137,7 @@ pub fn check_find_within(
             high,
             switches.named,
             switches.symmetry,
+            allowance,
             numbers.as_mut_ptr(),
             numbers.len(),
             out.as_mut_ptr(),
@@ -146,7 +146,7 @@ pub fn check_find_within(
     };
     let call = || {
         format!(
-            "find, {low} to {high}, {switches:?}, work {work_length}, output {output_length}\n{}",
+            "find, {low} to {high}, {switches:?}, allowance {allowance}, work {work_length}, output {output_length}\n{}",
             text(sheet)
         )
     };

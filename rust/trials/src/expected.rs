@@ -12,6 +12,7 @@ pub fn search(answer: Result<Search, Refusal>) -> (FindAnswer, usize) {
         column: 0,
         size: 0,
         length: 0,
+        choices: 0,
         settled: 0,
     };
     match answer {
@@ -25,22 +26,33 @@ pub fn search(answer: Result<Search, Refusal>) -> (FindAnswer, usize) {
             };
             (refused, 0)
         }
-        Ok(Search::Found { size, length }) => {
+        Ok(Search::Found { size, length, choices }) => {
             let found = FindAnswer {
                 outcome: 1,
                 size,
                 length: length as u64,
+                choices,
                 ..nothing
             };
             (found, length)
         }
-        Ok(Search::None { settled }) => {
+        Ok(Search::None { settled, choices }) => {
             let none = FindAnswer {
                 outcome: 2,
                 settled: settled as u32,
+                choices,
                 ..nothing
             };
             (none, 0)
+        }
+        Ok(Search::Stopped { size, choices }) => {
+            let stopped = FindAnswer {
+                outcome: 3,
+                size,
+                choices,
+                ..nothing
+            };
+            (stopped, 0)
         }
     }
 }
@@ -90,6 +102,7 @@ pub fn merged(answer: Result<usize, MergeRefusal>, output: &[u8]) -> (MergeAnswe
 pub fn outcome(answer: &FindAnswer) -> &'static str {
     match (answer.outcome, answer.settled) {
         (1, _) => "found",
+        (3, _) => "stopped",
         (_, 1) => "none, settled",
         _ => "none",
     }

@@ -19,3 +19,4 @@ pub mod solver;
 pub mod tally;
 pub mod tptp;
 pub mod truth;
+pub mod walk;

@@ -3,10 +3,10 @@
 use crate::buffers::left;
 use crate::dimacs::Dimacs;
 use crate::options::told_no;
-use nesskettle_reference::{find_within, needed, FindOptions, Operations, Refusal, Search, Terms, WriteOptions};
+use nesskettle_reference::{find, needed, FindOptions, Operations, Refusal, Search, Terms, WriteOptions};
 use std::collections::BTreeSet;
 
-/// Generated searches that need more choices than this are left out.
+/// What generated searches are allowed.
 pub const CHOICES: u64 = 2_000;
 
 /// Searches that need more work than this are left out where the reference makes them too.
@@ -14,21 +14,29 @@ const WORK: u64 = 100_000;
 
 /// A model of the sheet with up to three elements, if one is found quickly.
 pub fn small_model(sheet: &[u8]) -> Option<Vec<u8>> {
-    let options = told_no(Terms::AsWritten);
+    let options = with_few_choices(told_no(Terms::AsWritten));
     let (work, output) = needed(sheet, 3, options).ok()?;
     let mut work = vec![0; work.min(WORK) as usize];
     let mut output = vec![0; output as usize];
-    match find_within(sheet, 1, 3, options, &mut work, &mut output, CHOICES) {
-        Ok(Some(Search::Found { length, .. })) => Some(output[..length].to_vec()),
+    match find(sheet, 1, 3, options, &mut work, &mut output) {
+        Ok(Search::Found { length, .. }) => Some(output[..length].to_vec()),
         _ => None,
     }
 }
 
-/// An answer, and the output after it.
+/// The options with an allowance that is soon used up.
+pub fn with_few_choices(options: FindOptions) -> FindOptions {
+    FindOptions {
+        allowance: CHOICES,
+        ..options
+    }
+}
+
+/// An answer, its number of choices left out, and the output after it.
 pub type Searched = (Search, Vec<u8>);
 
-/// What a search answers and leaves, with just the room that it needs; the refusal where it is not taken. Nothing where it
-/// is too large.
+/// What a search answers and leaves, with few choices and just the room that it needs; the refusal where it is not taken.
+/// Nothing where it is too large, or stopped.
 pub fn searched(
     operations: &Operations,
     sheet: &[u8],
@@ -41,11 +49,20 @@ pub fn searched(
         Err(_) => (0, 0),
     };
     let (mut work, mut output) = (vec![7; work], vec![7; output]);
-    let within = find_within(sheet, low, high, options, &mut work, &mut output, CHOICES);
-    within.transpose()?.ok();
-    output.fill(7);
-    let search = (operations.find)(sheet, low, high, options, &mut work, &mut output);
-    Some(search.map(|search| (search, output)))
+    match (operations.find)(sheet, low, high, with_few_choices(options), &mut work, &mut output) {
+        Ok(Search::Stopped { .. }) => None,
+        search => Some(search.map(|search| (search.with_choices(0), output))),
+    }
+}
+
+/// What a search came to, for a tally.
+pub fn outcome(search: Search) -> String {
+    match search {
+        Search::Found { size, .. } => format!("found at {size}"),
+        Search::None { settled: true, .. } => "none, settled".to_string(),
+        Search::None { settled: false, .. } => "none".to_string(),
+        Search::Stopped { size, .. } => format!("stopped at {size}"),
+    }
 }
 
 /// The cases to which the settings that satisfy the written clauses are read back, each from one setting alone. All settings

@@ -1,4 +1,5 @@
-//! Options of Write and Find: Write is asked for constant clauses or not, Find is told to use them or not.
+//! Options of Write and Find: Write is asked for constant clauses or not, Find is told to use them or not, with the largest
+//! allowance where no other is named.
 
 use nesskettle::{FindOptions, Symmetry, Terms, WriteOptions};
 
@@ -15,11 +16,17 @@ pub const fn asked(terms: Terms) -> WriteOptions {
 
 /// The model found is the least of all.
 pub const fn told_no(terms: Terms) -> FindOptions {
-    let symmetry = Symmetry::Kept;
-    FindOptions { terms, symmetry }
+    told(terms, Symmetry::Kept)
 }
 
 pub const fn told_yes(terms: Terms) -> FindOptions {
-    let symmetry = Symmetry::Reduced;
-    FindOptions { terms, symmetry }
+    told(terms, Symmetry::Reduced)
+}
+
+pub const fn told(terms: Terms, symmetry: Symmetry) -> FindOptions {
+    FindOptions {
+        terms,
+        symmetry,
+        allowance: FindOptions::LARGEST_ALLOWANCE,
+    }
 }

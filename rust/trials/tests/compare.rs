@@ -6,7 +6,7 @@
 use nesskettle::raw::{self, ExplainAnswer, JudgeAnswer, ReadAnswer};
 use nesskettle_reference::{self as reference, Terms};
 use nesskettle_trials::buffers::{length_around, Lent};
-use nesskettle_trials::checks::{check_find_within, check_read_back, check_write, text, OFF};
+use nesskettle_trials::checks::{self, check_read_back, check_write, text, OFF};
 use nesskettle_trials::damage::damaged;
 use nesskettle_trials::draft::{long_sheet, Draft, Style, BROAD, LIMITS, LONG_CLAUSES, SMALL};
 use nesskettle_trials::expected;
@@ -184,7 +184,7 @@ fn check_setting(tally: &mut Tally, sheet: &[u8], case: &[u8], output_length: us
 }
 
 fn check_find(tally: &mut Tally, sheet: &[u8], low: u64, high: u64, work_length: usize, output_length: usize) {
-    check_find_within(tally, sheet, (low, high), OFF, work_length, output_length, CHOICES)
+    checks::check_find(tally, sheet, (low, high), OFF, CHOICES, work_length, output_length)
 }
 
 /// A draft in one of the styles.
@@ -514,7 +514,7 @@ fn models_of_named_problems_are_found_alike() {
                 reference::needed(problem.sheet, high, told_no(Terms::AsWritten)).expect("it is a sheet");
             if work < 2_000_000 {
                 let (work, output) = (work as usize, output as usize);
-                check_find_within(&mut tally, problem.sheet, (1, high), OFF, work, output, 50_000);
+                checks::check_find(&mut tally, problem.sheet, (1, high), OFF, 50_000, work, output);
             }
         }
     }

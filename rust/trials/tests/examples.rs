@@ -54,7 +54,8 @@ fn found_plain(sheet: &[u8], low: u64, high: u64) -> Result<String, bool> {
 fn model_or_mark(search: Result<Search, Refusal>, output: &[u8]) -> Result<String, bool> {
     match search.expect("it is searched") {
         Search::Found { length, .. } => Ok(String::from_utf8_lossy(&output[..length]).into_owned()),
-        Search::None { settled } => Err(settled),
+        Search::None { settled, .. } => Err(settled),
+        Search::Stopped { .. } => panic!("it is stopped"),
     }
 }
 
@@ -249,6 +250,68 @@ fn least_models() {
     assert_eq!(found(&single, 2, 2).as_deref(), Ok("case=1\nsize=2\na=1\np=1 0\n"));
 }
 
+/// A choice is made where a variable is unset, no clause is wholly false and none forces a variable.
+#[test]
+fn choices() {
+    let search = |sheet: &[u8], (low, high): (u64, u64), options: FindOptions| {
+        let (mut work, mut output) = (vec![7; 10_000], vec![0; 200]);
+        find(sheet, low, high, options, &mut work, &mut output).expect("it is searched")
+    };
+    let made = |sheet: &[u8], sizes: (u64, u64)| search(sheet, sizes, told_no(AsWritten)).choices();
+    // a is 1; with the constant clauses that is forced
+    let constants = sheet("two-constants");
+    assert_eq!(made(constants, (1, 1)), 0);
+    assert_eq!(made(constants, (1, 3)), 1);
+    assert_eq!(search(constants, (1, 3), FindOptions::default()).choices(), 0);
+    // also where all clauses are true, or there is none: each statement is a choice, and of each cell the first value
+    assert_eq!(made(&sheet_of(&[], &["p/1", "o/0"], &[]), (3, 3)), 4);
+    assert_eq!(made(&sheet_of(&["f/1"], &[], &[]), (3, 3)), 3);
+    assert_eq!(made(&sheet_of(&[], &["p/0"], &["+ p - p"]), (1, 1)), 1);
+    // a clause of one literal forces it, also where it stands there twice
+    assert_eq!(made(&sheet_of(&[], &["p/0"], &["+ p"]), (1, 1)), 0);
+    assert_eq!(
+        made(&sheet_of(&[], &["p/0", "q/0"], &["+ p + p", "- p + q"]), (1, 1)),
+        0
+    );
+    // no comes first for p and fails; yes, which fails too, is no choice; so at every size
+    let never = sheet_of(&[], &["p/0", "q/0"], &["+ p + q", "+ p - q", "- p + q", "- p - q"]);
+    assert_eq!(made(&never, (1, 1)), 1);
+    assert_eq!(made(&never, (1, 3)), 3);
+    assert_eq!(made(&sheet_of(&[], &["p/0"], &[""]), (1, 3)), 0);
+    // what the first size leaves of the allowance is the second's
+    let allowed = |allowance: u64| {
+        let options = FindOptions {
+            allowance,
+            ..told_no(AsWritten)
+        };
+        search(&never, (1, 3), options)
+    };
+    let (settled, choices) = (true, 3);
+    for allowance in 0..3 {
+        let (size, choices) = (allowance + 1, allowance);
+        assert_eq!(allowed(allowance), Search::Stopped { size, choices });
+    }
+    assert_eq!(allowed(3), Search::None { settled, choices });
+    assert_eq!(allowed(1_000_000), Search::None { settled, choices });
+}
+
+/// 1,000,000 choices can be allowed, after 8 and before 9.
+#[test]
+fn limits_of_the_allowance() {
+    let many = sheet_of(&[], &["q/3"], &["+ q A B C + q D E F"; 4]);
+    let search = |high: u64, allowance: u64| {
+        let options = FindOptions {
+            allowance,
+            ..FindOptions::default()
+        };
+        find(&many, 1, high, options, &mut [], &mut [])
+    };
+    assert_eq!(search(9, 1_000_001), refused(Reason::BadSize, NO_PLACE));
+    assert_eq!(search(8, 1_000_001), refused(Reason::AllowanceTooLarge, NO_PLACE));
+    assert_eq!(search(8, u64::MAX), refused(Reason::AllowanceTooLarge, NO_PLACE));
+    assert_eq!(search(8, 1_000_000), refused(Reason::TooManyInstances, NO_PLACE));
+}
+
 /// Cells in order, the least value first: the specification's examples again, with the marks.
 #[test]
 fn plain_searches() {
@@ -280,9 +343,10 @@ fn plain_searches() {
 fn limits_of_the_plain_search() {
     let taken = sheet_of(&[], &["r/2"], &[]);
     let mut output = [7; 144];
+    let (size, length, choices) = (8, 144, 0);
     assert_eq!(
         find_plain(&taken, 8, 8, &mut output),
-        Ok(Search::Found { size: 8, length: 144 })
+        Ok(Search::Found { size, length, choices })
     );
     let table = ["r=0", &" 0".repeat(63), "\n"].concat();
     assert_eq!(output[14..], *table.as_bytes());

@@ -4,16 +4,14 @@
 //! Inputs are generated from fixed seeds. Each test counts what came out, so that a generator that no longer reaches a
 //! result or a refusal fails.
 
-use nesskettle_reference::{
-    self as reference, sheet_of, FindOptions, Operations, Reason, Refusal, Search, Symmetry, Terms,
-};
+use nesskettle_reference::{self as reference, sheet_of, Operations, Reason, Refusal, Symmetry, Terms};
 use nesskettle_trials::buffers::length_around;
-use nesskettle_trials::checks::{check_find_within, check_read_back, check_write, Switches, OFF};
+use nesskettle_trials::checks::{check_find, check_read_back, check_write, Switches, OFF};
 use nesskettle_trials::damage::damaged;
 use nesskettle_trials::draft::{long_sheet, Draft, BROAD, LIMITS, SMALL};
 use nesskettle_trials::fixed;
-use nesskettle_trials::models::{satisfying, searched, CHOICES};
-use nesskettle_trials::options::{not_asked, told_no};
+use nesskettle_trials::models::{outcome, satisfying, searched, CHOICES};
+use nesskettle_trials::options::{not_asked, told, told_no};
 use nesskettle_trials::problems;
 use nesskettle_trials::random::Random;
 use nesskettle_trials::tally::Tally;
@@ -209,7 +207,7 @@ fn models_are_found_alike() {
         let output = length_around(&mut random, output);
         let (named, symmetry) = (named(&mut random), 0);
         let switches = Switches { named, symmetry };
-        check_find_within(&mut tally, &sheet, (low, high), switches, work, output, CHOICES);
+        check_find(&mut tally, &sheet, (low, high), switches, CHOICES, work, output);
     }
     tally.covers(50, &["found", "none", "2", "5", "6", "7", "8", "10", "11", "21"]);
     tally.covers(10, &["none, settled", "9"]);
@@ -218,7 +216,7 @@ fn models_are_found_alike() {
 /// Both searches, where neither is refused, answer the same and leave the same output, with constant clauses in both or none.
 fn check_same(tally: &mut Tally, sheet: &[u8], low: u64, high: u64, symmetry: Symmetry) {
     for operations in BOTH {
-        let search = |terms| searched(&operations, sheet, (low, high), FindOptions { terms, symmetry });
+        let search = |terms| searched(&operations, sheet, (low, high), told(terms, symmetry));
         let (Some(named), Some(written)) = (search(Terms::Named), search(Terms::AsWritten)) else {
             return tally.add("left out", 0);
         };
@@ -232,11 +230,7 @@ fn check_same(tally: &mut Tally, sheet: &[u8], low: u64, high: u64, symmetry: Sy
                     )
                 };
                 assert_eq!(named, written, "{}", call());
-                match named.0 {
-                    Search::Found { size, .. } => format!("found at {size}"),
-                    Search::None { settled: true } => "none, settled".to_string(),
-                    Search::None { settled: false } => "none".to_string(),
-                }
+                outcome(named.0)
             }
             (Ok(_), Err(refusal)) => format!("named alone, not {}", refusal.reason.number()),
             (Err(refusal), Ok(_)) => format!("as written alone, not {}", refusal.reason.number()),

@@ -10,6 +10,7 @@ use nesskettle_trials::buffers::{length_around, Lent};
 use nesskettle_trials::damage::damaged;
 use nesskettle_trials::draft::{Draft, BROAD, LIMITS, SMALL};
 use nesskettle_trials::expected;
+use nesskettle_trials::models::outcome;
 use nesskettle_trials::options::{not_asked, told_no};
 use nesskettle_trials::problems;
 use nesskettle_trials::random::Random;
@@ -124,7 +125,10 @@ fn refusals_come_in_their_order() {
         assert_eq!(refused(&many, 9, 8), (Reason::BadSize, 0, 0, 0));
         assert_eq!(refused(&many, 1, 8), (Reason::TooManyCells, 0, 0, 0));
         assert_eq!(refused(&few, 1, 8), (Reason::OutputTooShort, 0, 0, 144));
-        let found = |length: usize| Ok(Search::Found { size: 1, length });
+        let found = |length: usize| {
+            let (size, choices) = (1, 0);
+            Ok(Search::Found { size, length, choices })
+        };
         assert_eq!((operations.find_plain)(&many, 1, 4, &mut [7; 52]), found(22));
         assert_eq!((operations.find_plain)(&few, 1, 8, &mut [7; 144]), found(18));
     }
@@ -147,7 +151,8 @@ fn each_search_takes_what_the_other_refuses() {
     }
 }
 
-/// Both searches on this implementation, each with just the room that it needs: what they answer and leave.
+/// Both searches on this implementation, each with just the room that it needs: what they answer, the number of choices left
+/// out, and leave.
 fn both_searches(
     operations: &Operations,
     sheet: &[u8],
@@ -160,6 +165,7 @@ fn both_searches(
     let (mut by_clauses, mut plain) = (output.clone(), output);
     let found = (operations.find)(sheet, low, high, told_no(Terms::AsWritten), &mut work, &mut by_clauses);
     let found_plain = (operations.find_plain)(sheet, low, high, &mut plain);
+    let found = found.map(|search| search.with_choices(0));
     [(found, by_clauses), (found_plain, plain)]
 }
 
@@ -190,9 +196,7 @@ fn agreed(sheet: &[u8], low: u64, high: u64) -> Option<Search> {
 fn add_agreed(tally: &mut Tally, search: Option<Search>) {
     let outcome = match search {
         None => "left out".to_string(),
-        Some(Search::Found { size, .. }) => format!("found at {size}"),
-        Some(Search::None { settled: true }) => "none, settled".to_string(),
-        Some(Search::None { settled: false }) => "none".to_string(),
+        Some(search) => outcome(search),
     };
     tally.add(&outcome, 0);
 }

@@ -1,8 +1,9 @@
 //! What settled means, tried on generated sheets: where none is settled, no larger size has a model either.
 
-use nesskettle_reference::{self as reference, FindOptions, Operations, Search, Symmetry, Terms, WriteOptions};
+use nesskettle_reference::{self as reference, Operations, Search, Symmetry, Terms, WriteOptions};
 use nesskettle_trials::draft::{Draft, SMALL};
-use nesskettle_trials::models::CHOICES;
+use nesskettle_trials::models::with_few_choices;
+use nesskettle_trials::options::told;
 use nesskettle_trials::random::Random;
 use nesskettle_trials::tally::Tally;
 
@@ -26,20 +27,20 @@ fn searches() -> impl Iterator<Item = (Operations, Symmetry)> {
     BOTH.into_iter().flat_map(both)
 }
 
-/// The search, if the reference makes it with few choices.
+/// The search, if it needs few choices.
 fn find((operations, symmetry): &(Operations, Symmetry), sheet: &[u8], low: u64, high: u64) -> Option<Search> {
     let terms = Terms::AsWritten;
     let symmetry = *symmetry;
-    let options = FindOptions { terms, symmetry };
+    let options = with_few_choices(told(terms, symmetry));
     let (instances, _) = reference::instances_and_variables(sheet, high, WriteOptions { terms, symmetry }).ok()?;
     let (work, output) = reference::needed(sheet, high, options).ok()?;
     if instances > INSTANCES {
         return None;
     }
     let (mut work, mut output) = (vec![0; work as usize], vec![0; output as usize]);
-    let within = reference::find_within(sheet, low, high, options, &mut work, &mut output, CHOICES);
-    within.expect("the room is enough")?;
-    (operations.find)(sheet, low, high, options, &mut work, &mut output).ok()
+    let search = (operations.find)(sheet, low, high, options, &mut work, &mut output);
+    let search = search.expect("the room is enough");
+    (!matches!(search, Search::Stopped { .. })).then_some(search)
 }
 
 #[test]
@@ -50,7 +51,7 @@ fn a_settled_none_is_none_at_every_size() {
         for _ in 0..5_000 {
             let (sheet, constants) = sheet_of_constants(&mut random);
             let high = constants.max(1);
-            let Some(Search::None { settled }) = find(&search, &sheet, 1, high) else {
+            let Some(Search::None { settled, .. }) = find(&search, &sheet, 1, high) else {
                 continue;
             };
             assert!(settled);
@@ -93,7 +94,7 @@ fn a_model_may_stand_beside_an_unsettled_none() {
                 0 if constants > 1 => (1, constants - 1),
                 _ => (constants + 1, constants + 2),
             };
-            let Some(Search::None { settled }) = find(&search, &sheet, low, high) else {
+            let Some(Search::None { settled, .. }) = find(&search, &sheet, low, high) else {
                 continue;
             };
             assert_eq!(settled, low == 1 && high >= constants);

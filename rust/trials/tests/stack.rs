@@ -191,8 +191,8 @@ fn the_most_cells_of_a_plain_search_are_filled() {
     let sheet = sheet_of(&["f/1"], &predicates, &[&deep, many]);
     on_a_stack(LARGE_STACK, move || {
         let mut output = [0; 158];
-        let found = Search::Found { size: 8, length: 158 };
-        assert_eq!(find_plain(&sheet, 8, 8, &mut output), Ok(found));
+        let found = find_plain(&sheet, 8, 8, &mut output);
+        assert!(matches!(found, Ok(Search::Found { length: 158, .. })));
         assert!(output.ends_with(b"v=1 0 0 0 0 0 0 0\n"));
     });
 }

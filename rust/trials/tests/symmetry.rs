@@ -8,7 +8,7 @@
 use nesskettle_reference::{self as reference, sheet_of, MAX_INSTANCES};
 use nesskettle_reference::{Operations, Reason, Search, Terms, WriteOptions};
 use nesskettle_trials::buffers::{left, length_around};
-use nesskettle_trials::checks::{check_find_within, check_write, text, Switches};
+use nesskettle_trials::checks::{check_find, check_write, text, Switches};
 use nesskettle_trials::constants;
 use nesskettle_trials::damage::damaged;
 use nesskettle_trials::dimacs::Dimacs;
@@ -113,7 +113,7 @@ fn models_are_found_alike() {
         let (work, output) = reference::needed(&sheet, high, switches.find_options()).unwrap_or((20, 20));
         let work = length_around(&mut random, work.min(1_000_000));
         let output = length_around(&mut random, output);
-        check_find_within(&mut tally, &sheet, (low, high), switches, work, output, CHOICES);
+        check_find(&mut tally, &sheet, (low, high), switches, CHOICES, work, output);
     }
     tally.covers(50, &["found", "none", "none, settled", "2", "8", "10", "11", "21"]);
     tally.covers(10, &["5", "6", "9"]);
@@ -185,8 +185,8 @@ fn check_twins(tally: &mut Tally, draft: &Draft, sizes: (u64, u64), terms: Terms
 fn same_but_for_the_case(draft: &Draft, with: &Searched, without: &Searched) -> Result<String, &'static str> {
     let holds = |fact: bool, what: &'static str| if fact { Ok(()) } else { Err(what) };
     holds(with.0 == without.0, "the answer is another")?;
-    let Search::Found { size, length } = with.0 else {
-        return Ok(if with.0 == (Search::None { settled: true }) {
+    let Search::Found { size, length, .. } = with.0 else {
+        return Ok(if matches!(with.0, Search::None { settled: true, .. }) {
             "none, settled"
         } else {
             "none"

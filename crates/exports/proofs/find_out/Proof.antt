@@ -1,54 +1,68 @@
-use mathlib.Core.Path.{sym, ap}
-use Rattle.answers.specs.Answers.{findIn}
-use Rattle.exports.specs.Layouts.{findOut}
+-- `find_out` meets its contract.
+use mathlib.Core.Path.{sym, ap, _∙_}
+use Rattle.finding.specs.Calls.{allowedIn}
+use Rattle.exports.specs.Layouts.{resultOut, findOut}
 use borrow.Author.Needs.{needs}
 use Rattle.exports.proofs.find_out.Statement.{statement}
 use Rattle.exports.proofs.find_out.Tie as tie
 use Rattle.exports.proofs.find_out.Reads as reads
 use Rattle.exports.proofs.find_out.Lts as lts
 use Rattle.exports.proofs.number_of.Reads as number-of-reads
+use Rattle.exports.proofs.result_out.Reads as result-out-reads
 
--- src/lib.rt:169:27
 enum-known-answer : tie.Need-enum-known-answer
 enum-known-answer c = search needs
 
--- src/lib.rt:177:29
+result-out-requires : tie.Need-result-out-requires
+result-out-requires c κs = search needs
+
 enum-known-answer-2 : tie.Need-enum-known-answer-2
 enum-known-answer-2 c = search needs
 
--- src/lib.rt:183:22
 number-of-requires : tie.Need-number-of-requires
 number-of-requires c κs = search needs
 
--- src/lib.rt:185:29
+result-out-requires-2 : tie.Need-result-out-requires-2
+result-out-requires-2 c κs = search needs
+
 enum-known-answer-3 : tie.Need-enum-known-answer-3
 enum-known-answer-3 c = search needs
 
--- src/lib.rt:187:21
-cast-t9 : tie.Need-cast-t9
-cast-t9 c = search needs
+result-out-requires-3 : tie.Need-result-out-requires-3
+result-out-requires-3 c κs = search needs
 
--- src/lib.rt:165:1
+enum-known-answer-4 : tie.Need-enum-known-answer-4
+enum-known-answer-4 c = search needs
+
+cast-t13 : tie.Need-cast-t13
+cast-t13 c = search needs
+
 returns : tie.Need-returns
-returns c = sym (ap (λ a. findOut (findIn a)) (c .before .answer .given .1))
+returns c = c .result-out .ensures ∙ sym (ap (λ a. findOut (allowedIn a)) (c .before .before .answer .given .1))
 
--- src/lib.rt:165:1
 returns-2 : tie.Need-returns-2
-returns-2 c = rw (c .number-of .ensures) (sym (ap (λ a. findOut (findIn a)) (c .before .before .answer2 .given .1)))
+returns-2 c = c .result-out2 .ensures ∙ ap (resultOut 2 0 0 _) (c .before .number-of .ensures) ∙ sym (ap (λ a. findOut (allowedIn a)) (c .before .before .before .answer2 .given .1))
 
--- src/lib.rt:165:1
 returns-3 : tie.Need-returns-3
-returns-3 c = sym (ap (λ a. findOut (findIn a)) (c .before .before .answer3 .given .1))
+returns-3 c = c .result-out3 .ensures ∙ sym (ap (λ a. findOut (allowedIn a)) (c .before .before .answer3 .given .1))
+
+returns-4 : tie.Need-returns-4
+returns-4 c = sym (ap (λ a. findOut (allowedIn a)) (c .before .before .answer4 .given .1))
 
 pub find-out-spec : {M : Type 1} → statement M
 find-out-spec =
     tie.close
     (tie.spec
     enum-known-answer
+    result-out-requires
     enum-known-answer-2
     number-of-requires
+    result-out-requires-2
     enum-known-answer-3
-    cast-t9
+    result-out-requires-3
+    enum-known-answer-4
+    cast-t13
     returns
     returns-2
-    returns-3)
+    returns-3
+    returns-4)

@@ -6,7 +6,7 @@ use lib.ListN.{length}
 use Rattle.theory.specs.Refusals.{unplaced}
 use Rattle.theory.specs.Problem.{Problem}
 use Rattle.naming.specs.NamedOperations.{modeProblem}
-use Rattle.symmetry.specs.SymmetricOperations.{findResultWith}
+use Rattle.allowance.specs.AllowedFind.{findWithin}
 use Rattle.answers.specs.Answers.{refusalIn}
 use Rattle.problem.specs.Problems.{problemIn}
 use Rattle.problem.proofs.ModeRead.{read-shows, mode-accepted, mode-refused}
@@ -32,8 +32,8 @@ returns : tie.Need-returns
 returns c =
     let a = c .before .before .before .before .before .before .before .args in
     let q = c .refusal-in .result in
-    ends-refused (findResultWith (a .named) (a .symmetry) (a .sheet .now) (a .low) (a .high)) q (refusalIn q) (a .work .now) (a .output .now)
-    (result-refused (a .sheet .now) (a .low) (a .high) (length (a .work .now)) (length (a .output .now)) (a .symmetry) (a .named) (refusalIn q) (c .refusal-in .ensures)) refl
+    ends-refused (findWithin (a .named) (a .symmetry) (a .sheet .now) (a .low) (a .high) (a .allowance)) q (refusalIn q) (a .work .now) (a .output .now)
+    (result-refused (a .sheet .now) (a .low) (a .high) (a .allowance) (length (a .work .now)) (length (a .output .now)) (a .symmetry) (a .named) (refusalIn q) (c .refusal-in .ensures)) refl
 
 checked-range-requires : tie.Need-checked-range-requires
 checked-range-requires c κs = search needs
@@ -73,8 +73,8 @@ returns-2 c =
     let R = length (a .output .now) in
     let q = mode-accepted (a .sheet .now) (a .named) (r .result) (r .ensures .0) (c .before .before .before .before .before .if1 .left) in
     let no = range-refused (a .low) (a .high) (sym (c .before .before .before .checked-range .ensures) ∙ c .before .enum-told .given .1) in
-    ends-refused (findResultWith (a .named) (a .symmetry) (a .sheet .now) (a .low) (a .high)) (c .at-line .result) (unplaced 8) (a .work .now) (a .output .now)
-    (result-8 (a .sheet .now) (a .low) (a .high) W R (a .symmetry) (q .problem) (a .named) (q .placed) no) (c .at-line .ensures)
+    ends-refused (findWithin (a .named) (a .symmetry) (a .sheet .now) (a .low) (a .high) (a .allowance)) (c .at-line .result) (unplaced 8) (a .work .now) (a .output .now)
+    (result-8 (a .sheet .now) (a .low) (a .high) (a .allowance) W R (a .symmetry) (q .problem) (a .named) (q .placed) no) (c .at-line .ensures)
 
 same-length : tie.Need-same-length
 same-length c = search needs
@@ -94,10 +94,10 @@ returns-3 c =
     let g = c .before .before .before .before .before .before .before .before .least .given in
     let t = range-taken (a .low) (a .high) (g .0 .0) (g .0 .1 .0) (sym (c .before .before .before .before .before .before .before .before .before .before .checked-range .ensures) ∙ g .1) in
     let k = mode-accepted (a .sheet .now) (a .named) (r .result) (r .ensures .0) (c .before .before .before .before .before .before .before .before .before .before .before .before .if1 .left) in
-    let same : foundIn used (modeProblem (a .named) (k .problem)) (a .low) (a .high) W R ≡ foundIn used q (g .0 .0 .0) (g .0 .1 .0 .0) W R =
-    ap (λ (q : Problem). foundIn used q (a .low) (a .high) W R) (sym (k .is) ∙ sym (problem-told (a .sheet .now) (r .result .problem) used)) ∙ ap (λ (n : ℕ). foundIn used q n (a .high) W R) (sym (t .1)) ∙ ap (λ (n : ℕ). foundIn used q (g .0 .0 .0) n W R) (sym (t .2)) in
-    ends-as (findResultWith (a .named) (a .symmetry) (a .sheet .now) (a .low) (a .high)) (f .result) (a .work .now) (f .last .1 .1 .1 .1 .0) (a .output .now) (f .last .1 .1 .1 .1 .1 .0) (foundIn used q (g .0 .0 .0) (g .0 .1 .0 .0))
-    (result-read (a .sheet .now) (a .low) (a .high) W R (a .symmetry) (k .problem) (a .named) (k .placed) (k .declared) (t .0) ∙ same) (f .ensures)
+    let same : foundIn used (modeProblem (a .named) (k .problem)) (a .low) (a .high) (a .allowance) W R ≡ foundIn used q (g .0 .0 .0) (g .0 .1 .0 .0) (a .allowance) W R =
+    ap (λ (q : Problem). foundIn used q (a .low) (a .high) (a .allowance) W R) (sym (k .is) ∙ sym (problem-told (a .sheet .now) (r .result .problem) used)) ∙ ap (λ (n : ℕ). foundIn used q n (a .high) (a .allowance) W R) (sym (t .1)) ∙ ap (λ (n : ℕ). foundIn used q (g .0 .0 .0) n (a .allowance) W R) (sym (t .2)) in
+    ends-as (findWithin (a .named) (a .symmetry) (a .sheet .now) (a .low) (a .high) (a .allowance)) (f .result) (a .work .now) (f .last .1 .1 .1 .1 .1 .0) (a .output .now) (f .last .1 .1 .1 .1 .1 .1 .0) (foundIn used q (g .0 .0 .0) (g .0 .1 .0 .0) (a .allowance))
+    (result-read (a .sheet .now) (a .low) (a .high) (a .allowance) W R (a .symmetry) (k .problem) (a .named) (k .placed) (k .declared) (t .0) ∙ same) (f .ensures)
 
 pub find-model-spec : {M : Type 1} → statement M
 find-model-spec =

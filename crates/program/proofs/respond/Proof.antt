@@ -1,6 +1,7 @@
 use mathlib.Core.Path.{sym}
 use Rattle.program.proofs.Inputs.{next-within, low-fault, low-digit}
 use Rattle.theory.specs.Program.{printed}
+use Rattle.allowance.specs.FinderProgram.{printedWithin}
 use borrow.Author.Needs.{needs}
 use Rattle.program.proofs.respond.Statement.{statement}
 use Rattle.program.proofs.respond.Tie as tie
@@ -38,7 +39,7 @@ respond-from-requires c κs =
 
 -- src/lib.rt:34:1
 returns : tie.Need-returns
-unfolding printed
+unfolding printed printedWithin
 returns c =
     let z = c .before .before .before .before .before .before .before in
     rw (sym (low-fault (z .args .input .now) _ (c .before .before .before .before .digit-line .ensures) (c .before .before .enum-told .given .1))) (c .put-refusal .ensures)

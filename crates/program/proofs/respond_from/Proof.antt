@@ -1,6 +1,7 @@
 -- `respond_from` meets its contract: an 8, or what follows the second line.
 use mathlib.Core.Path.{sym}
 use Rattle.theory.specs.Program.{printed}
+use Rattle.allowance.specs.FinderProgram.{printedWithin}
 use Rattle.program.proofs.Inputs.{next-within, high-fault, high-digit}
 use borrow.Author.Needs.{needs}
 use Rattle.program.proofs.respond_from.Statement.{statement}
@@ -30,7 +31,7 @@ same-length : tie.Need-same-length
 same-length c = search needs
 
 returns : tie.Need-returns
-unfolding printed
+unfolding printed printedWithin
 returns c =
     let a = c .before .before .before .before .before .before .before .before .before .before .args in
     rw (sym (high-fault (a .input .now) (a .at) (a .low) _ (c .before .before .before .before .before .before .digit-line .ensures) (c .before .before .before .before .enum-told .given .1))) (c .before .before .put-refusal .ensures)

@@ -1,7 +1,8 @@
--- `respond_switch` meets its contract: an 8, or the search of the sheet after the third line.
+-- `respond_switch` meets its contract: an 8, or what follows the third line.
 use mathlib.Core.Path.{sym}
 use Rattle.theory.specs.Program.{printed}
-use Rattle.program.proofs.Inputs.{sheet-within, switch-fault, switch-said}
+use Rattle.allowance.specs.FinderProgram.{printedWithin}
+use Rattle.program.proofs.Inputs.{allowance-within, switch-fault, switch-said}
 use borrow.Author.Needs.{needs}
 use Rattle.program.proofs.respond_switch.Statement.{statement}
 use Rattle.program.proofs.respond_switch.Tie as tie
@@ -18,40 +19,27 @@ put-refusal-requires c κs = search needs
 enum-known-symmetry : tie.Need-enum-known-symmetry
 enum-known-symmetry c = search needs
 
-sub-search-sheet : tie.Need-sub-search-sheet
-sub-search-sheet c =
-    let a = c .before .before .before .before .before .before .args in
-    sheet-within (a .input .now) (a .at) (a .low) (a .high) _ (c .before .before .before .switch-line .ensures) _ _ (c .before .symmetry .given .1)
-
-part-search-sheet-start : tie.Need-part-search-sheet-start
-part-search-sheet-start c =
-    let a = c .before .before .before .before .before .before .args in
-    sheet-within (a .input .now) (a .at) (a .low) (a .high) _ (c .before .before .before .switch-line .ensures) _ _ (c .before .symmetry .given .1)
-
-part-search-sheet-end : tie.Need-part-search-sheet-end
-part-search-sheet-end c = search needs
-
-search-sheet-requires : tie.Need-search-sheet-requires
-search-sheet-requires c κs = search needs
+respond-allowance-requires : tie.Need-respond-allowance-requires
+respond-allowance-requires c κs =
+    let z = c .before .before .before .before .before .before .before in
+    (allowance-within (z .args .input .now) (z .args .at) (z .args .low) (z .args .high) _ (c .before .before .before .before .switch-line .ensures) _ _ (c .before .before .symmetry .given .1), z .pre .1)
 
 same-length : tie.Need-same-length
 same-length c = search needs
 
 returns : tie.Need-returns
-unfolding printed
+unfolding printed printedWithin
 returns c =
     let a = c .before .before .before .before .before .before .before .before .before .args in
-    let s = c .before .before .before .before .before .before .switch-line in
-    rw (sym (switch-fault (a .input .now) (a .at) (a .low) (a .high) _ (s .ensures) (c .before .before .before .before .enum-told .given .1))) (c .before .before .put-refusal .ensures)
+    rw (sym (switch-fault (a .input .now) (a .at) (a .low) (a .high) _ (c .before .before .before .before .before .before .switch-line .ensures) (c .before .before .before .before .enum-told .given .1))) (c .before .before .put-refusal .ensures)
 
 same-length-2 : tie.Need-same-length-2
 same-length-2 c = search needs
 
 returns-2 : tie.Need-returns-2
 returns-2 c =
-    let a = c .before .before .before .before .before .before .before .before .before .before .before .args in
-    let s = c .before .before .before .before .before .before .before .before .switch-line in
-    rw (sym (switch-said (a .input .now) (a .at) (a .low) (a .high) _ (s .ensures) _ _ (c .before .before .before .before .before .before .symmetry .given .1))) (c .before .before .search-sheet .ensures)
+    let a = c .before .before .before .before .before .before .before .before .before .before .args in
+    rw (sym (switch-said (a .input .now) (a .at) (a .low) (a .high) _ (c .before .before .before .before .before .before .before .switch-line .ensures) _ _ (c .before .before .before .before .before .symmetry .given .1))) (c .before .before .respond-allowance .ensures)
 
 pub respond-switch-spec : {M : Type 1} → statement M
 respond-switch-spec =
@@ -61,10 +49,7 @@ respond-switch-spec =
     enum-told
     put-refusal-requires
     enum-known-symmetry
-    sub-search-sheet
-    part-search-sheet-start
-    part-search-sheet-end
-    search-sheet-requires
+    respond-allowance-requires
     same-length
     returns
     same-length-2

@@ -32,7 +32,7 @@ put-result-requires : tie.Need-put-result-requires
 put-result-requires c κs =
     let z = c .before .before .before .before .before .before .before .before .before in
     let f = c .before .before .before .before .find in
-    reportable (z .args .out .now) (z .pre) (z .args .sheet .now) (z .args .low) (z .args .high) (z .args .symmetry) _ (search needs) (f .result) (f .last .1 .1 .1 .1 .1 .1 .0) (f .kept .1 .1 .1 .1 .1 .1 .0) (f .ensures .answer) (f .ensures .left)
+    reportable (z .args .out .now) (z .pre) (z .args .sheet .now) (z .args .low) (z .args .high) (z .args .symmetry) (z .args .allowance) _ (search needs) (f .result) (f .last .1 .1 .1 .1 .1 .1 .1 .0) (f .kept .1 .1 .1 .1 .1 .1 .1 .0) (f .ensures .answer) (f .ensures .left)
 
 -- src/lib.rt:55:1
 same-length : tie.Need-same-length
@@ -45,7 +45,7 @@ returns c =
     let z = c .before .before .before .before .before .before .before .before .before .before .before .before in
     let f = c .before .before .before .before .before .before .before .find in
     c .before .before .put-result .ensures
-    (reportable (z .args .out .now) (z .pre) (z .args .sheet .now) (z .args .low) (z .args .high) (z .args .symmetry) _ (search needs) (f .result) (f .last .1 .1 .1 .1 .1 .1 .0) (f .kept .1 .1 .1 .1 .1 .1 .0) (f .ensures .answer) (f .ensures .left))
+    (reportable (z .args .out .now) (z .pre) (z .args .sheet .now) (z .args .low) (z .args .high) (z .args .symmetry) (z .args .allowance) _ (search needs) (f .result) (f .last .1 .1 .1 .1 .1 .1 .1 .0) (f .kept .1 .1 .1 .1 .1 .1 .1 .0) (f .ensures .answer) (f .ensures .left))
 
 pub search-sheet-spec : {M : Type 1} → statement M
 search-sheet-spec =

@@ -3,7 +3,7 @@
 use crate::options::Sheet;
 use crate::report::{Failure, File};
 use crate::room::{Engine, Room};
-use crate::{named, print, read_sheet, szs, tables, NO, YES};
+use crate::{named, print, read_sheet, stopped, szs, tables, NO, STOPPED, YES};
 use nesskettle::{FindOptions, Reason, Refusal, Search, Symmetry};
 use std::io::IsTerminal;
 use std::time::Instant;
@@ -29,7 +29,7 @@ pub fn find(sheet: &Sheet, low: u64, high: u64, engine: Engine, layout: Layout) 
     }
     let (file, search, room) = searched?;
     match search {
-        Search::Found { size, length } => {
+        Search::Found { size, length, .. } => {
             let case = &room.output[..length];
             print(&match layout {
                 Layout::Lines => [b"answer=found\n", case].concat(),
@@ -38,7 +38,7 @@ pub fn find(sheet: &Sheet, low: u64, high: u64, engine: Engine, layout: Layout) 
             })?;
             Ok(YES)
         }
-        Search::None { settled } => {
+        Search::None { settled, .. } => {
             let text = match layout {
                 Layout::Lines => format!("answer=none\nsettled={}\n", yes_no(settled)),
                 Layout::Tables => none_in_words(low, high, settled),
@@ -46,6 +46,18 @@ pub fn find(sheet: &Sheet, low: u64, high: u64, engine: Engine, layout: Layout) 
             };
             print(text.as_bytes())?;
             Ok(NO)
+        }
+        Search::Stopped { size, .. } => {
+            let text = match layout {
+                Layout::Lines => format!("answer=stopped\nsize={size}\n"),
+                Layout::Tables => stopped::in_words(low, size),
+                Layout::Szs => szs::stopped(&sheet.path, size),
+            };
+            print(text.as_bytes())?;
+            if let Engine::Clauses(options) = engine {
+                eprintln!("nesskettle: {}", stopped::how_to_go_on(low, size, options));
+            }
+            Ok(STOPPED)
         }
     }
 }
@@ -104,28 +116,30 @@ fn up_to(high: u64) -> String {
     format!(" up to --high {high}")
 }
 
-/// The search size by size, told on standard error. A size's model is the whole search's answer where all sizes before
-/// had none. The last call is over all sizes again, so that the mark `settled` is the whole search's too; the sizes
-/// before the last cost little beside it.
+/// The search size by size, told on standard error. A size's answer, with what the sizes before have left of the allowance, is
+/// the whole search's where these had no model. The last call is over all sizes again, so that the mark `settled` is the whole
+/// search's too; the sizes before the last cost little beside it.
 fn find_by_size(room: &mut Room, sheet: &[u8], low: u64, high: u64) -> Result<Search, Refusal> {
+    let mut made = 0;
     for size in low..high {
-        let search = told(room, sheet, size, size, size)?;
-        if matches!(search, Search::Found { .. }) {
-            return Ok(search);
+        let search = told(size, || room.find_after(made, sheet, size, size))?;
+        made += search.choices();
+        if !matches!(search, Search::None { .. }) {
+            return Ok(search.with_choices(made));
         }
     }
-    told(room, sheet, low, high, high)
+    told(high, || room.find(sheet, low, high))
 }
 
 /// One search, and on standard error what it came to at the size, and when.
-fn told(room: &mut Room, sheet: &[u8], low: u64, high: u64, size: u64) -> Result<Search, Refusal> {
+fn told(size: u64, search: impl FnOnce() -> Result<Search, Refusal>) -> Result<Search, Refusal> {
     eprint!("size {size} .. ");
     let start = Instant::now();
-    let search = room.find(sheet, low, high)?;
-    let outcome = if matches!(search, Search::None { .. }) {
-        "none"
-    } else {
-        "found"
+    let search = search()?;
+    let outcome = match search {
+        Search::Found { .. } => "found",
+        Search::None { .. } => "none",
+        Search::Stopped { .. } => "stopped",
     };
     eprintln!("{outcome}, {:.2} s", start.elapsed().as_secs_f64());
     Ok(search)
@@ -135,18 +149,22 @@ fn found_tables(sheet: &[u8], size: u64, case: &[u8]) -> String {
     format!("found: a model of size {size}\n\n{}", tables::tables(sheet, case))
 }
 
-fn none_in_words(low: u64, high: u64, settled: bool) -> String {
-    let sizes = if low == high {
-        format!("size {low}")
+/// That there is none of these sizes.
+pub fn no_model(low: u64, high: u64) -> String {
+    if low == high {
+        format!("no case of size {low} is a model")
     } else {
-        format!("a size from {low} to {high}")
-    };
+        format!("no case of a size from {low} to {high} is a model")
+    }
+}
+
+fn none_in_words(low: u64, high: u64, settled: bool) -> String {
     let mark = if settled {
         "yes, no other size has a model either"
     } else {
         "no, another size may have a model"
     };
-    format!("none: no case of {sizes} is a model\nsettled: {mark}\n")
+    format!("none: {}\nsettled: {mark}\n", no_model(low, high))
 }
 
 fn yes_no(yes: bool) -> &'static str {

@@ -11,6 +11,7 @@ mod options;
 mod report;
 mod room;
 mod setting;
+mod stopped;
 mod symbols;
 mod szs;
 mod tables;
@@ -30,6 +31,8 @@ const NO: u8 = 1;
 const REFUSED: u8 = 2;
 /// A SAT solver says that there is none, which is not an answer of the library's.
 const CLAIMED_NONE: u8 = 3;
+/// The search was stopped: more choices are needed than are allowed.
+const STOPPED: u8 = 4;
 
 fn main() -> ExitCode {
     let answered = options::parse(std::env::args().skip(1)).and_then(run);

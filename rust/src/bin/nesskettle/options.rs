@@ -9,11 +9,12 @@ pub const HELP: &str = "\
 nesskettle: a finite model finder. Every answer is the proved library's.
 
   nesskettle find SHEET [--low N] [--high N] [--named or --plain] [--no-symmetry]
-                        [--tables or --szs]
+                        [--allow N] [--tables or --szs]
       the least model at the smallest size from low to high (1 and 8 if not given), of
       those whose elements are numbered as said below: prints answer=found and the
       case, or answer=none and settled=yes (there is no model of any size) or
-      settled=no (none of the sizes that were searched)
+      settled=no (none of the sizes that were searched), or answer=stopped and the
+      size at which more choices are needed than are allowed
   nesskettle judge SHEET CASE
       is the case a model of the sheet? prints yes or no
   nesskettle explain SHEET CASE
@@ -89,11 +90,21 @@ time is longer, above all where there is none. The clauses count as instances
 --symmetry adds them to what clauses prints. A solver's answer to that text is read
 as always, by from-solver or read-back.
 
+--allow N lets find make at most N choices, over all sizes; 1,000,000 are the most
+(refusal 24), and what it may make if --allow is not given. Where one more is needed
+it stops: no case of the searched sizes before that size is a model, of that size and
+larger ones nothing is known, and standard error tells how to go on. A larger N never
+changes what is found, nor that there is none. find makes a choice where a
+propositional variable is unset, no clause is wholly false and none forces a variable
+(one literal is unset, the others are false). It takes the lowest one: yes first for
+a function, no first for a predicate. Where that fails it goes back and takes the
+other value, which is no choice.
+
 --plain searches as one would on a whiteboard: it fills the cells of the tables in
 order, the least value first, and looks at the clauses once all are filled. Where
 both take a sheet, it answers what find answers with --no-symmetry. It goes together
-with every other option of find but --named; other commands do not search and take
-no --plain. A case of size --high may have at most 64 cells (refusal 20), and time
+with every other option of find but --named and --allow, as it makes no choices and
+is never stopped; other commands do not search and take no --plain. A case of size --high may have at most 64 cells (refusal 20), and time
 grows with the number of cases: at size N a cell of a function has N values, one of
 a predicate 2.
 
@@ -108,10 +119,10 @@ least the number of constants.
 
 --szs prints what TPTP's tools print. `% SZS status`, then Satisfiable, and the
 model as a finite interpretation (fi_domain, fi_functors, fi_predicates) in which
-\"1\", \"2\", .. are the elements; Unsatisfiable where none is settled; else GaveUp,
-also where a limit is in the way (refusals 9, 17, 20, 21). A file that is not taken
-for another reason is InputError, a wrong --low or --high UsageError; the words
-stand on standard error as always.
+\"1\", \"2\", .. are the elements; Unsatisfiable where none is settled; ResourceOut
+where it is stopped; else GaveUp, also where a limit is in the way (refusals 9, 17,
+20, 21). A file that is not taken for another reason is InputError, a wrong --low,
+--high or --allow UsageError; the words stand on standard error as always.
 
 Where standard error is a terminal, find tells there which size it is at.
 
@@ -122,7 +133,7 @@ explain counts clauses from 1 in the order of the sheet, and takes choices with
 the last letter of a clause fastest, letters in order of first appearance.
 
 Exit status: 0 found, yes, or printed; 1 none or no; 2 refused or called wrongly;
-3 from-solver's solver claims none.
+3 from-solver's solver claims none; 4 find is stopped.
 ";
 
 /// A file that has a sheet, or TPTP clauses that are read into one.
@@ -337,10 +348,14 @@ impl Rest {
         if self.flag("--no-symmetry") {
             options.symmetry = Symmetry::Kept;
         }
-        match (self.flag("--plain"), self.terms()) {
-            (false, terms) => Ok(Engine::Clauses(FindOptions { terms, ..options })),
-            (true, Terms::AsWritten) => Ok(Engine::Plain),
-            (true, Terms::Named) => Err(wrong("--plain and --named are not for one search")),
+        options.terms = self.terms();
+        let allowance = self.number("--allow")?;
+        options.allowance = allowance.unwrap_or(options.allowance);
+        match (self.flag("--plain"), options.terms, allowance) {
+            (false, _, _) => Ok(Engine::Clauses(options)),
+            (true, Terms::Named, _) => Err(wrong("--plain and --named are not for one search")),
+            (true, Terms::AsWritten, Some(_)) => Err(wrong("--plain makes no choices and takes no --allow")),
+            (true, Terms::AsWritten, None) => Ok(Engine::Plain),
         }
     }
 

@@ -25,6 +25,17 @@ pub enum Engine {
 }
 
 impl Engine {
+    /// With what is left of the allowance after so many choices.
+    fn after(self, choices: u64) -> Engine {
+        match self {
+            Engine::Clauses(options) => Engine::Clauses(FindOptions {
+                allowance: options.allowance - choices,
+                ..options
+            }),
+            Engine::Plain => Engine::Plain,
+        }
+    }
+
     fn find(self, sheet: &[u8], low: u64, high: u64, work: &mut [u32], output: &mut [u8]) -> Result<Search, Refusal> {
         match self {
             Engine::Clauses(options) => nesskettle::find(sheet, low, high, options, work, output),
@@ -65,6 +76,12 @@ impl Room {
     }
 
     pub fn find(&mut self, sheet: &[u8], low: u64, high: u64) -> Result<Search, Refusal> {
-        self.engine.find(sheet, low, high, &mut self.work, &mut self.output)
+        self.find_after(0, sheet, low, high)
+    }
+
+    /// The search where so many of the choices that are allowed were made before.
+    pub fn find_after(&mut self, made: u64, sheet: &[u8], low: u64, high: u64) -> Result<Search, Refusal> {
+        let engine = self.engine.after(made);
+        engine.find(sheet, low, high, &mut self.work, &mut self.output)
     }
 }

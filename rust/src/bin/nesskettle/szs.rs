@@ -21,10 +21,15 @@ pub fn none(path: &str, low: u64, high: u64, settled: bool) -> String {
     }
 }
 
+/// The search ran out of choices at a size.
+pub fn stopped(path: &str, size: u64) -> String {
+    status("ResourceOut", path) + &format!("% more choices are needed at size {size} than are allowed\n")
+}
+
 /// Nothing was searched. A limit in the way says nothing against the file.
 pub fn failed(path: &str, failure: &Failure) -> String {
     match failure.reason {
-        Some(Reason::BadSize) => status("UsageError", path),
+        Some(Reason::BadSize | Reason::AllowanceTooLarge) => status("UsageError", path),
         Some(Reason::TooManyInstances | Reason::BeyondSheets | Reason::TooManyCells | Reason::TooManyHelpers) => {
             status("GaveUp", path)
         }

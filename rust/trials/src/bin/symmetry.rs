@@ -7,6 +7,7 @@
 use nesskettle::{FindOptions, Search, Symmetry, Terms, WriteOptions};
 use nesskettle_reference as reference;
 use nesskettle_trials::buffers::left;
+use nesskettle_trials::options::told;
 use nesskettle_trials::problems::sheet;
 use std::path::Path;
 use std::process::Command;
@@ -49,7 +50,7 @@ fn row(name: &str, size: u64, runs: usize, file: &Path) {
     let mut columns = vec![Vec::new(); 1 + SOLVERS.len()];
     for symmetry in [Symmetry::Kept, Symmetry::Reduced] {
         let terms = Terms::AsWritten;
-        columns[0].push(shown(find(sheet(name), size, FindOptions { terms, symmetry }, runs)));
+        columns[0].push(shown(find(sheet(name), size, told(terms, symmetry), runs)));
         let options = WriteOptions { terms, symmetry };
         let text = left(|output| nesskettle::write(sheet(name), size, options, output)).expect("it is written");
         std::fs::write(file, text).expect("the clauses can be written");
@@ -80,7 +81,7 @@ fn find(sheet: &[u8], size: u64, options: FindOptions, runs: usize) -> f64 {
     let mut search = || {
         let start = Instant::now();
         let answer = nesskettle::find(sheet, size, size, options, &mut work, &mut output);
-        assert_eq!(answer, Ok(Search::None { settled: false }));
+        assert!(matches!(answer, Ok(Search::None { settled: false, .. })));
         start.elapsed().as_secs_f64()
     };
     fastest((0..runs).map(|_| search()).collect())

@@ -1,5 +1,5 @@
 -- `search_size` meets its contract.
-use mathlib.Core.Path.{_∙_}
+use mathlib.Core.Path.{sym, _∙_}
 use Rattle.theory.specs.Walk.{yesFirst}
 use Rattle.syntax.specs.Signatures.{signatureIn}
 use Rattle.finding.specs.Searching.{sheetClauses}
@@ -35,8 +35,8 @@ returns c =
     let a = s .args in
     let l = c .before .before .before .before .before .before .before .load in
     let t = c .before .before .solve in
-    searched-walked (a .sheet .now) (a .p) (a .size .0) (a .n .count) (s .pre .1 (a .sheet .now) .count)
-    ∙ t .ensures (sheetClauses (a .size .0) (a .sheet .now) (a .p)) (yesFirst (a .size .0) (signatureIn (a .sheet .now) (a .p .signature))) (l .ensures .1) (l .ensures .0) .answer
+    searched-walked (a .sheet .now) (a .p) (a .size .0) (a .n .count) (a .allowed) (s .pre .1 (a .sheet .now) .count)
+    ∙ sym (t .ensures (sheetClauses (a .size .0) (a .sheet .now) (a .p)) (yesFirst (a .size .0) (signatureIn (a .sheet .now) (a .p .signature))) (l .ensures .1) (l .ensures .0) .ends)
 
 pub search-size-spec : {M : Type 1} → statement M
 search-size-spec = tie.close (tie.spec load-requires cast-solve solve-requires same-length returns)

@@ -81,7 +81,7 @@ returns c =
     let w = c .before .before .before .before .before .before .write-case in
     let k = c .before .before .clear-all in
     written-ends (a .sheet .now) (a .p) (a .size .0) (a .work .now) (s .pre .0) (s .pre .1 .0) (y .result) (y .ensures) (n .result) (n .ensures (a .sheet .now))
-    (w .result) (k .last .0) (a .output .now) (w .last .1 .1 .1 .1 .1 .1 .0) (w .ensures .1) (k .ensures) (w .ensures .0)
+    (w .result) (a .choices) (k .last .0) (a .output .now) (w .last .1 .1 .1 .1 .1 .1 .0) (w .ensures .1) (k .ensures) (w .ensures .0)
 
 pub put-found-spec : {M : Type 1} → statement M
 put-found-spec =

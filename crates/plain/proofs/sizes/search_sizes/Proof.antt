@@ -10,7 +10,7 @@ use Rattle.theory.specs.Operations.{over}
 use Rattle.syntax.specs.declared.size.DomainSize.{DomainSize}
 use Rattle.problem.specs.Problems.{problemIn}
 use Rattle.judging.specs.Cases.{cellsOf}
-use Rattle.finding.proofs.SizeBySize.{remaining, remaining-found, remaining-missed, remaining-none}
+use Rattle.plain.proofs.SizeBySize.{remaining, remaining-found, remaining-missed, remaining-none}
 use Rattle.plain.proofs.Models.{model-found, model-missed, size-searchable, size-case}
 use Rattle.plain.proofs.Endings.{ends-found, ends-none}
 use borrow.Author.Needs.{needs}

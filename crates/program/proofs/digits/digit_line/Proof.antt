@@ -2,7 +2,9 @@ use native.Mathlib.Omega.{arith}
 use mathlib.Core.Path.{_≡_}
 use mathlib.Core.Bool.{true, false}
 use borrow.Author.Tests.{not-true, not-false}
-use Rattle.program.proofs.DigitLines.{no-line, no-key, value-from, keyed}
+use Rattle.program.proofs.DigitLines.{no-line, no-key, keyed}
+use Rattle.theory.specs.Program.{digitOf}
+use Rattle.program.proofs.KeyedLines.{value-from}
 use borrow.Author.Needs.{needs}
 use Rattle.program.proofs.digits.digit_line.Statement.{statement}
 use Rattle.program.proofs.digits.digit_line.Tie as tie
@@ -46,7 +48,7 @@ add-digit-at c = search needs
 
 -- src/digits.rt:25:5
 digit-at-requires : tie.Need-digit-at-requires
-digit-at-requires c κs = let e : c .before .starts-with .result ≡ true = not-false _ (c .if2 .left) in let a = c .before .before .before .before .before .before .before .args in let l = c .before .before .before .before .line-end in (value-from (a .input .now) (a .at) (l .result) (a .key .now) (l .ensures) (c .before .before .before .if1 .left) (rw e at (c .before .starts-with .ensures)), omega (arith, l .ensures .within, c .before .before .before .if1 .left))
+digit-at-requires c κs = let e : c .before .starts-with .result ≡ true = not-false _ (c .if2 .left) in let a = c .before .before .before .before .before .before .before .args in let l = c .before .before .before .before .line-end in (value-from digitOf (a .input .now) (a .at) (l .result) (a .key .now) (l .ensures) (c .before .before .before .if1 .left) (rw e at (c .before .starts-with .ensures)), omega (arith, l .ensures .within, c .before .before .before .if1 .left))
 
 -- src/digits.rt:14:1
 returns-3 : tie.Need-returns-3

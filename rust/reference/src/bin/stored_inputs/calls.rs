@@ -4,10 +4,16 @@ use crate::{MOST_OUTPUT, MOST_WORK};
 use nesskettle_reference::{needed, write, FindOptions, Symmetry, Terms, WriteOptions};
 
 /// A search of terms as written that is told no.
-pub const TOLD_NO: FindOptions = FindOptions {
-    terms: Terms::AsWritten,
-    symmetry: Symmetry::Kept,
-};
+pub const TOLD_NO: FindOptions = largest(Terms::AsWritten, Symmetry::Kept);
+
+/// With the largest allowance.
+pub const fn largest(terms: Terms, symmetry: Symmetry) -> FindOptions {
+    FindOptions {
+        terms,
+        symmetry,
+        allowance: FindOptions::LARGEST_ALLOWANCE,
+    }
+}
 
 #[derive(Clone, Default)]
 pub struct Call {
@@ -18,6 +24,8 @@ pub struct Call {
     /// Low, or the size.
     pub low: u64,
     pub high: u64,
+    /// 0 where the operation takes none.
+    pub allowance: u64,
     pub work: u64,
     pub output: u64,
 }
@@ -27,8 +35,8 @@ impl Call {
     pub fn put(&self, data: &mut Vec<u8>) {
         let (sheet, beside) = (self.sheet.len(), self.beside.len());
         let numbers = format!(
-            "{sheet} {beside} {} {} {} {}\n",
-            self.low, self.high, self.work, self.output
+            "{sheet} {beside} {} {} {} {} {}\n",
+            self.low, self.high, self.allowance, self.work, self.output
         );
         data.extend(numbers.bytes());
         data.extend(&self.sheet);
@@ -79,18 +87,22 @@ pub fn answered(sheet: impl AsRef<[u8]>, size: u64, answer: impl AsRef<[u8]>, ou
     }
 }
 
+/// A search with the largest allowance.
 pub fn finding(sheet: impl AsRef<[u8]>, low: u64, high: u64, work: u64, output: u64) -> Call {
     Call {
-        low,
-        high,
+        allowance: FindOptions::LARGEST_ALLOWANCE,
         work,
-        output,
-        ..reading(sheet)
+        ..finding_plain(sheet, low, high, output)
     }
 }
 
 pub fn finding_plain(sheet: impl AsRef<[u8]>, low: u64, high: u64, output: u64) -> Call {
-    finding(sheet, low, high, 0, output)
+    Call {
+        low,
+        high,
+        output,
+        ..reading(sheet)
+    }
 }
 
 pub fn importing(clauses: impl AsRef<[u8]>, output: u64) -> Call {

@@ -2,10 +2,11 @@
 //! (`crates/vectors/stdout`). The answers are the reference's; those to stored vectors are first held against the
 //! vectors' own.
 //!
-//! An input is a line of six numbers, then the bytes of a sheet or of TPTP clauses and those of a case, a setting, a
-//! solver's answer or a second sheet. The numbers are the lengths of the two, size or low, high, and the lengths of the work
-//! and the output that are lent.
+//! An input is a line of seven numbers, then the bytes of a sheet or of TPTP clauses and those of a case, a setting, a
+//! solver's answer or a second sheet. The numbers are the lengths of the two, size or low, high, the allowance, and the lengths
+//! of the work and the output that are lent; those that an operation does not take are 0.
 
+mod allowance;
 mod calls;
 mod damaged;
 mod examples;
@@ -62,7 +63,11 @@ fn main() -> io::Result<()> {
             (call, Terms::Named, Symmetry::Kept) => named::of(call),
             (call, terms, Symmetry::Reduced) => symmetry::of(call, terms),
         };
-        inputs.extend(stored(operation));
+        inputs.extend(stored(|v| is_of(v, operation)));
+        if let ("find", terms, symmetry) = switches(operation) {
+            inputs.extend(allowance::of(terms, symmetry));
+            inputs.extend(stored(|v| is_allowed(v, terms, symmetry)));
+        }
         let mut data = Vec::new();
         for (number, call) in (1..).zip(&inputs) {
             assert!(
@@ -91,10 +96,10 @@ fn switches(operation: &str) -> (&str, Terms, Symmetry) {
     }
 }
 
-/// Some of the stored vectors that the program has room for, evenly spread over them.
-fn stored(operation: &str) -> Vec<Call> {
+/// Some of these stored vectors that the program has room for, evenly spread over them.
+fn stored(is_taken: impl Fn(&Vector) -> bool) -> Vec<Call> {
     let vectors = vectors::stored().into_iter();
-    let calls = vectors.filter(|v| is_of(v, operation)).filter_map(|v| {
+    let calls = vectors.filter(is_taken).filter_map(|v| {
         let number = |key: &str| if v.inputs.has(key) { v.inputs.number(key) } else { 0 };
         let bytes = |key: &str| {
             if v.inputs.has(key) {
@@ -114,6 +119,7 @@ fn stored(operation: &str) -> Vec<Call> {
             beside: [bytes("case"), bytes("setting"), answer, bytes("second")].concat(),
             low: number("low") + number("size"),
             high: number("high"),
+            allowance: v.allowance(),
             work: number("work"),
             output: number("output"),
         };
@@ -127,7 +133,13 @@ fn stored(operation: &str) -> Vec<Call> {
     calls.into_iter().step_by(step).collect()
 }
 
-/// Is it a vector of this operation? Those that have a switch in which none is on, or not the last one, are of none here.
+/// Is it a vector of Find with these switches that says how many choices are allowed?
+fn is_allowed(vector: &Vector, terms: Terms, symmetry: Symmetry) -> bool {
+    vector.inputs.has("allowance") && vector.terms() == terms && vector.symmetry() == symmetry
+}
+
+/// Is it a vector of this operation, without an allowance? Those that have a switch in which none is on, or not the last one,
+/// are of none here.
 fn is_of(vector: &Vector, operation: &str) -> bool {
     let (call, terms, symmetry) = switches(operation);
     let has = |switch: &str| vector.inputs.has(switch);
@@ -136,7 +148,7 @@ fn is_of(vector: &Vector, operation: &str) -> bool {
         (Terms::Named, Symmetry::Kept) => vector.terms() == terms && !has("symmetry"),
         (_, Symmetry::Reduced) => vector.terms() == terms && vector.symmetry() == symmetry,
     };
-    vector.operation.replace('-', "_") == call && is_switched
+    vector.operation.replace('-', "_") == call && is_switched && !has("allowance")
 }
 
 /// What is printed of a call after its number.
@@ -160,8 +172,12 @@ fn answer(operation: &str, call: &Call) -> Vec<u8> {
         "from_tptp" => from_tptp(sheet, &mut output).map(written),
         "from_solver" => from_solver(sheet, call.low, beside, &mut output).map(solved),
         "find" => {
-            let options = FindOptions { terms, symmetry };
-            find(sheet, call.low, call.high, options, &mut work, &mut output).map(found)
+            let options = FindOptions {
+                terms,
+                symmetry,
+                allowance: call.allowance,
+            };
+            find(sheet, call.low, call.high, options, &mut work, &mut output).map(found_by_choices)
         }
         "find_plain" => find_plain(sheet, call.low, call.high, &mut output).map(found),
         other => panic!("no operation {other}"),
@@ -251,9 +267,15 @@ fn solved(answer: SolverAnswer) -> (String, Option<usize>) {
 
 fn found(search: Search) -> (String, Option<usize>) {
     match search {
-        Search::Found { size, length } => (format!(" found {size}"), Some(length)),
-        Search::None { settled } => (format!(" none settled {}", yes_no(settled)), None),
+        Search::Found { size, length, .. } => (format!(" found {size}"), Some(length)),
+        Search::None { settled, .. } => (format!(" none settled {}", yes_no(settled)), None),
+        Search::Stopped { size, .. } => (format!(" stopped {size}"), None),
     }
+}
+
+fn found_by_choices(search: Search) -> (String, Option<usize>) {
+    let (told, length) = found(search);
+    (format!("{told} choices {}", search.choices()), length)
 }
 
 fn refusal(r: Refusal) -> String {

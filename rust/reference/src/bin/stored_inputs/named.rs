@@ -1,7 +1,9 @@
 //! Inputs of the operations that name fixed terms: examples, limits from both sides, settings with helper cells, and what a
 //! usual mistake about helpers would change.
 
-use crate::calls::{file, finding, reading_back, searching_of, taken_or, with_lengths, writing, Call, TOLD_NO};
+use crate::calls::{
+    file, finding, largest, reading_back, searching_of, taken_or, with_lengths, writing, Call, TOLD_NO,
+};
 use crate::damaged::one_of_each;
 use crate::examples::two_constants;
 use nesskettle_reference::{find, instances_and_variables, needed, read_back, sheet_of};
@@ -11,10 +13,7 @@ const WRITTEN: WriteOptions = WriteOptions {
     terms: Terms::Named,
     symmetry: Symmetry::Kept,
 };
-const SEARCHED: FindOptions = FindOptions {
-    terms: Terms::Named,
-    symmetry: Symmetry::Kept,
-};
+const SEARCHED: FindOptions = largest(Terms::Named, Symmetry::Kept);
 
 pub fn of(operation: &str) -> Vec<Call> {
     match operation {

@@ -1,7 +1,7 @@
 //! Inputs of Write and Find with constant clauses: more and fewer constants than elements, other functions before and between
 //! them, helpers beside them, and what the clauses add to the counts from both sides.
 
-use crate::calls::{file, finding, searching_of, taken_or, with_lengths, writing, Call};
+use crate::calls::{file, finding, largest, searching_of, taken_or, with_lengths, writing, Call};
 use crate::damaged::one_of_each;
 use crate::examples::two_constants;
 use nesskettle_reference::{instances_and_variables, needed, sheet_of, MAX_INSTANCES};
@@ -11,7 +11,7 @@ pub fn of(operation: &str, terms: Terms) -> Vec<Call> {
     let symmetry = Symmetry::Reduced;
     match operation {
         "write" => writes(WriteOptions { terms, symmetry }),
-        "find" => finds(FindOptions { terms, symmetry }),
+        "find" => finds(largest(terms, symmetry)),
         other => panic!("no operation {other} has constant clauses"),
     }
 }
@@ -126,7 +126,7 @@ fn finds(options: FindOptions) -> Vec<Call> {
 
 /// Low and high, and what is lent one short, exact and more than needed; which refusal comes first.
 fn limits_of_find(options: FindOptions) -> Vec<Call> {
-    let FindOptions { terms, symmetry } = options;
+    let FindOptions { terms, symmetry, .. } = options;
     let told_no = FindOptions {
         symmetry: Symmetry::Kept,
         ..options

@@ -400,11 +400,14 @@ fn manageable(sheet: &[u8], size: u64, terms: Terms) -> bool {
     let few =
         nesskettle_reference::instances_and_variables(sheet, size, not_asked(terms)).is_ok_and(|(i, _)| i <= INSTANCES);
     let quick = || {
-        let (work, output) = nesskettle_reference::needed(sheet, size, told_no(terms)).expect("the sheet is accepted");
+        let options = FindOptions {
+            allowance: CHOICES,
+            ..told_no(terms)
+        };
+        let (work, output) = nesskettle_reference::needed(sheet, size, options).expect("the sheet is accepted");
         let (mut work, mut output) = (vec![0; work as usize], vec![0; output as usize]);
-        let search =
-            nesskettle_reference::find_within(sheet, size, size, told_no(terms), &mut work, &mut output, CHOICES);
-        search.expect("the room is enough").is_some()
+        let search = nesskettle_reference::find(sheet, size, size, options, &mut work, &mut output);
+        !matches!(search.expect("the room is enough"), Search::Stopped { .. })
     };
     few && quick()
 }
@@ -434,7 +437,8 @@ fn find(sheet: &[u8], low: u64, high: u64, options: FindOptions) -> Result<Vec<u
     loop {
         match nesskettle::find(sheet, low, high, options, &mut work, &mut output) {
             Ok(Search::Found { length, .. }) => return Ok(output[..length].to_vec()),
-            Ok(Search::None { settled }) => return Err(Settled(settled)),
+            Ok(Search::None { settled, .. }) => return Err(Settled(settled)),
+            Ok(Search::Stopped { .. }) => panic!("a search of few choices is stopped"),
             Err(refusal) if refusal.reason == Reason::WorkTooShort => work = vec![0; refusal.needed as usize],
             Err(refusal) if refusal.needed > 0 => output = vec![0; refusal.needed as usize],
             Err(refusal) => panic!("{refusal}"),

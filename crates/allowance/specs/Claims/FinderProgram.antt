@@ -1,12 +1,14 @@
--- FinderProgram: the finder program needs to read no more than 16,406 bytes of its input, and its output buffer is never too short.
+-- FinderProgram: the finder program needs to read no more than 16,420 bytes of its input, and its output buffer is never too short.
 use Prim.Native.Nat.{ℕ}
 use mathlib.Core.Path.{_≡_}
 use mathlib.Core.List.{List}
 use lib.ListN.{take}
 use Rattle.theory.specs.Refusals.{Refusal, refused}
-use Rattle.theory.specs.Program.{Asked}
-use Rattle.theory.specs.Claims.Program.{inputBytes}
-use Rattle.symmetry.specs.FinderProgram.{finds, finder}
+use Rattle.allowance.specs.FinderProgram.{Asked, finds, finder}
+
+-- four lines, at most 35 bytes together, the largest sheet, and one byte more
+abbrev pub inputBytes : ℕ
+inputBytes = 16420
 
 -- the theorem
 pub record FinderProgram : Type 0 where

@@ -1,48 +1,26 @@
--- FinderProgram: a sheet that is too long is refused whatever else it is, no case is longer than the output buffer; and a refusal names a near place.
-use Prim.Native.Nat.{ℕ, _≤_, _<_}
+-- What the program needs to know of Find's refusals: no case is longer than its output buffer, so 11 does not occur; and a refusal names a near place.
+use Prim.Native.Nat.{ℕ, _≤_}
 use mathlib.Core.Path.{_≡_, refl, sym, ap, _∙_, subst}
-use mathlib.Core.Logic.{_⊎_, inl, inr}
 use mathlib.Core.Bool.{Bool, true, false, _&&_, false≢true}
 use mathlib.Core.List.{List}
 use native.Mathlib.Omega.{arith}
 use lib.Dec.{eqb, leb}
-use lib.ListN.{length, take}
-use lib.Seq.{take-all, length-take-le}
 use Rattle.theory.specs.Refusals.{Refusal, Answer, answer, refused, unplaced, needing, _>>=_, check}
-use Rattle.theory.specs.Problem.{Problem, maxBytes}
+use Rattle.theory.specs.Problem.{Problem}
 use Rattle.theory.specs.CaseText.{caseLength}
 use Rattle.theory.specs.Columns.{placedProblem}
 use Rattle.theory.specs.Operations.{maxSize, maxInstances, Search, searchOf}
-use Rattle.theory.specs.Program.{programWork, programOutput, Asked}
-use Rattle.theory.proofs.Tests.{and-left, and-right, leb-true, leb-of-≤, leb-false, eqb-ne, true-or-false}
-use Rattle.theory.proofs.Answers.{bind-step, bind-refused, unrefused, check-true, check-of-true, refused-inj, answer≢refused}
+use Rattle.theory.specs.Program.{programWork, programOutput}
+use Rattle.theory.proofs.Tests.{and-left, and-right, leb-true, leb-of-≤, eqb-ne}
+use Rattle.theory.proofs.Answers.{bind-step, unrefused, check-true, check-of-true, refused-inj, answer≢refused}
 use Rattle.theory.proofs.PlacedReading.{problem-read, plain-problem}
 use Rattle.theory.proofs.PlacedRefusals as placed
 use Rattle.theory.proofs.SheetRefusals.{sheet-refusal}
 use Rattle.theory.proofs.CaseLengths.{longest-case}
-use Rattle.theory.proofs.Program.{program-holds}
 use Rattle.symmetry.specs.ConstantClauses.{instanceCountWith, workNeededWith}
 use Rattle.symmetry.specs.Obeying.{smallestWith}
 use Rattle.symmetry.specs.SymmetricOperations.{findResultWith}
-use Rattle.symmetry.specs.FinderProgram.{finds}
-use Rattle.symmetry.specs.Claims.FinderProgram.{FinderProgram}
 use Rattle.symmetry.proofs.Chains.{findChain, find-chain}
-
--- a sheet that is too long is refused, whatever else it is
-too-long : (used : Bool) (sheet : List ℕ) (low high work room : ℕ) → maxBytes < length sheet → findResultWith false used sheet low high work room ≡ refused (unplaced 1)
-unfolding findChain
-too-long used sheet low high work room h = find-chain false used sheet low high work room ∙ bind-refused (placedProblem sheet) _ (unplaced 1) (placed.too-long sheet h)
-
--- one byte more than the largest sheet is enough of a sheet
-enough : (used : Bool) (sheet : List ℕ) (low high work room n : ℕ) → 16385 ≤ n → findResultWith false used (take n sheet) low high work room ≡ findResultWith false used sheet low high work room
-enough used sheet low high work room n le = go (true-or-false (leb (length sheet) n))
-  where
-    go : (leb (length sheet) n ≡ true) ⊎ (leb (length sheet) n ≡ false) → findResultWith false used (take n sheet) low high work room ≡ findResultWith false used sheet low high work room
-    go (inl h) = ap (λ (t : List ℕ). findResultWith false used t low high work room) (take-all n sheet (leb-true (length sheet) n h))
-    go (inr h) =
-        let long : n < length sheet = leb-false (length sheet) n h in
-        let cut : length (take n sheet) ≡ n = length-take-le n sheet (omega arith) in
-        too-long used (take n sheet) low high work room (omega arith) ∙ sym (too-long used sheet low high work room (omega arith))
 
 -- a refusal with another number
 other : (sheet : List ℕ) (r : Refusal) → placedProblem sheet ≡ refused r → r .number ≡ 11 → ⊥
@@ -64,7 +42,7 @@ passed {B = B} b q k r e m n f =
     differs false h = eqb-ne (q .number) 11 m (ap (λ (r : Refusal). r .number) (refused-inj {A = Unit {0}} q r h) ∙ n)
 
 -- what stands before 11 is refused with another number, and 11's condition does not hold
-roomy : (used : Bool) (sheet : List ℕ) (low high : ℕ) (r : Refusal) → findResultWith false used sheet low high programWork programOutput ≡ refused r → r .number ≡ 11 → ⊥
+pub roomy : (used : Bool) (sheet : List ℕ) (low high : ℕ) (r : Refusal) → findResultWith false used sheet low high programWork programOutput ≡ refused r → r .number ≡ 11 → ⊥
 unfolding findChain
 roomy used sheet low high r e n =
     unrefused (placedProblem sheet) _ r (sym (find-chain false used sheet low high programWork programOutput) ∙ e) (λ h. other sheet r h n) λ (p : Problem) h₁ e₁.
@@ -100,11 +78,3 @@ find-near used sheet low high work room r e =
     unlined (leb (workNeededWith used high (p .symbols) (p .clauses)) work) (needing 10 (workNeededWith used high (p .symbols) (p .clauses))) _ r e₃ zero λ e₄.
     unlined (leb (caseLength high (p .symbols)) room) (needing 11 (caseLength high (p .symbols))) _ r e₄ zero λ e₅.
     absurd (answer≢refused (searchOf p low high (smallestWith used p low high)) r e₅)
-
--- the theorem
-pub finder-program : FinderProgram
-finder-program =
-    record {
-      reads = program-holds finds (λ (a : Asked) n h. enough (a .symmetry) (a .sheet) (a .low) (a .high) programWork programOutput n h);
-      roomy = λ (a : Asked) r e n. roomy (a .symmetry) (a .sheet) (a .low) (a .high) r e n;
-    }

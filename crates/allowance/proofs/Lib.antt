@@ -1,0 +1,7 @@
+pub mod AllComputed
+pub mod AllowedWalk
+pub mod Allowance
+pub mod AllowedFind
+pub mod NotStopped
+pub mod FourLines
+pub mod FinderProgram
