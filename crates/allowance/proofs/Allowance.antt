@@ -15,7 +15,7 @@ use Rattle.theory.specs.Claims.Walk.{readBackFound}
 use Rattle.theory.proofs.Tests.{lt-or-eq-or-gt}
 use Rattle.symmetry.specs.Obeying.{leastWith, smallestWith, searchedWith}
 use Rattle.symmetry.proofs.ConstantClauses.{constantClauses}
-use Rattle.allowance.specs.AllowedWalk.{End, ended, searchedWithin}
+use Rattle.allowance.specs.AllowedWalk.{WalkEnd, ended, searchedWithin}
 use Rattle.allowance.specs.AllowedSearch.{sizes, Counted, countedSize, countedSizes, countedSearch, Allowed, answered, stoppedAt, before, sizeWithin, sizesWithin, searchWithin}
 use Rattle.allowance.specs.Claims.Allowance.{choicesFrom, UsedUp, AllowanceHolds}
 use Rattle.allowance.proofs.AllowedWalk.{cut-enough, cut-stopped, at-most-or-more, searched-within}
@@ -39,10 +39,10 @@ module _ (used : Bool) (p : Problem) where
   -- at one size: enough choices are left, or not
   pub size-enough : (s left : ℕ) (others : ℕ → Allowed) → searchedWith used s p .choices ≤ left
       → sizeWithin s p left (searchedWithin used s p left) others ≡ sizeWithin s p left (ended (searchedWith used s p .answer) (searchedWith used s p .choices)) others
-  size-enough s left others h = ap (λ (e : End). sizeWithin s p left e others) (searched-within used s p left ∙ cut-enough left (searchedWith used s p) h)
+  size-enough s left others h = ap (λ (e : WalkEnd). sizeWithin s p left e others) (searched-within used s p left ∙ cut-enough left (searchedWith used s p) h)
 
   pub size-stopped : (s left : ℕ) (others : ℕ → Allowed) → left < searchedWith used s p .choices → sizeWithin s p left (searchedWithin used s p left) others ≡ stoppedAt s
-  size-stopped s left others h = ap (λ (e : End). sizeWithin s p left e others) (searched-within used s p left ∙ cut-stopped left (searchedWith used s p) h)
+  size-stopped s left others h = ap (λ (e : WalkEnd). sizeWithin s p left e others) (searched-within used s p left ∙ cut-stopped left (searchedWith used s p) h)
 
   -- over sizes
   sizes-enough : (ss : List ℕ) (left : ℕ) → countedSizes used p ss .choices ≤ left → sizesWithin used p ss left ≡ answered (countedSizes used p ss .case) (countedSizes used p ss .choices)

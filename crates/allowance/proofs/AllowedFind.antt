@@ -23,16 +23,16 @@ use Rattle.symmetry.specs.SymmetricOperations.{shownIn, searchIn, findResultWit
 use Rattle.symmetry.proofs.Chains.{findChain, find-chain}
 use Rattle.symmetry.proofs.Searched.{Read, read-in}
 use Rattle.allowance.specs.AllowedSearch.{countedSearch, Allowed, answered, stoppedAt, searchWithin}
-use Rattle.allowance.specs.AllowedFind.{maxAllowance, Within, finished, stopped, withinIn, findWithin}
+use Rattle.allowance.specs.AllowedFind.{maxAllowance, Stoppable, finished, stopped, withinIn, findWithin}
 use Rattle.allowance.specs.Claims.Allowance.{UsedUp, Allowance}
-use Rattle.allowance.specs.Claims.AllowedFind.{choicesOf, AllowedFindHolds, SameRefusals}
+use Rattle.allowance.specs.Claims.AllowedFind.{choicesNeeded, AllowedFindHolds, SameRefusals}
 use Rattle.allowance.proofs.AllowedWalk.{at-most-or-more}
 use Rattle.allowance.proofs.Allowance.{allowance}
 
 finished-inj : (r s : Search) (m n : ℕ) → finished r m ≡ finished s n → (r ≡ s) × (m ≡ n)
 finished-inj r s m n e = (cc, cc)
 
-stopped-inj : (s t m n : ℕ) → _≡_ {A = Within Search} (stopped s m) (stopped t n) → (s ≡ t) × (m ≡ n)
+stopped-inj : (s t m n : ℕ) → _≡_ {A = Stoppable Search} (stopped s m) (stopped t n) → (s ≡ t) × (m ≡ n)
 stopped-inj s t m n e = (cc, cc)
 
 stopped≢finished : (s m : ℕ) (r : Search) (n : ℕ) → stopped s m ≡ finished r n → ⊥
@@ -111,7 +111,7 @@ module _ (named symmetry : Bool) (sheet : List ℕ) (p : Problem) (low high work
       (bind-step _ _ tt _ (check-of-true _ (needing 11 (caseLength high (shownIn named (q .symbols)))) (k .output)) refl))))
 
   -- a result of Find with an allowance
-  has-within : (a : ℕ) (w : Within Search) → findWithin named symmetry sheet low high a work room ≡ answer w
+  has-within : (a : ℕ) (w : Stoppable Search) → findWithin named symmetry sheet low high a work room ≡ answer w
       → Accepted × (a ≤ maxAllowance) × (withinIn named q low high a (searchWithin symmetry q low high a) ≡ w)
   unfolding findWithin
   has-within a w e =
@@ -121,7 +121,7 @@ module _ (named symmetry : Bool) (sheet : List ℕ) (p : Problem) (low high work
       unbind _ _ w e₀ λ (u₂ : Unit {0}) h₃ e₃.
       unbind _ _ w e₃ λ (u₃ : Unit {0}) h₄ e₄.
       unbind _ _ w e₄ λ (u₄ : Unit {0}) h₅ e₅.
-      let of : Problem → Within Search = λ t. withinIn named (modeProblem named t) low high a (searchWithin symmetry (modeProblem named t) low high a) in (
+      let of : Problem → Stoppable Search = λ t. withinIn named (modeProblem named t) low high a (searchWithin symmetry (modeProblem named t) low high a) in (
         accepted t h₁ (check-true _ (unplaced 8) u₁ h₂) (check-true _ (unplaced 9) u₂ h₃)
             (check-true _ (needing 10 (workNeededWith symmetry high (modeProblem named t .symbols) (modeProblem named t .clauses))) u₃ h₄)
             (check-true _ (needing 11 (caseLength high (shownIn named (modeProblem named t .symbols)))) u₄ h₅),
@@ -143,11 +143,11 @@ module _ (named symmetry : Bool) (sheet : List ℕ) (p : Problem) (low high work
       (leb-true 1 low (and-left (leb 1 low) (leb high maxSize) (and-left (leb 1 low && leb high maxSize) (leb low high) (k .sizes))))
 
   same : (a n : ℕ) (r : Search) → findWithin named symmetry sheet low high a work room ≡ answer (finished r n)
-      → (findResultWith named symmetry sheet low high work room ≡ answer r) × (n ≡ choicesOf named symmetry p low high) × (n ≤ a)
+      → (findResultWith named symmetry sheet low high work room ≡ answer r) × (n ≡ choicesNeeded named symmetry p low high) × (n ≤ a)
   same a n r e = let k = has-within a (finished r n) e in go (searchWithin symmetry q low high a) refl (k .0) (k .2)
     where
       go : (w : Allowed) → searchWithin symmetry q low high a ≡ w → Accepted → withinIn named q low high a (searchWithin symmetry q low high a) ≡ finished r n
-          → (findResultWith named symmetry sheet low high work room ≡ answer r) × (n ≡ choicesOf named symmetry p low high) × (n ≤ a)
+          → (findResultWith named symmetry sheet low high work room ≡ answer r) × (n ≡ choicesNeeded named symmetry p low high) × (n ≤ a)
       go (stoppedAt s) h k i = absurd (stopped≢finished s a r n (ap (withinIn named q low high a) (sym h) ∙ i))
       go (answered o m) h k i =
           let f = finished-inj (searchIn named q low high o) r m n (ap (withinIn named q low high a) (sym h) ∙ i) in
@@ -159,17 +159,17 @@ module _ (named symmetry : Bool) (sheet : List ℕ) (p : Problem) (low high work
             omega (arith, number, most),
           )
 
-  enough : (a : ℕ) (r : Search) → findResultWith named symmetry sheet low high work room ≡ answer r → choicesOf named symmetry p low high ≤ a → a ≤ maxAllowance
-      → findWithin named symmetry sheet low high a work room ≡ answer (finished r (choicesOf named symmetry p low high))
+  enough : (a : ℕ) (r : Search) → findResultWith named symmetry sheet low high work room ≡ answer r → choicesNeeded named symmetry p low high ≤ a → a ≤ maxAllowance
+      → findWithin named symmetry sheet low high a work room ≡ answer (finished r (choicesNeeded named symmetry p low high))
   enough a r e h l =
       let k = has-result r e in
-      let n : ℕ = choicesOf named symmetry p low high in
+      let n : ℕ = choicesNeeded named symmetry p low high in
       gives-within a (k .0) l
       ∙ ap (λ (w : Allowed). answer (withinIn named q low high a w)) (law .enough a h)
       ∙ ap (λ (o : Option Case). answer (finished (searchIn named q low high o) n)) (plain (k .0))
       ∙ ap (λ (r : Search). answer (finished r n)) (k .1)
 
-  too-few : (a : ℕ) (r : Search) → findResultWith named symmetry sheet low high work room ≡ answer r → a < choicesOf named symmetry p low high → a ≤ maxAllowance
+  too-few : (a : ℕ) (r : Search) → findResultWith named symmetry sheet low high work room ≡ answer r → a < choicesNeeded named symmetry p low high → a ≤ maxAllowance
       → (s : ℕ) × (findWithin named symmetry sheet low high a work room ≡ answer (stopped s a)) × UsedUp symmetry q low high a s
   too-few a r e h l =
       let k = has-result r e in
@@ -177,13 +177,13 @@ module _ (named symmetry : Bool) (sheet : List ℕ) (p : Problem) (low high work
       (t .0, gives-within a (k .0) l ∙ ap (λ (w : Allowed). answer (withinIn named q low high a w)) (t .1), t .2)
 
   only-too-few : (a s n : ℕ) → findWithin named symmetry sheet low high a work room ≡ answer (stopped s n)
-      → (n ≡ a) × (a < choicesOf named symmetry p low high) × UsedUp symmetry q low high a s
-  only-too-few a s n e = go (at-most-or-more (choicesOf named symmetry p low high) a)
+      → (n ≡ a) × (a < choicesNeeded named symmetry p low high) × UsedUp symmetry q low high a s
+  only-too-few a s n e = go (at-most-or-more (choicesNeeded named symmetry p low high) a)
     where
       i : withinIn named q low high a (searchWithin symmetry q low high a) ≡ stopped s n
       i = has-within a (stopped s n) e .2
 
-      go : (choicesOf named symmetry p low high ≤ a) ⊎ (a < choicesOf named symmetry p low high) → (n ≡ a) × (a < choicesOf named symmetry p low high) × UsedUp symmetry q low high a s
+      go : (choicesNeeded named symmetry p low high ≤ a) ⊎ (a < choicesNeeded named symmetry p low high) → (n ≡ a) × (a < choicesNeeded named symmetry p low high) × UsedUp symmetry q low high a s
       go (inl h) = absurd (stopped≢finished s n _ _ (sym i ∙ ap (withinIn named q low high a) (law .enough a h)))
       go (inr h) =
           let t = law .tooFew a h in
@@ -194,7 +194,7 @@ module _ (named symmetry : Bool) (sheet : List ℕ) (p : Problem) (low high work
       → findWithin named symmetry sheet low high b work room ≡ answer (finished r n)
   larger a b n r e le lim =
       let s = same a n r e in
-      let number : n ≡ choicesOf named symmetry p low high = s .1 in
+      let number : n ≡ choicesNeeded named symmetry p low high = s .1 in
       let most : n ≤ a = s .2 in
       enough b r (s .0) (omega (arith, number, most, le)) lim ∙ ap (λ (n : ℕ). answer (finished r n)) (sym number)
 

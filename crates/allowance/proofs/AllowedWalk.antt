@@ -13,7 +13,7 @@ use Rattle.theory.specs.Problem.{Problem}
 use Rattle.theory.specs.Walk.{Partial, Status, failed, forces, quiet, event, lowest, bytesOf, Walked, choose, walkStep, walk, walked}
 use Rattle.theory.proofs.Tests.{true-or-false, leb-true, leb-false, leb-of-≤, leb-of-<}
 use Rattle.symmetry.specs.Obeying.{searchedWith}
-use Rattle.allowance.specs.AllowedWalk.{End, ended, stopped, after, otherValue, chooseWithin, stepWithin, walkWithin, walkedWithin, searchedWithin}
+use Rattle.allowance.specs.AllowedWalk.{WalkEnd, ended, stopped, after, otherValue, chooseWithin, stepWithin, walkWithin, walkedWithin, searchedWithin}
 use Rattle.allowance.specs.Claims.AllowedWalk.{cut, AllowedWalkHolds}
 
 pub cut-enough : (left : ℕ) (w : Walked) → w .choices ≤ left → cut left w ≡ ended (w .answer) (w .choices)
@@ -43,7 +43,7 @@ cut-choice zero one other = go (one .answer)
 cut-choice (suc left) one other = go (one .answer) refl (at-most-or-more (one .choices) left)
   where
     -- the choice and what follows it, where the first value ends so
-    then : End → End
+    then : WalkEnd → WalkEnd
     then e = after 1 (otherValue left e (λ l. cut l other))
 
     go : (o : Option (List ℕ)) → one .answer ≡ o → (one .choices ≤ left) ⊎ (left < one .choices) → then (cut left one) ≡ cut (suc left) (choose o one other)
@@ -65,11 +65,11 @@ cut-choice (suc left) one other = go (one .answer) refl (at-most-or-more (one .c
             → after 1 (after (one .choices) (cut (left - one .choices) other)) ≡ cut (suc left) (choose none one other)
         rest (inl h) =
             let d : 1 + (one .choices + other .choices) ≡ suc (one .choices + other .choices) = omega arith in
-            ap (λ (r : End). after 1 (after (one .choices) r)) (cut-enough (left - one .choices) other h)
+            ap (λ (r : WalkEnd). after 1 (after (one .choices) r)) (cut-enough (left - one .choices) other h)
             ∙ ap (ended (other .answer)) d
             ∙ sym (cut-enough (suc left) (choose none one other) (omega arith))
         rest (inr h) =
-            ap (λ (r : End). after 1 (after (one .choices) r)) (cut-stopped (left - one .choices) other h)
+            ap (λ (r : WalkEnd). after 1 (after (one .choices) r)) (cut-stopped (left - one .choices) other h)
             ∙ sym (cut-stopped (suc left) (choose none one other) (omega arith))
 
 module _ (cs : List PropClause) (first : ℕ → Bool) where
@@ -91,7 +91,7 @@ module _ (cs : List PropClause) (first : ℕ → Bool) where
           π₂ : Partial
           π₂ = set π i (some (not (first i)))
 
-          second : (left : ℕ) (e : End) → otherValue left e (walkWithin n cs first π₂) ≡ otherValue left e (λ l. cut l (walk n cs first π₂))
+          second : (left : ℕ) (e : WalkEnd) → otherValue left e (walkWithin n cs first π₂) ≡ otherValue left e (λ l. cut l (walk n cs first π₂))
           second left stopped = refl
           second left (ended (some σ) k) = refl
           second left (ended none k) = ap (after k) (ih π₂ (left - k))
@@ -99,7 +99,7 @@ module _ (cs : List PropClause) (first : ℕ → Bool) where
           both : (left : ℕ) → chooseWithin left (walkWithin n cs first π₁) (walkWithin n cs first π₂) ≡ chooseWithin left (λ l. cut l (walk n cs first π₁)) (λ l. cut l (walk n cs first π₂))
           both zero = refl
           both (suc left) =
-              ap (after 1) (ap (λ (e : End). otherValue left e (walkWithin n cs first π₂)) (ih π₁ left) ∙ second left (cut left (walk n cs first π₁)))
+              ap (after 1) (ap (λ (e : WalkEnd). otherValue left e (walkWithin n cs first π₂)) (ih π₁ left) ∙ second left (cut left (walk n cs first π₁)))
 
 -- the theorem
 pub walked-within : AllowedWalkHolds

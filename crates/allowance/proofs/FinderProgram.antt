@@ -18,7 +18,7 @@ use Rattle.solver.proofs.Options.{none≢some}
 use Rattle.symmetry.specs.SymmetricOperations.{findResultWith}
 use Rattle.symmetry.proofs.NearRefusals.{roomy, find-near}
 use Rattle.allowance.specs.AllowedFind.{findWithin}
-use Rattle.allowance.specs.FinderProgram.{Asked, asked, finds, finderAnswer, printedWithin, finder}
+use Rattle.allowance.specs.FinderProgram.{Question, asked, finds, finderAnswer, printedWithin, finder}
 use Rattle.allowance.specs.Claims.FinderProgram.{inputBytes, FinderProgram}
 use Rattle.allowance.proofs.AllowedWalk.{at-most-or-more}
 use Rattle.allowance.proofs.AllowedFind.{refused-or-24}
@@ -30,7 +30,7 @@ unfolding findWithin
 too-long used sheet low high a work room h = bind-refused (placedProblem sheet) _ (unplaced 1) (placed.too-long sheet h)
 
 -- one byte more than the largest sheet is enough of a sheet
-enough : (a : Asked) (n : ℕ) → 16385 ≤ n → finds (withSheet (take n (a .sheet)) a) ≡ finds a
+enough : (a : Question) (n : ℕ) → 16385 ≤ n → finds (withSheet (take n (a .sheet)) a) ≡ finds a
 enough a n le = go (at-most-or-more (length (a .sheet)) n)
   where
     go : (length (a .sheet) ≤ n) ⊎ (n < length (a .sheet)) → finds (withSheet (take n (a .sheet)) a) ≡ finds a
@@ -41,7 +41,7 @@ enough a n le = go (at-most-or-more (length (a .sheet)) n)
         ∙ sym (too-long (a .symmetry) (a .sheet) (a .low) (a .high) (a .allowance) programWork programOutput (omega (arith, long, le)))
 
 -- what is read of the input is enough of it
-reads-enough : (o q : Option Asked) (input : List ℕ) → asked input ≡ o → asked (take inputBytes input) ≡ q → finderAnswer q ≡ finderAnswer o
+reads-enough : (o q : Option Question) (input : List ℕ) → asked input ≡ o → asked (take inputBytes input) ≡ q → finderAnswer q ≡ finderAnswer o
 reads-enough none none input e f = refl
 reads-enough (some a) q input e f =
     let l : Lines input a = four-lines input a e in
@@ -75,9 +75,9 @@ unfolding finder
 finder-program =
     record {
       reads = λ input. ap printedWithin (reads-enough (asked input) (asked (take inputBytes input)) input refl refl);
-      roomy = λ (a : Asked) r e n. go a r n (refused-or-24 false (a .symmetry) (a .sheet) (a .low) (a .high) (a .allowance) programWork programOutput r e);
+      roomy = λ (a : Question) r e n. go a r n (refused-or-24 false (a .symmetry) (a .sheet) (a .low) (a .high) (a .allowance) programWork programOutput r e);
     }
   where
-    go : (a : Asked) (r : Refusal) → r .number ≡ 11 → (findResultWith false (a .symmetry) (a .sheet) (a .low) (a .high) programWork programOutput ≡ refused r) ⊎ (r ≡ unplaced 24) → ⊥
+    go : (a : Question) (r : Refusal) → r .number ≡ 11 → (findResultWith false (a .symmetry) (a .sheet) (a .low) (a .high) programWork programOutput ≡ refused r) ⊎ (r ≡ unplaced 24) → ⊥
     go a r n (inl h) = roomy (a .symmetry) (a .sheet) (a .low) (a .high) r h n
     go a r n (inr h) = let k : r .number ≡ 24 = ap (λ (r : Refusal). r .number) h in omega (arith, n, k)

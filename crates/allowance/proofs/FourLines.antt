@@ -15,7 +15,7 @@ use Rattle.theory.specs.Program.{digitOf, _>>?_, digitLine, switchLine}
 use Rattle.theory.proofs.Tests.{and-left, and-right, ltb-true}
 use Rattle.theory.proofs.Lines.{cut-only, after-key, key-only}
 use Rattle.solver.proofs.Options.{none≢some, read-on, was-read, cond-some}
-use Rattle.allowance.specs.FinderProgram.{spelled, allowanceOf, allowanceLine, Asked, asked}
+use Rattle.allowance.specs.FinderProgram.{spelled, allowanceOf, allowanceLine, Question, asked}
 
 -- a line is cut off in the same way whatever follows it
 cut-again : (text rest : List ℕ) (p : Cut) → cutLine text ≡ some p → cutLine (p .0 ++ (LF ∷ rest)) ≡ some (p .0, rest)
@@ -121,17 +121,17 @@ switch-front text r e = go (afterKey (bytes "sym=yes\n") text) refl (afterKey (b
     go none h none k e = absurd (none≢some r e)
 
 -- the question with another sheet
-abbrev pub withSheet : List ℕ → Asked → Asked
+abbrev pub withSheet : List ℕ → Question → Question
 withSheet sheet a = record { low = a .low; high = a .high; symmetry = a .symmetry; allowance = a .allowance; sheet = sheet }
 
 -- the four lines of a question that was read
-pub record Lines (input : List ℕ) (a : Asked) : Type 0 where
+pub record Lines (input : List ℕ) (a : Question) : Type 0 where
   pub front : List ℕ
   pub whole : front ++ a .sheet ≡ input
   pub short : length front ≤ 35
   pub again : (rest : List ℕ) → asked (front ++ rest) ≡ some (withSheet rest a)
 
-pub four-lines : (input : List ℕ) (a : Asked) → asked input ≡ some a → Lines input a
+pub four-lines : (input : List ℕ) (a : Question) → asked input ≡ some a → Lines input a
 four-lines input q e =
     let low = was-read (digitLine (bytes "low=") input) _ q e in
     let high = was-read (digitLine (bytes "high=") (low .0 .1)) _ q (low .2) in
@@ -141,7 +141,7 @@ four-lines input q e =
     let f₂ = digit-front (bytes "high=") (low .0 .1) (high .0) (high .1) in
     let f₃ = switch-front (high .0 .1) (switch .0) (switch .1) in
     let f₄ = allowance-front (switch .0 .1) (allow .0) (allow .1) in
-    let lines : Asked = record { low = low .0 .0; high = high .0 .0; symmetry = switch .0 .0; allowance = allow .0 .0; sheet = allow .0 .1 } in
+    let lines : Question = record { low = low .0 .0; high = high .0 .0; symmetry = switch .0 .0; allowance = allow .0 .0; sheet = allow .0 .1 } in
     let asks : lines ≡ q = Option·some-injective lines q (allow .2) in
     let n₁ : length (bytes "low=") ≡ 4 = refl in
     let n₂ : length (bytes "high=") ≡ 5 = refl in
@@ -149,7 +149,7 @@ four-lines input q e =
     record {
       front = f₁ .front ++ (f₂ .front ++ (f₃ .front ++ f₄ .front));
       whole = together (f₁ .front) (f₂ .front) (f₃ .front) (f₄ .front) (q .sheet)
-          ∙ ap (λ (q : Asked). f₁ .front ++ (f₂ .front ++ (f₃ .front ++ (f₄ .front ++ q .sheet)))) (sym asks)
+          ∙ ap (λ (q : Question). f₁ .front ++ (f₂ .front ++ (f₃ .front ++ (f₄ .front ++ q .sheet)))) (sym asks)
           ∙ ap (λ (l : List ℕ). f₁ .front ++ (f₂ .front ++ (f₃ .front ++ l))) (f₄ .whole)
           ∙ ap (λ (l : List ℕ). f₁ .front ++ (f₂ .front ++ l)) (f₃ .whole)
           ∙ ap (λ (l : List ℕ). f₁ .front ++ l) (f₂ .whole)
@@ -173,7 +173,7 @@ four-lines input q e =
           ∙ read-on (digitLine (bytes "high=") (f₂ .front ++ (f₃ .front ++ (f₄ .front ++ rest)))) _ (high .0 .0, f₃ .front ++ (f₄ .front ++ rest)) (f₂ .again (f₃ .front ++ (f₄ .front ++ rest)))
           ∙ read-on (switchLine (f₃ .front ++ (f₄ .front ++ rest))) _ (switch .0 .0, f₄ .front ++ rest) (f₃ .again (f₄ .front ++ rest))
           ∙ read-on (allowanceLine (f₄ .front ++ rest)) _ (allow .0 .0, rest) (f₄ .again rest)
-          ∙ ap (λ (q : Asked). some (withSheet rest q)) asks;
+          ∙ ap (λ (q : Question). some (withSheet rest q)) asks;
     }
   where
     together : (a b c d e : List ℕ) → (a ++ (b ++ (c ++ d))) ++ e ≡ a ++ (b ++ (c ++ (d ++ e)))

@@ -17,7 +17,7 @@ use Rattle.symmetry.proofs.FindsObeying.{finds-obeying}
 use Rattle.symmetry.proofs.Switches.{switches}
 use Rattle.symmetry.proofs.ToldNo.{told-no}
 use Rattle.allowance.specs.AllowedFind.{finished, findWithin}
-use Rattle.allowance.specs.Claims.NotStopped.{Answers, NotStopped}
+use Rattle.allowance.specs.Claims.NotStopped.{AnswersUnstopped, NotStopped}
 use Rattle.allowance.proofs.AllowedFind.{allowed-find}
 
 -- whatever the sheet is
@@ -27,10 +27,10 @@ unfolding findWithin
 not-stopped named symmetry sheet low high a work room n r e =
     unbind _ _ (finished r n) e λ (p : Problem) h _. allowed-find named symmetry sheet p low high work room (placed-read named sheet p h) .same a n r e .0
 
-result-of : (named symmetry : Bool) (sheet : List ℕ) (low high : ℕ) (r : Search) (a : Answers named symmetry sheet low high r) → findResultWith named symmetry sheet low high (a .work) (a .room) ≡ answer r
+result-of : (named symmetry : Bool) (sheet : List ℕ) (low high : ℕ) (r : Search) (a : AnswersUnstopped named symmetry sheet low high r) → findResultWith named symmetry sheet low high (a .work) (a .room) ≡ answer r
 result-of named symmetry sheet low high r a = not-stopped named symmetry sheet low high (a .allowance) (a .work) (a .room) (a .choices) r (a .found)
 
-told : (named : Bool) (sheet : List ℕ) (low high : ℕ) (r r⁺ : Search) → Answers named false sheet low high r → Answers named true sheet low high r⁺ → Told sheet named low high r r⁺
+told : (named : Bool) (sheet : List ℕ) (low high : ℕ) (r r⁺ : Search) → AnswersUnstopped named false sheet low high r → AnswersUnstopped named true sheet low high r⁺ → Told sheet named low high r r⁺
 told named sheet low high r r⁺ a b =
     record { work = a .work; room = a .room; no = result-of named false sheet low high r a; work⁺ = b .work; room⁺ = b .room; yes = result-of named true sheet low high r⁺ b }
 

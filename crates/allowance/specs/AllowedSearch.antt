@@ -8,7 +8,7 @@ use Rattle.theory.specs.Valuation.{readBack}
 use Rattle.theory.specs.Problem.{Problem}
 use Rattle.theory.specs.CaseText.{Case}
 use Rattle.symmetry.specs.Obeying.{searchedWith}
-use Rattle.allowance.specs.AllowedWalk.{End, ended, stopped, searchedWithin}
+use Rattle.allowance.specs.AllowedWalk.{WalkEnd, ended, stopped, searchedWithin}
 
 -- the sizes low to high
 abbrev pub sizes : ℕ → ℕ → List ℕ
@@ -48,7 +48,7 @@ before n (answered o m) = answered o (n + m)
 before n (stoppedAt s) = stoppedAt s
 
 -- the size s, where the walk with so many choices left ended so, and then the other sizes with what is left if it found nothing
-abbrev pub sizeWithin : ℕ → Problem → ℕ → End → (ℕ → Allowed) → Allowed
+abbrev pub sizeWithin : ℕ → Problem → ℕ → WalkEnd → (ℕ → Allowed) → Allowed
 sizeWithin s p left stopped others = stoppedAt s
 sizeWithin s p left (ended (some σ) n) others = answered (some (caseOf s p σ)) n
 sizeWithin s p left (ended none n) others = before n (others (left - n))

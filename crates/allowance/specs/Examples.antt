@@ -7,16 +7,12 @@ use Rattle.theory.specs.Bytes.{bytes}
 use Rattle.theory.specs.Refusals.{Answer, answer, refused, unplaced, needing}
 use Rattle.theory.specs.Problem.{readProblem}
 use Rattle.theory.specs.Operations.{Search, found, nothing}
-use Rattle.theory.specs.Examples.{twoConstants}
+use Rattle.theory.specs.Examples.{twoConstants, noFixedPoint}
 use Rattle.naming.specs.Examples.{many}
 use Rattle.symmetry.specs.Examples.{functionBefore}
 use Rattle.allowance.specs.AllowedSearch.{countedSearch}
-use Rattle.allowance.specs.AllowedFind.{Within, finished, stopped, findWithin, allowedOutput, allowedWork}
+use Rattle.allowance.specs.AllowedFind.{Stoppable, finished, stopped, findWithin, allowedOutput, allowedWork}
 use Rattle.allowance.specs.FinderProgram.{finder}
-
--- a function without a fixed point
-unfoldable pub noFixedPoint : List ℕ
-noFixedPoint = bytes "sheet=1\nfuns=1\nfun=f/1\npreds=0\nclauses=1\nclause=- = f A A\n"
 
 -- two predicates of which each thing has exactly one
 unfoldable pub eitherOr : List ℕ
@@ -31,12 +27,12 @@ unfoldable pub unsaid : List ℕ
 unsaid = bytes "sheet=1\nfuns=0\npreds=1\npred=p/1\nclauses=0\n"
 
 -- a search with an allowance, plain and without the constant clauses
-unfoldable pub within : List ℕ → ℕ → ℕ → ℕ → Answer (Within Search)
-within sheet low high allowance = findWithin false false sheet low high allowance 16000 100
+unfoldable pub plainly : List ℕ → ℕ → ℕ → ℕ → Answer (Stoppable Search)
+plainly sheet low high allowance = findWithin false false sheet low high allowance 16000 100
 
 -- f is no fixed point of c, with both switches
-unfoldable pub before : Bool → Bool → ℕ → Answer (Within Search)
-before named symmetry allowance = findWithin named symmetry functionBefore 1 2 allowance 16000 100
+unfoldable pub functionFirst : Bool → Bool → ℕ → Answer (Stoppable Search)
+functionFirst named symmetry allowance = findWithin named symmetry functionBefore 1 2 allowance 16000 100
 
 -- the choices that a search makes without an allowance
 unfoldable pub choicesIn : List ℕ → ℕ → ℕ → ℕ
@@ -45,49 +41,49 @@ choicesIn sheet low high = elim (readProblem sheet) [ answer p ↦ countedSearch
 -- the table
 pub record Examples : Type 0 where
   -- what is forced is no choice: f 1 = 2 and f 2 = 1 at size 2; at size 3 there is one
-  pub fixed-0 : within noFixedPoint 1 3 0 ≡ answer (finished (found 2 (bytes "case=1\nsize=2\nf=2 1\n")) 0)
-  pub fixed-3-0 : within noFixedPoint 3 3 0 ≡ answer (stopped 3 0)
+  pub fixed-0 : plainly noFixedPoint 1 3 0 ≡ answer (finished (found 2 (bytes "case=1\nsize=2\nf=2 1\n")) 0)
+  pub fixed-3-0 : plainly noFixedPoint 3 3 0 ≡ answer (stopped 3 0)
   -- p 1 = 0 and p 2 = 0 are chosen, q is forced
-  pub either-1 : within eitherOr 2 2 1 ≡ answer (stopped 2 1)
-  pub either-2 : within eitherOr 2 2 2 ≡ answer (finished (found 2 (bytes "case=1\nsize=2\np=0 0\nq=1 1\n")) 2)
-  pub either-most : within eitherOr 2 2 1000000 ≡ answer (finished (found 2 (bytes "case=1\nsize=2\np=0 0\nq=1 1\n")) 2)
+  pub either-1 : plainly eitherOr 2 2 1 ≡ answer (stopped 2 1)
+  pub either-2 : plainly eitherOr 2 2 2 ≡ answer (finished (found 2 (bytes "case=1\nsize=2\np=0 0\nq=1 1\n")) 2)
+  pub either-most : plainly eitherOr 2 2 1000000 ≡ answer (finished (found 2 (bytes "case=1\nsize=2\np=0 0\nq=1 1\n")) 2)
   -- a choice is made also where all clauses are true already
-  pub unsaid-2 : within unsaid 3 3 2 ≡ answer (stopped 3 2)
-  pub unsaid-3 : within unsaid 3 3 3 ≡ answer (finished (found 3 (bytes "case=1\nsize=3\np=0 0 0\n")) 3)
-  -- 24 stands after 8, and before 10 and 11
-  pub too-many : within eitherOr 2 2 1000001 ≡ refused (unplaced 24)
-  pub size-first : within eitherOr 0 2 1000001 ≡ refused (unplaced 8)
+  pub unsaid-2 : plainly unsaid 3 3 2 ≡ answer (stopped 3 2)
+  pub unsaid-3 : plainly unsaid 3 3 3 ≡ answer (finished (found 3 (bytes "case=1\nsize=3\np=0 0 0\n")) 3)
+  -- 24 stands after 8, and functionFirst 10 and 11
+  pub too-many : plainly eitherOr 2 2 1000001 ≡ refused (unplaced 24)
+  pub size-first : plainly eitherOr 0 2 1000001 ≡ refused (unplaced 8)
   pub work-later : findWithin false false eitherOr 2 2 1000001 0 0 ≡ refused (unplaced 24)
   pub work-within : findWithin false false eitherOr 2 2 1000000 0 0 ≡ refused (needing 10 64)
-  -- in the mode 21 stands before both
+  -- in the mode 21 stands functionFirst both
   pub helpers-first : findWithin true false (many "+ p f f f f f a") 0 9 1000001 0 0 ≡ refused (unplaced 21)
   -- none with its number: the other value of a choice is no choice
-  pub none-1 : within crowded 1 2 0 ≡ answer (stopped 2 0)
-  pub none-2 : within crowded 1 2 1 ≡ answer (finished (nothing false) 1)
+  pub none-1 : plainly crowded 1 2 0 ≡ answer (stopped 2 0)
+  pub none-2 : plainly crowded 1 2 1 ≡ answer (finished (nothing false) 1)
   -- what is left is handed on from size to size
-  pub handed-on-1 : within crowded 1 3 1 ≡ answer (stopped 3 1)
-  pub handed-on-2 : within crowded 1 3 2 ≡ answer (stopped 3 2)
-  pub handed-on-3 : within crowded 1 3 3 ≡ answer (finished (found 3 (bytes "case=1\nsize=3\na=1\nb=2\nc=3\n")) 3)
+  pub handed-on-1 : plainly crowded 1 3 1 ≡ answer (stopped 3 1)
+  pub handed-on-2 : plainly crowded 1 3 2 ≡ answer (stopped 3 2)
+  pub handed-on-3 : plainly crowded 1 3 3 ≡ answer (finished (found 3 (bytes "case=1\nsize=3\na=1\nb=2\nc=3\n")) 3)
   pub counted : choicesIn crowded 1 3 ≡ 3
   -- the number depends on both switches
   pub crowded-symmetry : findWithin false true crowded 1 3 0 16000 100 ≡ answer (finished (found 3 (bytes "case=1\nsize=3\na=1\nb=2\nc=3\n")) 0)
-  pub before-plain : before false false 1 ≡ answer (finished (found 2 (bytes "case=1\nsize=2\nf=1 1\nc=2\n")) 1)
-  pub before-named-2 : before true false 2 ≡ answer (stopped 2 2)
-  pub before-named-3 : before true false 3 ≡ answer (finished (found 2 (bytes "case=1\nsize=2\nf=1 1\nc=2\n")) 3)
-  pub before-symmetry-0 : before false true 0 ≡ answer (stopped 2 0)
-  pub before-symmetry-1 : before false true 1 ≡ answer (finished (found 2 (bytes "case=1\nsize=2\nf=2 1\nc=1\n")) 1)
-  pub before-both : before true true 1 ≡ answer (finished (found 2 (bytes "case=1\nsize=2\nf=2 1\nc=1\n")) 1)
+  pub before-plain : functionFirst false false 1 ≡ answer (finished (found 2 (bytes "case=1\nsize=2\nf=1 1\nc=2\n")) 1)
+  pub before-named-2 : functionFirst true false 2 ≡ answer (stopped 2 2)
+  pub before-named-3 : functionFirst true false 3 ≡ answer (finished (found 2 (bytes "case=1\nsize=2\nf=1 1\nc=2\n")) 3)
+  pub before-symmetry-0 : functionFirst false true 0 ≡ answer (stopped 2 0)
+  pub before-symmetry-1 : functionFirst false true 1 ≡ answer (finished (found 2 (bytes "case=1\nsize=2\nf=2 1\nc=1\n")) 1)
+  pub before-both : functionFirst true true 1 ≡ answer (finished (found 2 (bytes "case=1\nsize=2\nf=2 1\nc=1\n")) 1)
   -- stopped leaves the output, and zeros in work
-  pub output : allowedOutput (within eitherOr 2 2 1) (7 ∷ 8 ∷ []) ≡ 7 ∷ 8 ∷ []
-  pub work : allowedWork (within eitherOr 2 2 1) (7 ∷ 8 ∷ []) ≡ 0 ∷ 0 ∷ []
-  -- the program: document 01's example; its third line, and an 8 where that is missing or not so laid out, before the sheet is read
+  pub output : allowedOutput (plainly eitherOr 2 2 1) (7 ∷ 8 ∷ []) ≡ 7 ∷ 8 ∷ []
+  pub work : allowedWork (plainly eitherOr 2 2 1) (7 ∷ 8 ∷ []) ≡ 0 ∷ 0 ∷ []
+  -- the program: document 01's example; its third line, and an 8 where that is missing or not so laid out, functionFirst the sheet is read
   pub program-two : finder (bytes "low=1\nhigh=3\nsym=no\nallow=1000000\n" ++ twoConstants) ≡ bytes "answer=found\ncase=1\nsize=2\na=1\nb=2\n"
   pub program-before-no : finder (bytes "low=1\nhigh=2\nsym=no\nallow=1\n" ++ functionBefore) ≡ bytes "answer=found\ncase=1\nsize=2\nf=1 1\nc=2\n"
   pub program-before-yes : finder (bytes "low=1\nhigh=2\nsym=yes\nallow=1\n" ++ functionBefore) ≡ bytes "answer=found\ncase=1\nsize=2\nf=2 1\nc=1\n"
   pub program-two-lines : finder (bytes "low=1\nhigh=3\nallow=1000000\n" ++ twoConstants) ≡ bytes "answer=refused\nreason=8\nline=0\ncolumn=0\n"
   pub program-capital : finder (bytes "low=1\nhigh=3\nsym=Yes\nallow=0\nsheet=2\n") ≡ bytes "answer=refused\nreason=8\nline=0\ncolumn=0\n"
   pub program-space : finder (bytes "low=1\nhigh=3\nsym=no \nallow=0\nsheet=2\n") ≡ bytes "answer=refused\nreason=8\nline=0\ncolumn=0\n"
-  -- its fourth line, stopped, and an 8 where the line is missing or not so laid out, before the sheet is read
+  -- its fourth line, stopped, and an 8 where the line is missing or not so laid out, functionFirst the sheet is read
   pub program-found : finder (bytes "low=2\nhigh=2\nsym=no\nallow=2\n" ++ eitherOr) ≡ bytes "answer=found\ncase=1\nsize=2\np=0 0\nq=1 1\n"
   pub program-smaller : finder (bytes "low=1\nhigh=2\nsym=no\nallow=1\n" ++ eitherOr) ≡ bytes "answer=found\ncase=1\nsize=1\np=0\nq=1\n"
   pub program-stopped : finder (bytes "low=2\nhigh=8\nsym=yes\nallow=1\n" ++ eitherOr) ≡ bytes "answer=stopped\nsize=2\n"

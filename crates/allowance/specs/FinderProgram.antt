@@ -11,7 +11,7 @@ use Rattle.theory.specs.Lines.{cutLine, afterKey}
 use Rattle.theory.specs.Refusals.{Answer, answer, refused, unplaced}
 use Rattle.theory.specs.Operations.{Search}
 use Rattle.theory.specs.Program.{programWork, programOutput, _>>?_, digitLine, switchLine, printed}
-use Rattle.allowance.specs.AllowedFind.{Within, finished, stopped, findWithin}
+use Rattle.allowance.specs.AllowedFind.{Stoppable, finished, stopped, findWithin}
 
 -- the number n with these digits behind its own
 abbrev pub spelled : ℕ → List ℕ → ℕ
@@ -28,7 +28,7 @@ unfoldable pub allowanceLine : List ℕ → Option (ℕ × List ℕ)
 allowanceLine text = cutLine text >>? λ p. afterKey (bytes "allow=") (p .0) >>? λ v. allowanceOf v >>? λ n. some (n, p .1)
 
 -- what is asked: the two sizes, whether the constant clauses are used, how many choices are allowed, and the sheet
-pub record Asked : Type 0 where
+pub record Question : Type 0 where
   pub low : ℕ
   pub high : ℕ
   pub symmetry : Bool
@@ -36,7 +36,7 @@ pub record Asked : Type 0 where
   pub sheet : List ℕ
 
 -- the four lines and the sheet
-abbrev pub asked : List ℕ → Option Asked
+abbrev pub asked : List ℕ → Option Question
 asked input =
     digitLine (bytes "low=") input >>? λ a.
     digitLine (bytes "high=") (a .1) >>? λ b.
@@ -45,16 +45,16 @@ asked input =
     some (record { low = a .0; high = b .0; symmetry = c .0; allowance = d .0; sheet = d .1 })
 
 -- what Find answers to a question
-abbrev pub finds : Asked → Answer (Within Search)
+abbrev pub finds : Question → Answer (Stoppable Search)
 finds a = findWithin false (a .symmetry) (a .sheet) (a .low) (a .high) (a .allowance) programWork programOutput
 
 -- the answer to the input; a line that is not so laid out is 8, before the sheet is read
-abbrev pub finderAnswer : Option Asked → Answer (Within Search)
+abbrev pub finderAnswer : Option Question → Answer (Stoppable Search)
 finderAnswer none = refused (unplaced 8)
 finderAnswer (some a) = finds a
 
 -- what the program prints for an answer; the number of choices is not printed
-unfoldable pub printedWithin : Answer (Within Search) → List ℕ
+unfoldable pub printedWithin : Answer (Stoppable Search) → List ℕ
 printedWithin (answer (finished r n)) = printed (answer r)
 printedWithin (answer (stopped s n)) = bytes "answer=stopped\nsize=" ++ (decimal s ++ (LF ∷ []))
 printedWithin (refused r) = printed (refused r)

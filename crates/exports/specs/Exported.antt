@@ -10,7 +10,7 @@ use Rattle.theory.specs.Operations.{lengthAnswer, outputAfter, settingText, Sea
 use Rattle.theory.specs.PlainSearch.{plainResult}
 use Rattle.naming.specs.NamedOperations.{readBackTextIn}
 use Rattle.symmetry.specs.SymmetricOperations.{writtenTextWith}
-use Rattle.allowance.specs.AllowedFind.{Within, findWithin, allowedAnswer, allowedOutput, allowedWork}
+use Rattle.allowance.specs.AllowedFind.{Stoppable, findWithin, allowedAnswer, allowedOutput, allowedWork}
 use Rattle.tptp.specs.Tptp.{tptpText}
 use Rattle.solver.specs.SolverText.{solverText, solverAnswer, solverOutput}
 use Rattle.sheet_merging.specs.Merging.{mergedText, whichSheet}
@@ -41,7 +41,7 @@ abbrev pub SettingExport : List ℕ → List ℕ → WriteOut → List ℕ → L
 SettingExport sheet case r output output′ = WritingExport (settingText sheet case (length output)) r output output′
 
 -- a call that searches with this result, or is refused
-pub record SearchingExport (result : Answer (Within Search)) (r : FindOut) (work work′ output output′ : List ℕ) : Type 0 where
+pub record SearchingExport (result : Answer (Stoppable Search)) (r : FindOut) (work work′ output output′ : List ℕ) : Type 0 where
   pub answer : r ≡ findOut (allowedAnswer result)
   pub worked : work′ ≡ allowedWork result work
   pub left : output′ ≡ allowedOutput result output

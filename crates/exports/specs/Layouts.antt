@@ -4,7 +4,7 @@ use mathlib.Core.Bool.{Bool, true, false, cond}
 use mathlib.Core.Option.{Option, none, some}
 use Rattle.theory.specs.Refusals.{Answer, answer, refused}
 use Rattle.theory.specs.Operations.{Counts, Reason, Found, foundCase, noCase}
-use Rattle.allowance.specs.AllowedFind.{Within, finished, stopped}
+use Rattle.allowance.specs.AllowedFind.{Stoppable, finished, stopped}
 use Rattle.solver.specs.SolverText.{Outcome, modelCase, claimedNone}
 use Rattle.exports.specs.declared.ReadOut.{ReadOut}
 use Rattle.exports.specs.declared.JudgeOut.{JudgeOut}
@@ -60,7 +60,7 @@ abbrev pub resultOut : ℕ → ℕ → ℕ → ℕ → ℕ → FindOut
 resultOut o s n k b = record { outcome = o; reason = 0; line = 0; column = 0; size = s; length = n; choices = k; settled = b }
 
 -- Find: outcome 1 with size and length, 2 with the mark settled, 3 stopped with the size, each with the choices made; refused, the needed length
-abbrev pub findOut : Answer (Within Found) → FindOut
+abbrev pub findOut : Answer (Stoppable Found) → FindOut
 findOut (answer (finished (foundCase s n) k)) = resultOut 1 s n k 0
 findOut (answer (finished (noCase b) k)) = resultOut 2 0 0 k (cond b 1 0)
 findOut (answer (stopped s k)) = resultOut 3 s 0 k 0

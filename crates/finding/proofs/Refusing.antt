@@ -27,7 +27,7 @@ use Rattle.symmetry.specs.ConstantClauses.{instanceCountWith, literalCountWith,
 use Rattle.symmetry.specs.Obeying.{obeys, leastObeying, leastWith, smallestWith}
 use Rattle.symmetry.proofs.Searched.{read-in, placed-read}
 use Rattle.allowance.specs.AllowedSearch.{countedSearch, Allowed, answered, stoppedAt, searchWithin}
-use Rattle.allowance.specs.AllowedFind.{maxAllowance, Within, finished, withinIn, findWithin}
+use Rattle.allowance.specs.AllowedFind.{maxAllowance, Stoppable, finished, withinIn, findWithin}
 use Rattle.allowance.proofs.Allowance.{allowance}
 use Rattle.syntax.specs.declared.limits.Problem as code
 use Rattle.syntax.specs.declared.signature.Signature.{Signature}
@@ -125,7 +125,7 @@ plain-found : (used : Bool) (p : Problem) (low high a work room : ℕ) → allDe
     ≡ foundIn used p low high a work room
 unfolding foundIn
 plain-found used p low high a work room h plain =
-    let all : ℕ → Within Search → Answer (Within Search) = λ n r. check (leb a maxAllowance) (unplaced 24) >>= λ _. check (leb (instanceCountWith used high (p .symbols) (p .clauses)) maxInstances) (unplaced 9) >>= λ _.
+    let all : ℕ → Stoppable Search → Answer (Stoppable Search) = λ n r. check (leb a maxAllowance) (unplaced 24) >>= λ _. check (leb (instanceCountWith used high (p .symbols) (p .clauses)) maxInstances) (unplaced 9) >>= λ _.
     check (leb (workNeededWith used high (p .symbols) (p .clauses)) work) (needing 10 (workNeededWith used high (p .symbols) (p .clauses))) >>= λ _. check (leb n room) (needing 11 n) >>= λ _. answer r in
     ap (λ (n : ℕ). all n (withinIn false p low high a (searchWithin used p low high a))) (ap (caseLength high) (sym (shown-declared (p .symbols) h)))
     ∙ ap (all (caseLength high (shownSymbols (p .symbols)))) (plain-within used p low high a h plain)

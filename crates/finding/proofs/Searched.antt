@@ -15,7 +15,7 @@ use Rattle.allowance.specs.AllowedWalk.{ended, stopped, searchedWithin}
 use Rattle.allowance.specs.Claims.AllowedWalk.{cut}
 use Rattle.allowance.proofs.AllowedWalk.{cut-enough, cut-stopped, at-most-or-more, searched-within}
 use Rattle.search.specs.declared.Outcome.{Outcome}
-use Rattle.search.specs.Search.{searchAnswer, endOf}
+use Rattle.search.specs.Search.{searchAnswer, endTold}
 use Rattle.syntax.specs.declared.limits.Problem.{Problem}
 use Rattle.syntax.specs.Signatures.{signatureIn}
 use Rattle.problem.specs.Problems.{problemIn}
@@ -46,14 +46,14 @@ ended-within used s p left o n e = go (at-most-or-more (searchedWith used s p .c
 
 -- how the search says that the walk ends, by what it answers
 module _ (r : Outcome) (zs : List ℕ) where
-  pub end-stopped : r .stopped ≡ true → endOf r zs ≡ stopped
+  pub end-stopped : r .stopped ≡ true → endTold r zs ≡ stopped
   end-stopped e = ap (λ (b : Bool). cond b stopped (ended (searchAnswer (r .found) zs) (r .choices))) e
 
-  pub end-finished : r .stopped ≡ false → endOf r zs ≡ ended (searchAnswer (r .found) zs) (r .choices)
+  pub end-finished : r .stopped ≡ false → endTold r zs ≡ ended (searchAnswer (r .found) zs) (r .choices)
   end-finished e = ap (λ (b : Bool). cond b stopped (ended (searchAnswer (r .found) zs) (r .choices))) e
 
-  pub end-found : r .stopped ≡ false → r .found ≡ true → endOf r zs ≡ ended (some (settingOf zs)) (r .choices)
+  pub end-found : r .stopped ≡ false → r .found ≡ true → endTold r zs ≡ ended (some (settingOf zs)) (r .choices)
   end-found e f = end-finished e ∙ ap (λ (b : Bool). ended (searchAnswer b zs) (r .choices)) f
 
-  pub end-none : r .stopped ≡ false → r .found ≡ false → endOf r zs ≡ ended none (r .choices)
+  pub end-none : r .stopped ≡ false → r .found ≡ false → endTold r zs ≡ ended none (r .choices)
   end-none e f = end-finished e ∙ ap (λ (b : Bool). ended (searchAnswer b zs) (r .choices)) f

@@ -12,7 +12,7 @@ use Rattle.theory.specs.CaseText.{caseLength}
 use Rattle.theory.proofs.Monotone.{caseLength-grows}
 use Rattle.naming.specs.NamedProblem.{shownSymbols}
 use Rattle.symmetry.proofs.ConstantClauses.{constantClauses}
-use Rattle.allowance.specs.AllowedWalk.{End, ended, stopped, searchedWithin}
+use Rattle.allowance.specs.AllowedWalk.{WalkEnd, ended, stopped, searchedWithin}
 use Rattle.allowance.specs.AllowedSearch.{caseOf, Allowed, answered, stoppedAt, before, sizeWithin, sizesWithin, searchWithin}
 use Rattle.syntax.specs.declared.limits.Problem.{Problem}
 use Rattle.problem.specs.Problems.{problemIn}
@@ -65,12 +65,12 @@ module _ (used : Bool) (p : theory.Problem) (high : ℕ) where
   module _ (size made a : ℕ) where
     -- after the choices made, the rest of the allowance is left for these sizes
     module _ (le : size ≤ high) where
-      remaining-ends : (e : End) → searchedWithin used size p (a - made) ≡ e
+      remaining-ends : (e : WalkEnd) → searchedWithin used size p (a - made) ≡ e
           → before made (remaining size (a - made)) ≡ before made (sizeWithin size p (a - made) e (remaining (suc size)))
       remaining-ends e h =
           let m : suc high - size ≡ suc (suc high - suc size) = omega arith in
           ap (λ (k : ℕ). before made (sizesWithin used p (upFrom size k) (a - made))) m
-          ∙ ap (λ (e : End). before made (sizeWithin size p (a - made) e (remaining (suc size)))) h
+          ∙ ap (λ (e : WalkEnd). before made (sizeWithin size p (a - made) e (remaining (suc size)))) h
 
       pub remaining-stopped : searchedWithin used size p (a - made) ≡ stopped → before made (remaining size (a - made)) ≡ stoppedAt size
       remaining-stopped h = remaining-ends stopped h

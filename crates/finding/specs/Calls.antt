@@ -6,20 +6,20 @@ use mathlib.Core.List.{List}
 use lib.ListN.{length}
 use Rattle.theory.specs.Refusals.{Answer, answer, refused}
 use Rattle.theory.specs.Operations.{Search, Found, foundCase, noCase}
-use Rattle.allowance.specs.AllowedFind.{Within, finished, stopped, findWithin, allowedAnswer, allowedOutput, allowedWork}
+use Rattle.allowance.specs.AllowedFind.{Stoppable, finished, stopped, findWithin, allowedAnswer, allowedOutput, allowedWork}
 use Rattle.answers.specs.Answers.{refusalIn}
 use Rattle.finding.specs.declared.allowed.AllowedAnswer.{AllowedAnswer}
 use Rattle.finding.specs.declared.allowed.AllowedAnswer.the-variants as find
 
 -- Find's size and length, or none with the mark settled, each with the choices made; or stopped
-abbrev pub allowedIn : AllowedAnswer → Answer (Within Found)
+abbrev pub allowedIn : AllowedAnswer → Answer (Stoppable Found)
 allowedIn (find.Found s n k) = answer (finished (foundCase s n) k)
 allowedIn (find.Nothing b k) = answer (finished (noCase b) k)
 allowedIn (find.Stopped s k) = answer (stopped s k)
 allowedIn (find.Refused r) = refused (refusalIn r)
 
 -- a call that searches with this result under an allowance, or is refused
-pub record AllowedCall (result : Answer (Within Search)) (r : AllowedAnswer) (work work′ output output′ : List ℕ) : Type 0 where
+pub record AllowedCall (result : Answer (Stoppable Search)) (r : AllowedAnswer) (work work′ output output′ : List ℕ) : Type 0 where
   pub answer : allowedIn r ≡ allowedAnswer result
   pub worked : work′ ≡ allowedWork result work
   pub left : output′ ≡ allowedOutput result output

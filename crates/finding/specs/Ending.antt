@@ -13,7 +13,7 @@ use Rattle.theory.specs.Operations.{maxSize, maxInstances, Search, found}
 use Rattle.naming.specs.NamedProblem.{shownSymbols, shownText}
 use Rattle.symmetry.specs.ConstantClauses.{instanceCountWith, workNeededWith}
 use Rattle.allowance.specs.AllowedSearch.{searchWithin}
-use Rattle.allowance.specs.AllowedFind.{maxAllowance, Within, finished, withinIn}
+use Rattle.allowance.specs.AllowedFind.{maxAllowance, Stoppable, finished, withinIn}
 use Rattle.syntax.specs.declared.limits.Problem.{Problem}
 use Rattle.problem.specs.Problems.{problemIn, Accepted}
 use Rattle.problem.specs.Modes.{Shows}
@@ -22,19 +22,19 @@ use Rattle.finding.specs.Calls.{AllowedCall}
 use Rattle.finding.specs.Searching.{Searchable}
 
 -- a call that ends with what is found, given so many numbers of work and so many bytes of output
-abbrev pub Ends : (ℕ → ℕ → Answer (Within Search)) → AllowedAnswer → List ℕ → List ℕ → List ℕ → List ℕ → Type 0
+abbrev pub Ends : (ℕ → ℕ → Answer (Stoppable Search)) → AllowedAnswer → List ℕ → List ℕ → List ℕ → List ℕ → Type 0
 Ends finds r work work′ output output′ = AllowedCall (finds (length work) (length output)) r work work′ output output′
 
 -- the case of size s that the values of a search say, found after n choices
-abbrev pub caseFound : theory.Problem → ℕ → List ℕ → ℕ → Within Search
+abbrev pub caseFound : theory.Problem → ℕ → List ℕ → ℕ → Stoppable Search
 caseFound p s zs n = finished (found s (shownText s (p .symbols) (readBack s (p .symbols) (settingOf zs)))) n
 
 -- what Find finds of a problem that was read at the sizes from low to high where nothing is refused, with the constant clauses where they are used
-abbrev pub foundWithin : Bool → theory.Problem → ℕ → ℕ → ℕ → ℕ → ℕ → Answer (Within Search)
+abbrev pub foundWithin : Bool → theory.Problem → ℕ → ℕ → ℕ → ℕ → ℕ → Answer (Stoppable Search)
 foundWithin used p low high allowance work room = answer (withinIn true p low high allowance (searchWithin used p low high allowance))
 
 -- and with the refusals that stand before it: 24, 9, 10, 11
-unfoldable pub foundIn : Bool → theory.Problem → ℕ → ℕ → ℕ → ℕ → ℕ → Answer (Within Search)
+unfoldable pub foundIn : Bool → theory.Problem → ℕ → ℕ → ℕ → ℕ → ℕ → Answer (Stoppable Search)
 foundIn used p low high allowance work room = do
   _ ← check (leb allowance maxAllowance) (unplaced 24)
   _ ← check (leb (instanceCountWith used high (p .symbols) (p .clauses)) maxInstances) (unplaced 9)

@@ -21,7 +21,7 @@ ghost use Rattle.propagation.specs.WorkArea.{Loaded};
 ghost use Rattle.loading.specs.Loading.{Tallied, Entered};
 ghost use Rattle.stream.specs.Literals.{allCodes};
 ghost use Rattle.problem.specs.Problems.{problemIn};
-ghost use Rattle.search.specs.Search.{endOf};
+ghost use Rattle.search.specs.Search.{endTold};
 ghost use Rattle.valuations.specs.Numbers.{NumberingOf};
 ghost use Rattle.finding.specs.Searching.{Searchable, sheetClauses};
 
@@ -108,7 +108,7 @@ pub fn search_size(
 ) -> Outcome
     requires { ⌜ Searchable (now sheet) p (size .0) (length (now work)) ⌝ }
     requires { ⌜ ((text : List ℕ) → NumberingOf (signatureIn text (p .signature)) (size .0) n) ⌝ }
-    ensures { λ r. ⌜ searchedWithin (p .symmetry) (size .0) (problemIn (now (sheet .entry)) p) allowed ≡ endOf r (take (n .count) (now (work .exit))) ⌝ }
+    ensures { λ r. ⌜ searchedWithin (p .symmetry) (size .0) (problemIn (now (sheet .entry)) p) allowed ≡ endTold r (take (n .count) (now (work .exit))) ⌝ }
 {
     let m = load(sheet, p, n, size, work);
     solve(work, n.count as usize, m, allowed)

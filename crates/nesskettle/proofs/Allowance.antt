@@ -14,8 +14,8 @@ use Rattle.theory.specs.Operations.{Search, found, nothing, over, foundCase, no
 use Rattle.theory.proofs.Answers.{answer≢refused}
 use Rattle.naming.specs.NamedOperations.{readProblemIn}
 use Rattle.symmetry.proofs.Searched.{searched-with}
-use Rattle.allowance.specs.AllowedFind.{maxAllowance, Within, finished, stopped, findWithin, allowedAnswer, allowedOutput, allowedWork}
-use Rattle.allowance.specs.Claims.AllowedFind.{choicesOf, AllowedFind}
+use Rattle.allowance.specs.AllowedFind.{maxAllowance, Stoppable, finished, stopped, findWithin, allowedAnswer, allowedOutput, allowedWork}
+use Rattle.allowance.specs.Claims.AllowedFind.{choicesNeeded, AllowedFind}
 use Rattle.allowance.proofs.AllowedFind.{allowed-find, same-refusals}
 use Rattle.answers.specs.declared.FindAnswer.{FindAnswer}
 use Rattle.answers.specs.declared.FindAnswer.the-variants as plain
@@ -24,11 +24,11 @@ use Rattle.finding.specs.declared.allowed.AllowedAnswer.{AllowedAnswer}
 use Rattle.finding.specs.declared.allowed.AllowedAnswer.the-variants.{Found, Nothing, Stopped, Refused}
 use Rattle.finding.specs.Calls.{allowedIn, AllowedCall, FindCall}
 use Rattle.nesskettle.specs.Unstopped.{counting}
-use Rattle.nesskettle.specs.Allowance.{Taken, IsStopped, StoppedCall, SameWithin, AllowedCalls, Allowance}
+use Rattle.nesskettle.specs.Allowance.{Unrefused, IsStopped, StoppedCall, SameWithin, AllowedCalls, Allowance}
 use Rattle.nesskettle.proofs.Unstopped.{result-of, allowed-refused}
 
 -- the search that an answer tells of
-found-within : (a : Answer (Within Search)) (size n k : ℕ) → allowedAnswer a ≡ answer (finished (foundCase size n) k) → (c : List ℕ) × (a ≡ answer (finished (found size c) k)) × (length c ≡ n)
+found-within : (a : Answer (Stoppable Search)) (size n k : ℕ) → allowedAnswer a ≡ answer (finished (foundCase size n) k) → (c : List ℕ) × (a ≡ answer (finished (found size c) k)) × (length c ≡ n)
 found-within (answer (finished (found s c) m)) size n k e =
     let s≡ : s ≡ size = cc in
     let m≡ : m ≡ k = cc in
@@ -37,7 +37,7 @@ found-within (answer (finished (nothing b) m)) size n k e = let z : _≡_ {A = �
 found-within (answer (stopped s m)) size n k e = let z : _≡_ {A = ℕ} 0 1 = cc in absurd (omega arith)
 found-within (refused q) size n k e = absurd (answer≢refused _ q (sym e))
 
-none-within : (a : Answer (Within Search)) (b : Bool) (k : ℕ) → allowedAnswer a ≡ answer (finished (noCase b) k) → a ≡ answer (finished (nothing b) k)
+none-within : (a : Answer (Stoppable Search)) (b : Bool) (k : ℕ) → allowedAnswer a ≡ answer (finished (noCase b) k) → a ≡ answer (finished (nothing b) k)
 none-within (answer (finished (found s c) m)) b k e = let z : _≡_ {A = ℕ} 0 1 = cc in absurd (omega arith)
 none-within (answer (finished (nothing d) m)) b k e =
     let d≡ : d ≡ b = cc in
@@ -46,7 +46,7 @@ none-within (answer (finished (nothing d) m)) b k e =
 none-within (answer (stopped s m)) b k e = let z : _≡_ {A = ℕ} 0 1 = cc in absurd (omega arith)
 none-within (refused q) b k e = absurd (answer≢refused _ q (sym e))
 
-stopped-within : (a : Answer (Within Search)) (s n : ℕ) → allowedAnswer a ≡ answer (stopped s n) → a ≡ answer (stopped s n)
+stopped-within : (a : Answer (Stoppable Search)) (s n : ℕ) → allowedAnswer a ≡ answer (stopped s n) → a ≡ answer (stopped s n)
 stopped-within (answer (finished (found t c) m)) s n e = let z : _≡_ {A = ℕ} 0 1 = cc in absurd (omega arith)
 stopped-within (answer (finished (nothing d) m)) s n e = let z : _≡_ {A = ℕ} 0 1 = cc in absurd (omega arith)
 stopped-within (answer (stopped t m)) s n e =
@@ -56,7 +56,7 @@ stopped-within (answer (stopped t m)) s n e =
 stopped-within (refused q) s n e = absurd (answer≢refused _ q (sym e))
 
 -- answers that say the same are the same
-same-allowed : (r s : AllowedAnswer) → allowedIn r ≡ allowedIn s → Taken r → r ≡ s
+same-allowed : (r s : AllowedAnswer) → allowedIn r ≡ allowedIn s → Unrefused r → r ≡ s
 same-allowed (Found m n k) (Found i j l) e h = let a : m ≡ i = cc in let b : n ≡ j = cc in let c : k ≡ l = cc in cc
 same-allowed (Found m n k) (Nothing b l) e h = let z : _≡_ {A = ℕ} 0 1 = cc in absurd (omega arith)
 same-allowed (Found m n k) (Stopped i j) e h = let z : _≡_ {A = ℕ} 0 1 = cc in absurd (omega arith)
@@ -72,32 +72,32 @@ same-allowed (Stopped m n) (Refused q) e h = absurd (answer≢refused _ (refusal
 same-allowed (Refused q) s e h = absurd (h q refl)
 
 -- a found case stands at the front of the output
-stands-within : (a : Answer (Within Search)) (r : AllowedAnswer) (work work′ output output′ : List ℕ) → AllowedCall a r work work′ output output′ → (size n k : ℕ) → r ≡ Found size n k
+stands-within : (a : Answer (Stoppable Search)) (r : AllowedAnswer) (work work′ output output′ : List ℕ) → AllowedCall a r work work′ output output′ → (size n k : ℕ) → r ≡ Found size n k
     → (c : List ℕ) × (a ≡ answer (finished (found size c) k)) × (take n output′ ≡ c)
 stands-within a r work work′ output output′ f size n k e =
     let c = found-within a size n k (sym (f .answer) ∙ ap allowedIn e) in (
       c .0,
       c .1,
-      ap (take n) (f .left ∙ ap (λ (a : Answer (Within Search)). allowedOutput a output) (c .1)) ∙ ap (λ (n : ℕ). take n (over (c .0) output)) (sym (c .2))
+      ap (take n) (f .left ∙ ap (λ (a : Answer (Stoppable Search)). allowedOutput a output) (c .1)) ∙ ap (λ (n : ℕ). take n (over (c .0) output)) (sym (c .2))
           ∙ take-append-seam (c .0) (drop (length (c .0)) output),
     )
 
 module _ (sheet : List ℕ) (p : Problem) (low high : ℕ) (named symmetry : Bool) (read : readProblemIn named sheet ≡ answer p) where
   -- one call
   module _ (a : ℕ) (r : AllowedAnswer) (work work′ output output′ : List ℕ) (f : FindCall sheet low high named symmetry a r work work′ output output′) where
-    abbrev result : Answer (Within Search)
+    abbrev result : Answer (Stoppable Search)
     result = findWithin named symmetry sheet low high a (length work) (length output)
 
     law : AllowedFind named symmetry sheet p low high (length work) (length output)
     law = allowed-find named symmetry sheet p low high (length work) (length output) read
 
-    found-number : (size n k : ℕ) → r ≡ Found size n k → (k ≡ choicesOf named symmetry p low high) × (k ≤ a)
+    found-number : (size n k : ℕ) → r ≡ Found size n k → (k ≡ choicesNeeded named symmetry p low high) × (k ≤ a)
     found-number size n k e =
         let c = found-within result size n k (sym (f .answer) ∙ ap allowedIn e) in
         let s = law .same a k (found size (c .0)) (c .1) in
         (s .1, s .2)
 
-    none-number : (b : Bool) (k : ℕ) → r ≡ Nothing b k → (k ≡ choicesOf named symmetry p low high) × (k ≤ a)
+    none-number : (b : Bool) (k : ℕ) → r ≡ Nothing b k → (k ≡ choicesNeeded named symmetry p low high) × (k ≤ a)
     none-number b k e =
         let s = law .same a k (nothing b) (none-within result b k (sym (f .answer) ∙ ap allowedIn e)) in
         (s .1, s .2)
@@ -112,14 +112,14 @@ module _ (sheet : List ℕ) (p : Problem) (low high : ℕ) (named symmetry : Boo
         record {
           number = u .0;
           usedUp = u .2;
-          cleared = f .worked ∙ ap (λ (a : Answer (Within Search)). allowedWork a work) z;
-          unchanged = f .left ∙ ap (λ (a : Answer (Within Search)). allowedOutput a output) z;
+          cleared = f .worked ∙ ap (λ (a : Answer (Stoppable Search)). allowedWork a work) z;
+          unchanged = f .left ∙ ap (λ (a : Answer (Stoppable Search)). allowedOutput a output) z;
         }
 
-    too-few : IsStopped r → a < choicesOf named symmetry p low high
+    too-few : IsStopped r → a < choicesNeeded named symmetry p low high
     too-few h = law .onlyTooFew a (h .0) (h .1) (is-stopped (h .0) (h .1) (h .2)) .1
 
-    stops-if : Taken r → a < choicesOf named symmetry p low high → IsStopped r
+    stops-if : Unrefused r → a < choicesNeeded named symmetry p low high → IsStopped r
     stops-if h fewer = go r refl
       where
         go : (s : AllowedAnswer) → r ≡ s → IsStopped r
@@ -129,17 +129,17 @@ module _ (sheet : List ℕ) (p : Problem) (low high : ℕ) (named symmetry : Boo
         go (Refused q) e = absurd (h q e)
 
   -- two calls, the second with the larger allowance
-  module _ (a b : ℕ) (more : a ≤ b) (r : AllowedAnswer) (work work′ output output′ : List ℕ) (f : FindCall sheet low high named symmetry a r work work′ output output′) (h : Taken r) (on : IsStopped r → ⊥)
-      (s : AllowedAnswer) (area area′ other other′ : List ℕ) (g : FindCall sheet low high named symmetry b s area area′ other other′) (k : Taken s) where
+  module _ (a b : ℕ) (more : a ≤ b) (r : AllowedAnswer) (work work′ output output′ : List ℕ) (f : FindCall sheet low high named symmetry a r work work′ output output′) (h : Unrefused r) (on : IsStopped r → ⊥)
+      (s : AllowedAnswer) (area area′ other other′ : List ℕ) (g : FindCall sheet low high named symmetry b s area area′ other other′) (k : Unrefused s) where
     one : (x : Search) × (n : ℕ) × (findWithin named symmetry sheet low high a (length work) (length output) ≡ answer (finished x n))
     one = result-of _ r (f .answer) h on
 
     on-too : IsStopped s → ⊥
     on-too z =
         let t = law a r work work′ output output′ f .same a (one .1) (one .0) (one .2) in
-        let number : one .1 ≡ choicesOf named symmetry p low high = t .1 in
+        let number : one .1 ≡ choicesNeeded named symmetry p low high = t .1 in
         let most : one .1 ≤ a = t .2 in
-        let fewer : b < choicesOf named symmetry p low high = too-few b s area area′ other other′ g z in
+        let fewer : b < choicesNeeded named symmetry p low high = too-few b s area area′ other other′ g z in
         omega (arith, number, most, fewer, more)
 
     other-one : (x : Search) × (n : ℕ) × (findWithin named symmetry sheet low high b (length area) (length other) ≡ answer (finished x n))
@@ -163,7 +163,7 @@ module _ (sheet : List ℕ) (p : Problem) (low high : ℕ) (named symmetry : Boo
           case = λ size n k e.
               let c = stands-within _ r work work′ output output′ f size n k e in
               let d = stands-within _ s area area′ other other′ g size n k (sym same ∙ e) in
-              let t : _≡_ {A = Answer (Within Search)} (answer (finished (found size (c .0)) k)) (answer (finished (found size (d .0)) k)) = sym (c .1) ∙ same-result ∙ d .1 in
+              let t : _≡_ {A = Answer (Stoppable Search)} (answer (finished (found size (c .0)) k)) (answer (finished (found size (d .0)) k)) = sym (c .1) ∙ same-result ∙ d .1 in
               let same-case : c .0 ≡ d .0 = cc in
               c .2 ∙ same-case ∙ sym (d .2);
         }

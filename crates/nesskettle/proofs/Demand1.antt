@@ -34,8 +34,7 @@ use Rattle.naming.proofs.NamedFaults.{named-refusal, named-told}
 use Rattle.symmetry.specs.ConstantClauses.{propClausesWith, instanceCountWith, workNeededWith}
 use Rattle.symmetry.specs.SymmetricOperations.{shownIn, writtenTextWith}
 use Rattle.symmetry.proofs.Chains.{contentChain, writeChain, write-chain}
-use Rattle.allowance.specs.AllowedFind as allowance
-use Rattle.allowance.specs.AllowedFind.{maxAllowance, finished, stopped, findWithin, allowedAnswer, allowedOutput, allowedWork}
+use Rattle.allowance.specs.AllowedFind.{maxAllowance, Stoppable, finished, stopped, findWithin, allowedAnswer, allowedOutput, allowedWork}
 use Rattle.tptp.specs.Symbols.{problemOf}
 use Rattle.tptp.specs.Places.{placeOf}
 use Rattle.tptp.specs.Tptp.{readFile, clausesOfFile, Fault, faults, sheetIn, tptpText}
@@ -277,12 +276,12 @@ writing-kept numbers text r output output′ w h = subst (ResultOr (λ q. Number
     go (refused q) l h = (h q refl, l)
 
 -- a refused search leaves work and output as they were
-searching-kept : (numbers : List ℕ) (result : Answer (allowance.Within Search)) (r : AllowedAnswer) (work work′ output output′ : List ℕ) → AllowedCall result r work work′ output output′ → Within numbers result
+searching-kept : (numbers : List ℕ) (result : Answer (Stoppable Search)) (r : AllowedAnswer) (work work′ output output′ : List ℕ) → AllowedCall result r work work′ output output′ → Within numbers result
     → ResultOr (λ q. NumberOf numbers q × (work′ ≡ work) × (output′ ≡ output)) (allowedIn r)
 searching-kept numbers result r work work′ output output′ f h =
     subst (ResultOr (λ q. NumberOf numbers q × (work′ ≡ work) × (output′ ≡ output))) (sym (f .answer)) (go result (f .worked) (f .left) h)
   where
-    go : (result : Answer (allowance.Within Search)) → work′ ≡ allowedWork result work → output′ ≡ allowedOutput result output → Within numbers result
+    go : (result : Answer (Stoppable Search)) → work′ ≡ allowedWork result work → output′ ≡ allowedOutput result output → Within numbers result
         → ResultOr (λ q. NumberOf numbers q × (work′ ≡ work) × (output′ ≡ output)) (allowedAnswer result)
     go (answer (finished (found s t) n)) w l h = tt
     go (answer (finished (nothing b) n)) w l h = tt

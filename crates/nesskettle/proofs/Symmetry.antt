@@ -35,7 +35,7 @@ use Rattle.finding.specs.Calls.{allowedIn, FindCall}
 use Rattle.nesskettle.specs.Leaving.{Leaves}
 use Rattle.nesskettle.specs.Models.{Model}
 use Rattle.nesskettle.specs.Unstopped.{UnstoppedCall}
-use Rattle.nesskettle.specs.Allowance.{Taken}
+use Rattle.nesskettle.specs.Allowance.{Unrefused}
 use Rattle.nesskettle.specs.Demand2.{NoModel}
 use Rattle.nesskettle.specs.SameAnswers.{NotRefused}
 use Rattle.nesskettle.specs.Named.{AnswersAlike}
@@ -145,7 +145,7 @@ module _ (sheet : List ℕ) (low high : ℕ) (named : Bool) (a : ℕ) (r s : All
       → findResultWith named symmetry sheet low high (length work) (length output) ≡ refused (refusalIn q)
   refused-without symmetry limit q e = same-refusals named symmetry sheet low high a (length work) (length output) (refusalIn q) limit .0 (allowed-refused _ (refusalIn q) e)
 
-  no-refusal : Taken s → Taken r
+  no-refusal : Unrefused s → Unrefused r
   no-refusal h q e =
       let w = answered _ s (g .answer) h in
       let y = answered-without named true sheet low high a (length work) (length output) (w .0) (w .1) in
@@ -153,7 +153,7 @@ module _ (sheet : List ℕ) (low high : ℕ) (named : Bool) (a : ℕ) (r s : All
       let limit : a ≤ maxAllowance = limit-kept named true sheet low high a (length work) (length output) (w .0) (w .1) in
       answer≢refused (x .0) (refusalIn q) (sym (x .1) ∙ refused-without false limit q (sym (f .answer) ∙ ap allowedIn e))
 
-  refused-more : Taken r → (q : answers.Refusal) → s ≡ allowed.Refused q → (q .number ≡ 9) ⊎ (q .number ≡ 10)
+  refused-more : Unrefused r → (q : answers.Refusal) → s ≡ allowed.Refused q → (q .number ≡ 9) ⊎ (q .number ≡ 10)
   refused-more h q e =
       let w = answered _ r (f .answer) h in
       let x = answered-without named false sheet low high a (length work) (length output) (w .0) (w .1) in

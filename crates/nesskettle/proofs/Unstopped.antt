@@ -13,7 +13,7 @@ use Rattle.theory.specs.Operations.{Search, found, nothing, Found, foundCase, n
 use Rattle.theory.proofs.Tests.{leb-true}
 use Rattle.theory.proofs.Answers.{unbind, answer≢refused, refused-inj, check-true}
 use Rattle.symmetry.specs.SymmetricOperations.{findResultWith}
-use Rattle.allowance.specs.AllowedFind.{maxAllowance, Within, finished, stopped, findWithin, allowedAnswer, allowedOutput, allowedWork}
+use Rattle.allowance.specs.AllowedFind.{maxAllowance, Stoppable, finished, stopped, findWithin, allowedAnswer, allowedOutput, allowedWork}
 use Rattle.allowance.proofs.AllowedFind.{same-refusals}
 use Rattle.allowance.proofs.NotStopped.{not-stopped}
 use Rattle.answers.specs.declared.Refusal.{Refusal}
@@ -24,15 +24,15 @@ use Rattle.finding.specs.declared.allowed.AllowedAnswer.{AllowedAnswer}
 use Rattle.finding.specs.declared.allowed.AllowedAnswer.the-variants as allowed
 use Rattle.finding.specs.Calls.{allowedIn}
 use Rattle.nesskettle.specs.Unstopped.{counting, UnstoppedCall}
-use Rattle.nesskettle.specs.Allowance.{Taken, IsStopped}
+use Rattle.nesskettle.specs.Allowance.{Unrefused, IsStopped}
 use Rattle.nesskettle.specs.SameAnswers.{NotRefused}
 
 -- a result with its number is not stopped
-finished≢stopped : {A : Type 0} (r : A) (m s n : ℕ) → _≡_ {A = Answer (Within A)} (answer (finished r m)) (answer (stopped s n)) → ⊥
+finished≢stopped : {A : Type 0} (r : A) (m s n : ℕ) → _≡_ {A = Answer (Stoppable A)} (answer (finished r m)) (answer (stopped s n)) → ⊥
 finished≢stopped r m s n e = let z : _≡_ {A = ℕ} 0 1 = cc in omega arith
 
 -- an answer that is neither refused nor stopped has a result
-pub result-of : (a : Answer (Within Search)) (r : AllowedAnswer) → allowedIn r ≡ allowedAnswer a → Taken r → (IsStopped r → ⊥) → (x : Search) × (n : ℕ) × (a ≡ answer (finished x n))
+pub result-of : (a : Answer (Stoppable Search)) (r : AllowedAnswer) → allowedIn r ≡ allowedAnswer a → Unrefused r → (IsStopped r → ⊥) → (x : Search) × (n : ℕ) × (a ≡ answer (finished x n))
 result-of (answer (finished x n)) r e h k = (x, n, refl)
 result-of (answer (stopped s n)) (allowed.Found t m c) e h k = absurd (finished≢stopped (foundCase t m) c s n e)
 result-of (answer (stopped s n)) (allowed.Nothing b c) e h k = absurd (finished≢stopped (noCase b) c s n e)
@@ -44,7 +44,7 @@ result-of (refused p) (allowed.Stopped t m) e h k = absurd (answer≢refused _ p
 result-of (refused p) (allowed.Refused q) e h k = absurd (h q refl)
 
 -- one that is not refused is answered
-pub answered : (a : Answer (Within Search)) (r : AllowedAnswer) → allowedIn r ≡ allowedAnswer a → Taken r → (w : Within Search) × (a ≡ answer w)
+pub answered : (a : Answer (Stoppable Search)) (r : AllowedAnswer) → allowedIn r ≡ allowedAnswer a → Unrefused r → (w : Stoppable Search) × (a ≡ answer w)
 answered (answer w) r e h = (w, refl)
 answered (refused p) (allowed.Found t m c) e h = absurd (answer≢refused _ p e)
 answered (refused p) (allowed.Nothing b c) e h = absurd (answer≢refused _ p e)
@@ -52,7 +52,7 @@ answered (refused p) (allowed.Stopped t m) e h = absurd (answer≢refused _ p e)
 answered (refused p) (allowed.Refused q) e h = absurd (h q refl)
 
 -- one that is refused is refused
-pub allowed-refused : (a : Answer (Within Search)) (q : theory.Refusal) → allowedAnswer a ≡ refused q → a ≡ refused q
+pub allowed-refused : (a : Answer (Stoppable Search)) (q : theory.Refusal) → allowedAnswer a ≡ refused q → a ≡ refused q
 allowed-refused (answer (finished (found s t) n)) q e = absurd (answer≢refused _ q e)
 allowed-refused (answer (finished (nothing b) n)) q e = absurd (answer≢refused _ q e)
 allowed-refused (answer (stopped s n)) q e = absurd (answer≢refused _ q e)
@@ -66,7 +66,7 @@ pub none-taken : (r : FindAnswer) (b : Bool) → r ≡ plain.Nothing b → NotRe
 none-taken r b e q h = let z : _≡_ {A = ℕ} 0 1 = cc in omega arith
 
 -- an answer with a number beside it
-counting-taken : (r : FindAnswer) (k : ℕ) → NotRefused r → Taken (counting r k)
+counting-taken : (r : FindAnswer) (k : ℕ) → NotRefused r → Unrefused (counting r k)
 counting-taken (plain.Found s n) k h q e = let z : _≡_ {A = ℕ} 0 1 = cc in omega arith
 counting-taken (plain.Nothing b) k h q e = let z : _≡_ {A = ℕ} 0 1 = cc in omega arith
 counting-taken (plain.Refused p) k h q e = h p refl
@@ -77,7 +77,7 @@ counting-unstopped (plain.Nothing b) k h = let e = h .2 in let z : _≡_ {A = �
 counting-unstopped (plain.Refused p) k h = let e = h .2 in let z : _≡_ {A = ℕ} 0 1 = cc in omega arith
 
 -- the answer with its number left out; what stopped becomes is not looked at
-abbrev numberless : Answer (Within Found) → Answer Found
+abbrev numberless : Answer (Stoppable Found) → Answer Found
 numberless (answer (finished f k)) = answer f
 numberless (answer (stopped s k)) = answer (noCase false)
 numberless (refused q) = refused q
@@ -111,13 +111,13 @@ unstopped sheet low high named symmetry r work work′ output output′ c h =
     not-stopped named symmetry sheet low high (c .allowance) (length work) (length output) (x .1) (x .0) (x .2) in
     record {
       answer = numberless-in r k ∙ ap numberless (c .call .answer ∙ ap allowedAnswer (x .2)) ∙ numberless-answer (x .0) (x .1) ∙ ap findAnswer (sym e);
-      worked = c .call .worked ∙ ap (λ (a : Answer (Within Search)). allowedWork a work) (x .2) ∙ ap (λ (a : Answer Search). findWork a work) (sym e);
-      left = c .call .left ∙ ap (λ (a : Answer (Within Search)). allowedOutput a output) (x .2) ∙ output-finished (x .0) (x .1) output
+      worked = c .call .worked ∙ ap (λ (a : Answer (Stoppable Search)). allowedWork a work) (x .2) ∙ ap (λ (a : Answer Search). findWork a work) (sym e);
+      left = c .call .left ∙ ap (λ (a : Answer (Stoppable Search)). allowedOutput a output) (x .2) ∙ output-finished (x .0) (x .1) output
           ∙ ap (λ (a : Answer Search). findOutput a output) (sym e);
     }
 
 -- an answered search with an allowance, stopped or not: the allowance is within its limit, and the search without one is answered
-module _ (named symmetry : Bool) (sheet : List ℕ) (low high a work room : ℕ) (w : Within Search) (e : findWithin named symmetry sheet low high a work room ≡ answer w) where
+module _ (named symmetry : Bool) (sheet : List ℕ) (low high a work room : ℕ) (w : Stoppable Search) (e : findWithin named symmetry sheet low high a work room ≡ answer w) where
   pub limit-kept : a ≤ maxAllowance
   unfolding findWithin
   limit-kept =

@@ -14,7 +14,7 @@ use Rattle.theory.specs.Operations.{maxSize}
 use Rattle.naming.specs.NamedOperations.{readProblemIn, modeProblem}
 use Rattle.allowance.specs.AllowedFind.{maxAllowance}
 use Rattle.allowance.specs.Claims.Allowance.{UsedUp}
-use Rattle.allowance.specs.Claims.AllowedFind.{choicesOf}
+use Rattle.allowance.specs.Claims.AllowedFind.{choicesNeeded}
 use Rattle.answers.specs.declared.Refusal.{Refusal}
 use Rattle.answers.specs.declared.FindAnswer.{FindAnswer}
 use Rattle.finding.specs.declared.allowed.AllowedAnswer.{AllowedAnswer}
@@ -23,8 +23,8 @@ use Rattle.finding.specs.Calls.{allowedIn, FindCall}
 use Rattle.nesskettle.specs.Unstopped.{counting}
 
 -- the call is not refused: it found, it says none, or it is stopped
-abbrev pub Taken : AllowedAnswer → Type 0
-Taken r = (q : Refusal) → r ≡ Refused q → ⊥
+abbrev pub Unrefused : AllowedAnswer → Type 0
+Unrefused r = (q : Refusal) → r ≡ Refused q → ⊥
 
 -- the call is stopped at some size
 abbrev pub IsStopped : AllowedAnswer → Type 0
@@ -46,18 +46,18 @@ pub record SameWithin (r : AllowedAnswer) (output : List ℕ) (s : AllowedAnswer
 pub record AllowedCalls (sheet : List ℕ) (p : Problem) (low high : ℕ) (named symmetry : Bool) : Type 0 where
   -- found and none hold the choices of the search without an allowance, which are not more than this allows
   pub foundNumber : (a : ℕ) (r : AllowedAnswer) (work work′ output output′ : List ℕ) → FindCall sheet low high named symmetry a r work work′ output output′
-      → (size n k : ℕ) → r ≡ Found size n k → (k ≡ choicesOf named symmetry p low high) × (k ≤ a)
+      → (size n k : ℕ) → r ≡ Found size n k → (k ≡ choicesNeeded named symmetry p low high) × (k ≤ a)
   pub noneNumber : (a : ℕ) (r : AllowedAnswer) (work work′ output output′ : List ℕ) → FindCall sheet low high named symmetry a r work work′ output output′
-      → (settled : Bool) (k : ℕ) → r ≡ Nothing settled k → (k ≡ choicesOf named symmetry p low high) × (k ≤ a)
+      → (settled : Bool) (k : ℕ) → r ≡ Nothing settled k → (k ≡ choicesNeeded named symmetry p low high) × (k ≤ a)
   -- where it is not refused, Find is stopped exactly if that search makes more choices than are allowed,
   pub stops : (a : ℕ) (r : AllowedAnswer) (work work′ output output′ : List ℕ) → FindCall sheet low high named symmetry a r work work′ output output′
-      → Taken r → IsStopped r ↔ (a < choicesOf named symmetry p low high)
+      → Unrefused r → IsStopped r ↔ (a < choicesNeeded named symmetry p low high)
   -- at the size where one more is needed and none is left
   pub stopped : (a : ℕ) (r : AllowedAnswer) (work work′ output output′ : List ℕ) → FindCall sheet low high named symmetry a r work work′ output output′
       → (s n : ℕ) → r ≡ Stopped s n → StoppedCall named symmetry p low high a s n work work′ output output′
   -- a larger allowance that is not refused never turns found or none into another answer, whatever work and output are lent
-  pub larger : (a b : ℕ) → a ≤ b → (r : AllowedAnswer) (work work′ output output′ : List ℕ) → FindCall sheet low high named symmetry a r work work′ output output′ → Taken r → (IsStopped r → ⊥)
-      → (s : AllowedAnswer) (area area′ other other′ : List ℕ) → FindCall sheet low high named symmetry b s area area′ other other′ → Taken s → SameWithin r output′ s other′
+  pub larger : (a b : ℕ) → a ≤ b → (r : AllowedAnswer) (work work′ output output′ : List ℕ) → FindCall sheet low high named symmetry a r work work′ output output′ → Unrefused r → (IsStopped r → ⊥)
+      → (s : AllowedAnswer) (area area′ other other′ : List ℕ) → FindCall sheet low high named symmetry b s area area′ other other′ → Unrefused s → SameWithin r output′ s other′
   -- 24 stands right after 8
   pub tooLarge : (a : ℕ) (r : AllowedAnswer) (work work′ output output′ : List ℕ) → FindCall sheet low high named symmetry a r work work′ output output′
       → maxAllowance < a → (leb 1 low && leb high maxSize && leb low high) ≡ true → allowedIn r ≡ refused (unplaced 24)

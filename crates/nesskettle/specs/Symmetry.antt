@@ -26,7 +26,7 @@ use Rattle.finding.specs.Calls.{FindCall}
 use Rattle.nesskettle.specs.Leaving.{Leaves}
 use Rattle.nesskettle.specs.Models.{Model}
 use Rattle.nesskettle.specs.Unstopped.{UnstoppedCall}
-use Rattle.nesskettle.specs.Allowance.{Taken}
+use Rattle.nesskettle.specs.Allowance.{Unrefused}
 use Rattle.nesskettle.specs.Demand2.{NoModel}
 use Rattle.nesskettle.specs.SameAnswers.{NotRefused}
 use Rattle.nesskettle.specs.Named.{AnswersAlike}
@@ -87,10 +87,10 @@ pub record Symmetry : Type 0 where
       → (r s : FindAnswer) (output other : List ℕ) → Answers sheet low high named false r output → Answers sheet low high named true s other → AnswersAlike r output s other
   -- told yes and told no with the same allowance, work and output, stopped or not: where told yes it is not refused, told no it is not,
   pub notRefused : (sheet : List ℕ) (low high : ℕ) (named : Bool) (a : ℕ) (r s : AllowedAnswer) (work work′ work⁺ output output′ output⁺ : List ℕ)
-      → FindCall sheet low high named false a r work work′ output output′ → FindCall sheet low high named true a s work work⁺ output output⁺ → Taken s → Taken r
+      → FindCall sheet low high named false a r work work′ output output′ → FindCall sheet low high named true a s work work⁺ output output⁺ → Unrefused s → Unrefused r
   -- and where told no it is not refused, told yes it is refused with 9 or 10 at most
   pub refusedMore : (sheet : List ℕ) (low high : ℕ) (named : Bool) (a : ℕ) (r s : AllowedAnswer) (work work′ work⁺ output output′ output⁺ : List ℕ)
-      → FindCall sheet low high named false a r work work′ output output′ → FindCall sheet low high named true a s work work⁺ output output⁺ → Taken r
+      → FindCall sheet low high named false a r work work′ output output′ → FindCall sheet low high named true a s work work⁺ output output⁺ → Unrefused r
       → (q : Refusal) → s ≡ allowed.Refused q → (q .number ≡ 9) ⊎ (q .number ≡ 10)
   -- Write: a setting satisfies the text of Write asked exactly if it satisfies the text of Write not asked, and the values that it is read back as obey; helpers are no constants of the sheet
   pub write : (sheet : List ℕ) (p : Problem) (size : ℕ) (named : Bool) → readProblemIn named sheet ≡ answer p

@@ -23,7 +23,7 @@ use Rattle.text.specs.Numbers.{numberIn}
 use Rattle.allowance.specs.FinderProgram.{spelled, allowanceOf, allowanceLine}
 use Rattle.program.specs.declared.allowances.AllowanceLine.{AllowanceLine}
 use Rattle.program.specs.declared.allowances.AllowanceLine.the-variants.{Allowance, Fault}
-use Rattle.program.specs.Allowances.{AllowanceRead, ValueRead}
+use Rattle.program.specs.Allowances.{AllowanceRead, NumberRead}
 use Rattle.program.proofs.KeyedLines as keyed-lines
 
 -- three tests, all of which must hold
@@ -113,10 +113,10 @@ module _ (v : List ℕ) (n i : ℕ) (z : Reading v n i) where
 
 -- the value, and what follows its line
 module _ (input : List ℕ) (from end : ℕ) (k : end < length input) (c : Count) (e : numberIn c ≡ allowanceOf (part input from end)) where
-  pub no-value : c ≡ Bad → ValueRead input from end Fault
+  pub no-value : c ≡ Bad → NumberRead input from end Fault
   no-value b = record { read = sym (not-read (allowanceOf (part input from end)) _ (sym e ∙ ap numberIn b)); within = tt }
 
-  pub value : (n : ℕ) → c ≡ Number n → ValueRead input from end (Allowance n (end + 1))
+  pub value : (n : ℕ) → c ≡ Number n → NumberRead input from end (Allowance n (end + 1))
   value n b =
       record {
         read = ap (λ (j : ℕ). some (n, drop j input)) (add-one end) ∙ sym (read-on (allowanceOf (part input from end)) _ n (sym e ∙ ap numberIn b));
@@ -134,6 +134,6 @@ module _ (input : List ℕ) (at end : ℕ) (l : LineEnd input at end) where
     unfolding allowanceLine
     no-key s = record { read = sym (keyed-lines.no-key allowanceOf input at end (bytes "allow=") l h s); within = tt }
 
-    pub keyed : StartsWith (part input at end) (bytes "allow=") true → (r : AllowanceLine) → ValueRead input (at + 6) end r → AllowanceRead input at r
+    pub keyed : StartsWith (part input at end) (bytes "allow=") true → (r : AllowanceLine) → NumberRead input (at + 6) end r → AllowanceRead input at r
     unfolding allowanceLine
     keyed s r v = record { read = v .read ∙ sym (keyed-lines.keyed allowanceOf input at end (bytes "allow=") l h s); within = v .within }

@@ -13,7 +13,7 @@ use Rattle.theory.specs.Program.{refusalText, printed}
 use Rattle.theory.proofs.Answers.{answer-inj, refused-inj, answer≢refused}
 use Rattle.answers.specs.declared.Refusal as answers
 use Rattle.answers.specs.Answers.{refusalIn}
-use Rattle.allowance.specs.AllowedFind.{Within, finished, stopped, allowedAnswer, allowedOutput}
+use Rattle.allowance.specs.AllowedFind.{Stoppable, finished, stopped, allowedAnswer, allowedOutput}
 use Rattle.allowance.specs.FinderProgram.{printedWithin}
 use Rattle.finding.specs.declared.allowed.AllowedAnswer.{AllowedAnswer}
 use Rattle.finding.specs.declared.allowed.AllowedAnswer.the-variants as find
@@ -21,7 +21,7 @@ use Rattle.finding.specs.Calls.{allowedIn}
 use Rattle.program.specs.Reports.{Responds, Reportable}
 
 -- a case was found: it stands from place 13 on, and what comes after it is as it was before
-pub record WasFound (before output : List ℕ) (result : Answer (Within Search)) (n : ℕ) : Type 0 where
+pub record WasFound (before output : List ℕ) (result : Answer (Stoppable Search)) (n : ℕ) : Type 0 where
   pub size : ℕ
   pub choices : ℕ
   pub is : result ≡ answer (finished (found size (take n (drop 13 output))) choices)
@@ -36,7 +36,7 @@ module _ (output : List ℕ) (a : AllowedAnswer) (r : Reportable a output) where
   pub was-found : (s n k : ℕ) → a ≡ find.Found s n k → WasFound (r .before) output (r .result) n
   was-found s n k e = go (r .result) refl (sym (ap allowedIn e) ∙ r .answered) behind
     where
-      go : (q : Answer (Within Search)) → r .result ≡ q → answer (finished (foundCase s n) k) ≡ allowedAnswer q → drop 13 output ≡ allowedOutput q (drop 13 (r .before)) → WasFound (r .before) output (r .result) n
+      go : (q : Answer (Stoppable Search)) → r .result ≡ q → answer (finished (foundCase s n) k) ≡ allowedAnswer q → drop 13 output ≡ allowedOutput q (drop 13 (r .before)) → WasFound (r .before) output (r .result) n
       go (answer (finished (found t text) m)) p h l =
           let lent : List ℕ = drop 13 (r .before) in
           let long : n ≡ length text = cc in
@@ -57,7 +57,7 @@ module _ (output : List ℕ) (a : AllowedAnswer) (r : Reportable a output) where
   pub was-none : (b : Bool) (k : ℕ) → a ≡ find.Nothing b k → r .result ≡ answer (finished (nothing b) k)
   was-none b k e = go (r .result) refl (sym (ap allowedIn e) ∙ r .answered)
     where
-      go : (q : Answer (Within Search)) → r .result ≡ q → answer (finished (noCase b) k) ≡ allowedAnswer q → r .result ≡ answer (finished (nothing b) k)
+      go : (q : Answer (Stoppable Search)) → r .result ≡ q → answer (finished (noCase b) k) ≡ allowedAnswer q → r .result ≡ answer (finished (nothing b) k)
       go (answer (finished (found t text) m)) p h = let z : _≡_ {A = ℕ} 0 1 = cc in absurd (omega arith)
       go (answer (finished (nothing d) m)) p h =
           let e : d ≡ b = cc in
@@ -69,7 +69,7 @@ module _ (output : List ℕ) (a : AllowedAnswer) (r : Reportable a output) where
   pub was-stopped : (s n : ℕ) → a ≡ find.Stopped s n → r .result ≡ answer (stopped s n)
   was-stopped s n e = go (r .result) refl (sym (ap allowedIn e) ∙ r .answered)
     where
-      go : (q : Answer (Within Search)) → r .result ≡ q → answer (stopped s n) ≡ allowedAnswer q → r .result ≡ answer (stopped s n)
+      go : (q : Answer (Stoppable Search)) → r .result ≡ q → answer (stopped s n) ≡ allowedAnswer q → r .result ≡ answer (stopped s n)
       go (answer (finished (found t text) m)) p h = let z : _≡_ {A = ℕ} 0 1 = cc in absurd (omega arith)
       go (answer (finished (nothing d) m)) p h = let z : _≡_ {A = ℕ} 0 1 = cc in absurd (omega arith)
       go (answer (stopped t m)) p h =
@@ -81,11 +81,11 @@ module _ (output : List ℕ) (a : AllowedAnswer) (r : Reportable a output) where
   pub was-refused : (q : answers.Refusal) → a ≡ find.Refused q → r .result ≡ refused (refusalIn q)
   was-refused q e = go (r .result) refl (sym (ap allowedIn e) ∙ r .answered)
     where
-      go : (m : Answer (Within Search)) → r .result ≡ m → refused (refusalIn q) ≡ allowedAnswer m → r .result ≡ refused (refusalIn q)
+      go : (m : Answer (Stoppable Search)) → r .result ≡ m → refused (refusalIn q) ≡ allowedAnswer m → r .result ≡ refused (refusalIn q)
       go (answer (finished (found t text) m)) p h = absurd (answer≢refused (finished (foundCase t (length text)) m) (refusalIn q) (sym h))
       go (answer (finished (nothing d) m)) p h = absurd (answer≢refused (finished (noCase d) m) (refusalIn q) (sym h))
       go (answer (stopped t m)) p h = absurd (answer≢refused (stopped t m) (refusalIn q) (sym h))
-      go (refused x) p h = p ∙ ap refused (sym (refused-inj {A = Within Found} (refusalIn q) x h))
+      go (refused x) p h = p ∙ ap refused (sym (refused-inj {A = Stoppable Found} (refusalIn q) x h))
 
   pub place-small : (q : answers.Refusal) → a ≡ find.Refused q → (q .line < 2 ^ 32) × (q .column < 2 ^ 32)
   place-small q e = r .placed (refusalIn q) (was-refused q e)
@@ -112,10 +112,10 @@ module _ (output : List ℕ) (a : AllowedAnswer) (r : Reportable a output) where
       }
 
   -- a search that writes nothing leaves the output as it was
-  unwritten : (q : Answer (Within Search)) → r .result ≡ q → allowedOutput q (drop 13 (r .before)) ≡ drop 13 (r .before) → output ≡ r .before
+  unwritten : (q : Answer (Stoppable Search)) → r .result ≡ q → allowedOutput q (drop 13 (r .before)) ≡ drop 13 (r .before) → output ≡ r .before
   unwritten q e f =
       r .left
-      ∙ ap (λ (x : Answer (Within Search)). take 13 (r .before) ++ allowedOutput x (drop 13 (r .before))) e
+      ∙ ap (λ (x : Answer (Stoppable Search)). take 13 (r .before) ++ allowedOutput x (drop 13 (r .before))) e
       ∙ ap (λ (l : List ℕ). take 13 (r .before) ++ l) f
       ∙ take-append-drop 13 (r .before)
 
@@ -125,7 +125,7 @@ module _ (output : List ℕ) (a : AllowedAnswer) (r : Reportable a output) where
   none-responds b m k output′ e h =
       let is = was-none b m e in
       subst (λ (l : List ℕ). Responds (printedWithin (r .result)) k l output′) (unwritten (answer (finished (nothing b) m)) is refl)
-      (subst (λ (x : Answer (Within Search)). Responds (printedWithin x) k output output′) (sym is) h)
+      (subst (λ (x : Answer (Stoppable Search)). Responds (printedWithin x) k output output′) (sym is) h)
 
   pub size-small : (s n : ℕ) → a ≡ find.Stopped s n → s < 2 ^ 32
   size-small s n e = r .sized s n (was-stopped s n e)
@@ -136,7 +136,7 @@ module _ (output : List ℕ) (a : AllowedAnswer) (r : Reportable a output) where
   stopped-responds s n k output′ e h =
       let is = was-stopped s n e in
       subst (λ (l : List ℕ). Responds (printedWithin (r .result)) k l output′) (unwritten (answer (stopped s n)) is refl)
-      (subst (λ (x : Answer (Within Search)). Responds (printedWithin x) k output output′) (sym is) h)
+      (subst (λ (x : Answer (Stoppable Search)). Responds (printedWithin x) k output output′) (sym is) h)
 
   pub refused-responds : (q : answers.Refusal) (k : ℕ) (output′ : List ℕ) → a ≡ find.Refused q → Responds (refusalText (atPlace (q .number) (record { line = q .line; column = q .column }))) k output output′
       → Responds (printedWithin (r .result)) k (r .before) output′
@@ -144,4 +144,4 @@ module _ (output : List ℕ) (a : AllowedAnswer) (r : Reportable a output) where
   refused-responds q k output′ e h =
       let is = was-refused q e in
       subst (λ (l : List ℕ). Responds (printedWithin (r .result)) k l output′) (unwritten (refused (refusalIn q)) is refl)
-      (subst (λ (x : Answer (Within Search)). Responds (printedWithin x) k output output′) (sym is) h)
+      (subst (λ (x : Answer (Stoppable Search)). Responds (printedWithin x) k output output′) (sym is) h)

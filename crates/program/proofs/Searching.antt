@@ -8,7 +8,7 @@ use lib.ListN.{length, take, drop, length-drop, length-append, drop-of-length-le
 use lib.Seq.{take-all, length-take-le}
 use Rattle.theory.specs.Refusals.{Answer}
 use Rattle.theory.specs.Operations.{Search}
-use Rattle.allowance.specs.AllowedFind.{Within, findWithin, allowedAnswer, allowedOutput}
+use Rattle.allowance.specs.AllowedFind.{Stoppable, findWithin, allowedAnswer, allowedOutput}
 use Rattle.finding.specs.declared.allowed.AllowedAnswer.{AllowedAnswer}
 use Rattle.finding.specs.Calls.{allowedIn}
 use Rattle.program.specs.Reports.{Reportable}
@@ -29,12 +29,12 @@ module _ (out : List ℕ) (h : length out ≡ 24915) where
       → allowedIn a ≡ allowedAnswer (findWithin false symmetry sheet low high c work (length lent)) → left ≡ allowedOutput (findWithin false symmetry sheet low high c work (length lent)) lent
       → Reportable a (take 13 out ++ (left ++ drop (length out - 13) (drop 13 out)))
   reportable sheet low high symmetry c work w a left n e l =
-      let result : Answer (Within Search) = findWithin false symmetry sheet low high c 16000 24902 in
+      let result : Answer (Stoppable Search) = findWithin false symmetry sheet low high c 16000 24902 in
       let same : findWithin false symmetry sheet low high c work (length lent) ≡ result =
       ap (λ (k : ℕ). findWithin false symmetry sheet low high c k (length lent)) w ∙ ap (findWithin false symmetry sheet low high c 16000) lent-long in
       let nothing-left : drop (length out - 13) (drop 13 out) ≡ [] = drop-of-length-le (drop 13 out) {i = length out - 13} (omega (arith, length-drop 13 out)) in
       let whole : left ++ drop (length out - 13) (drop 13 out) ≡ allowedOutput result (drop 13 out) =
-      ap (λ (t : List ℕ). left ++ t) nothing-left ∙ append-nil left ∙ l ∙ ap (λ (r : Answer (Within Search)). allowedOutput r lent) same ∙ ap (allowedOutput result) lent-rest in
+      ap (λ (t : List ℕ). left ++ t) nothing-left ∙ append-nil left ∙ l ∙ ap (λ (r : Answer (Stoppable Search)). allowedOutput r lent) same ∙ ap (allowedOutput result) lent-rest in
       record {
         result = result;
         answered = e ∙ ap allowedAnswer same;

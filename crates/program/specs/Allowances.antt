@@ -26,6 +26,6 @@ pub record AllowanceRead (input : List ℕ) (at : ℕ) (r : AllowanceLine) : Typ
   pub within : SheetStartsWithin (length input) r
 
 -- r is what the value from one place to another, which ends its line, is read to
-pub record ValueRead (input : List ℕ) (from end : ℕ) (r : AllowanceLine) : Type 0 where
+pub record NumberRead (input : List ℕ) (from end : ℕ) (r : AllowanceLine) : Type 0 where
   pub read : allowanceIn input r ≡ (allowanceOf (part input from end) >>? λ n. some (n, drop (suc end) input))
   pub within : SheetStartsWithin (length input) r

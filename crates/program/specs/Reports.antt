@@ -9,8 +9,8 @@ use Rattle.theory.specs.Refusals.{Answer, Refusal, answer, refused}
 use Rattle.theory.specs.Bytes.{bytes}
 use Rattle.theory.specs.Operations.{Search, over}
 use Rattle.theory.specs.Program.{_>>?_, digitLine, switchLine}
-use Rattle.allowance.specs.AllowedFind.{Within, stopped, allowedAnswer, allowedOutput}
-use Rattle.allowance.specs.FinderProgram.{allowanceLine, Asked, finderAnswer}
+use Rattle.allowance.specs.AllowedFind.{Stoppable, stopped, allowedAnswer, allowedOutput}
+use Rattle.allowance.specs.FinderProgram.{allowanceLine, Question, finderAnswer}
 use Rattle.finding.specs.declared.allowed.AllowedAnswer.{AllowedAnswer}
 use Rattle.finding.specs.Calls.{allowedIn}
 
@@ -22,7 +22,7 @@ pub record Responds (text : List ℕ) (n : ℕ) (output output′ : List ℕ) : 
 
 -- a search's answer, and the output in which it was lent all but the first 13 bytes
 pub record Reportable (r : AllowedAnswer) (output : List ℕ) : Type 0 where
-  pub result : Answer (Within Search)
+  pub result : Answer (Stoppable Search)
   pub answered : allowedIn r ≡ allowedAnswer result
   pub before : List ℕ
   pub left : output ≡ take 13 before ++ allowedOutput result (drop 13 before)
@@ -32,25 +32,25 @@ pub record Reportable (r : AllowedAnswer) (output : List ℕ) : Type 0 where
   pub sized : (s n : ℕ) → result ≡ answer (stopped s n) → s < 2 ^ 32
 
 -- what is asked from the fourth line on
-abbrev pub askedAllowance : ℕ → ℕ → Bool → List ℕ → Option Asked
+abbrev pub askedAllowance : ℕ → ℕ → Bool → List ℕ → Option Question
 askedAllowance low high symmetry text = allowanceLine text >>? λ d. some (record { low = low; high = high; symmetry = symmetry; allowance = d .0; sheet = d .1 })
 
 -- from the third on
-abbrev pub askedSwitch : ℕ → ℕ → List ℕ → Option Asked
+abbrev pub askedSwitch : ℕ → ℕ → List ℕ → Option Question
 askedSwitch low high text = switchLine text >>? λ c. askedAllowance low high (c .0) (c .1)
 
 -- and from the second on
-abbrev pub askedHigh : ℕ → List ℕ → Option Asked
+abbrev pub askedHigh : ℕ → List ℕ → Option Question
 askedHigh low text = digitLine (bytes "high=") text >>? λ b. askedSwitch low (b .0) (b .1)
 
 -- the answer to the text from the second line on
-abbrev pub fromHigh : ℕ → List ℕ → Answer (Within Search)
+abbrev pub fromHigh : ℕ → List ℕ → Answer (Stoppable Search)
 fromHigh low text = finderAnswer (askedHigh low text)
 
 -- from the third on
-abbrev pub fromSwitch : ℕ → ℕ → List ℕ → Answer (Within Search)
+abbrev pub fromSwitch : ℕ → ℕ → List ℕ → Answer (Stoppable Search)
 fromSwitch low high text = finderAnswer (askedSwitch low high text)
 
 -- and from the fourth on
-abbrev pub fromAllowance : ℕ → ℕ → Bool → List ℕ → Answer (Within Search)
+abbrev pub fromAllowance : ℕ → ℕ → Bool → List ℕ → Answer (Stoppable Search)
 fromAllowance low high symmetry text = finderAnswer (askedAllowance low high symmetry text)

@@ -11,7 +11,7 @@ ghost use Prim.Native.Nat.{_≤_, _<_};
 ghost use lib.ListN.{length};
 ghost use Rattle.text.specs.Numbers.{numberIn};
 ghost use Rattle.allowance.specs.FinderProgram.{allowanceOf};
-ghost use Rattle.program.specs.Allowances.{AllowanceRead, ValueRead};
+ghost use Rattle.program.specs.Allowances.{AllowanceRead, NumberRead};
 
 // The most digits of an allowance.
 const DIGITS: usize = 7;
@@ -39,7 +39,7 @@ pub fn allowance_line(input: &[u8], at: usize) -> AllowanceLine
 // The number that the value is.
 fn allowance_at(input: &[u8], from: usize, end: usize) -> AllowanceLine
     requires { ⌜ (from ≤ end) × (end < length (now input)) ⌝ }
-    ensures { λ r. ⌜ ValueRead (now (input .entry)) from end r ⌝ }
+    ensures { λ r. ⌜ NumberRead (now (input .entry)) from end r ⌝ }
 {
     match allowance_of(&input[from..end]) {
         Count::Bad => AllowanceLine::Fault,

@@ -15,10 +15,10 @@ use Rattle.theory.specs.CaseText.{tableText, tablesText, caseText, caseL
 use Rattle.theory.specs.Columns.{placedProblem, placedCase}
 use Rattle.theory.specs.Least.{leastModel, smallestModel, settled}
 use Rattle.theory.specs.Operations.{contentOf, writtenText, readBackText, judgeAnswer, findResult}
-use Rattle.theory.specs.Examples.{twoConstants, oneClause, nothingAtAll, nestedTerms, noFixedPoint, onlyA, findWithin, writeIn, readBackIn, flatClauses, nestedFlat, Examples}
+use Rattle.theory.specs.Examples.{twoConstants, oneClause, nothingAtAll, nestedTerms, noFixedPoint, onlyA, findBetween, writeIn, readBackIn, flatClauses, nestedFlat, Examples}
 
 pub examples : Examples
-unfolding twoConstants oneClause nothingAtAll nestedTerms noFixedPoint onlyA findWithin writeIn readBackIn flatClauses nestedFlat decimal cellKinds judged isModel merged liftedTerms flatten variableCount propBase propCount instances functionPart clausePart parts propClauses instanceCount literalCount workNeeded literalText clauseText header dimacs isValuation isFunctional readBack _>>=_ grammar readClause countLine isName symbolLines wordOf withinLimits clauseOf clauseLines readProblem tableText tablesText caseText caseLength readTable readTables readCase placedProblem placedCase leastModel smallestModel settled contentOf writtenText readBackText judgeAnswer findResult
+unfolding twoConstants oneClause nothingAtAll nestedTerms noFixedPoint onlyA findBetween writeIn readBackIn flatClauses nestedFlat decimal cellKinds judged isModel merged liftedTerms flatten variableCount propBase propCount instances functionPart clausePart parts propClauses instanceCount literalCount workNeeded literalText clauseText header dimacs isValuation isFunctional readBack _>>=_ grammar readClause countLine isName symbolLines wordOf withinLimits clauseOf clauseLines readProblem tableText tablesText caseText caseLength readTable readTables readCase placedProblem placedCase leastModel smallestModel settled contentOf writtenText readBackText judgeAnswer findResult
 examples =
     record {
       two-constants-1 = refl;

@@ -13,11 +13,11 @@ use Rattle.theory.specs.CaseText.{tableText, tablesText, caseText, caseL
 use Rattle.theory.specs.Columns.{placedProblem}
 use Rattle.theory.specs.Least.{leastModel, smallestModel, settled}
 use Rattle.theory.specs.Operations.{findResult}
-use Rattle.theory.specs.Examples.{oneClause, noFixedPoint, findWithin}
+use Rattle.theory.specs.Examples.{oneClause, noFixedPoint, findBetween}
 use Rattle.theory.specs.SettledExamples.{oneConstant, differAndEqual, SettledExamples}
 
 pub settledExamples : SettledExamples
-unfolding oneConstant differAndEqual oneClause noFixedPoint findWithin decimal cellKinds judged isModel merged liftedTerms flatten variableCount propBase propCount instances functionPart clausePart parts propClauses instanceCount literalCount workNeeded _>>=_ grammar readClause countLine isName symbolLines wordOf withinLimits clauseOf clauseLines readProblem tableText tablesText caseText caseLength placedProblem leastModel smallestModel settled findResult
+unfolding oneConstant differAndEqual oneClause noFixedPoint findBetween decimal cellKinds judged isModel merged liftedTerms flatten variableCount propBase propCount instances functionPart clausePart parts propClauses instanceCount literalCount workNeeded _>>=_ grammar readClause countLine isName symbolLines wordOf withinLimits clauseOf clauseLines readProblem tableText tablesText caseText caseLength placedProblem leastModel smallestModel settled findResult
 settledExamples =
     record {
       from-three = refl;

@@ -37,8 +37,8 @@ unfoldable pub onlyA : List ℕ
 onlyA = bytes "sheet=1\nfuns=1\nfun=a/0\npreds=1\npred=p/1\nclauses=2\nclause=+ p a\nclause=- p A + = A a\n"
 
 -- the sizes, work and output of a search, and what it finds
-unfoldable pub findWithin : List ℕ → ℕ → ℕ → Answer Search
-findWithin sheet low high = findResult sheet low high 16000 100
+unfoldable pub findBetween : List ℕ → ℕ → ℕ → Answer Search
+findBetween sheet low high = findResult sheet low high 16000 100
 
 -- the text that Write leaves in a hundred bytes
 unfoldable pub writeIn : List ℕ → ℕ → Answer (List ℕ)
@@ -69,24 +69,24 @@ nestedFlat =
 
 -- the table
 pub record Examples : Type 0 where
-  pub two-constants-1 : findWithin twoConstants 1 1 ≡ answer (nothing false)
-  pub two-constants-2 : findWithin twoConstants 2 2 ≡ answer (found 2 (bytes "case=1\nsize=2\na=1\nb=2\n"))
+  pub two-constants-1 : findBetween twoConstants 1 1 ≡ answer (nothing false)
+  pub two-constants-2 : findBetween twoConstants 2 2 ≡ answer (found 2 (bytes "case=1\nsize=2\na=1\nb=2\n"))
   pub two-constants-text : writeIn twoConstants 2 ≡ answer (bytes "p cnf 4 6\n1 2 0\n-1 -2 0\n3 4 0\n-3 -4 0\n-3 -1 0\n-4 -2 0\n")
   pub two-constants-back : readBackIn twoConstants 2 (0 ∷ 1 ∷ 1 ∷ 0 ∷ []) ≡ answer (bytes "case=1\nsize=2\na=2\nb=1\n")
   pub two-constants-length : lengthAnswer (writeIn twoConstants 2) ≡ answer 54
   pub two-constants-short : writtenText twoConstants 2 53 ≡ refused (needing 11 54)
   pub two-constants-14 : readBackIn twoConstants 2 (1 ∷ 1 ∷ 0 ∷ 0 ∷ []) ≡ refused (unplaced 14)
-  pub two-constants-output : findOutput (findWithin twoConstants 1 3) (bytes "a lent buffer of thirty bytes.") ≡ bytes "case=1\nsize=2\na=1\nb=2\ny bytes."
-  pub two-constants-work : findWork (findWithin twoConstants 1 3) (7 ∷ 7 ∷ []) ≡ 0 ∷ 0 ∷ []
+  pub two-constants-output : findOutput (findBetween twoConstants 1 3) (bytes "a lent buffer of thirty bytes.") ≡ bytes "case=1\nsize=2\na=1\nb=2\ny bytes."
+  pub two-constants-work : findWork (findBetween twoConstants 1 3) (7 ∷ 7 ∷ []) ≡ 0 ∷ 0 ∷ []
   pub nested-flat : flatClauses (readProblem nestedTerms) ≡ nestedFlat ∷ []
   pub equal-1 : judgeAnswer (oneClause "+ = A B") (bytes "case=1\nsize=1\n") ≡ answer true
   pub equal-1-not-2 : judgeAnswer (oneClause "+ = A B") (bytes "case=1\nsize=2\n") ≡ answer false
   pub equal-2 : writeIn (oneClause "+ = A B") 2 ≡ answer (bytes "p cnf 0 2\n0\n0\n")
   pub unequal-each : map (writeIn (oneClause "- = A B")) (upFrom 1 8) ≡ replicate 8 (answer (bytes "p cnf 0 1\n0\n"))
-  pub empty-clause : findWithin (oneClause "") 1 8 ≡ answer (nothing true)
-  pub no-clause : findWithin nothingAtAll 3 5 ≡ answer (found 3 (bytes "case=1\nsize=3\n"))
-  pub no-clause-length : findAnswer (findWithin nothingAtAll 3 5) ≡ answer (foundCase 3 14)
-  pub no-fixed-point-1 : findWithin noFixedPoint 1 1 ≡ answer (nothing false)
-  pub no-fixed-point-2 : findWithin noFixedPoint 1 3 ≡ answer (found 2 (bytes "case=1\nsize=2\nf=2 1\n"))
-  pub no-fixed-point-3 : findWithin noFixedPoint 3 3 ≡ answer (found 3 (bytes "case=1\nsize=3\nf=2 1 1\n"))
-  pub only-a : findWithin onlyA 2 2 ≡ answer (found 2 (bytes "case=1\nsize=2\na=1\np=1 0\n"))
+  pub empty-clause : findBetween (oneClause "") 1 8 ≡ answer (nothing true)
+  pub no-clause : findBetween nothingAtAll 3 5 ≡ answer (found 3 (bytes "case=1\nsize=3\n"))
+  pub no-clause-length : findAnswer (findBetween nothingAtAll 3 5) ≡ answer (foundCase 3 14)
+  pub no-fixed-point-1 : findBetween noFixedPoint 1 1 ≡ answer (nothing false)
+  pub no-fixed-point-2 : findBetween noFixedPoint 1 3 ≡ answer (found 2 (bytes "case=1\nsize=2\nf=2 1\n"))
+  pub no-fixed-point-3 : findBetween noFixedPoint 3 3 ≡ answer (found 3 (bytes "case=1\nsize=3\nf=2 1 1\n"))
+  pub only-a : findBetween onlyA 2 2 ≡ answer (found 2 (bytes "case=1\nsize=2\na=1\np=1 0\n"))

@@ -16,23 +16,23 @@ use Rattle.allowance.specs.AllowedFind.{maxAllowance, finished, stopped,
 use Rattle.allowance.specs.Claims.Allowance.{UsedUp}
 
 -- the choices that the search of a problem that was read makes without an allowance
-abbrev pub choicesOf : Bool → Bool → Problem → ℕ → ℕ → ℕ
-choicesOf named symmetry p low high = countedSearch symmetry (modeProblem named p) low high .choices
+abbrev pub choicesNeeded : Bool → Bool → Problem → ℕ → ℕ → ℕ
+choicesNeeded named symmetry p low high = countedSearch symmetry (modeProblem named p) low high .choices
 
 -- the theorem, of the arguments of a call other than the allowance
 pub record AllowedFind (named symmetry : Bool) (sheet : List ℕ) (p : Problem) (low high work room : ℕ) : Type 0 where
   -- a result that is not stopped is Find's without an allowance, and its number is the choices of that search
   pub same : (a n : ℕ) (r : Search) → findWithin named symmetry sheet low high a work room ≡ answer (finished r n)
-      → (findResultWith named symmetry sheet low high work room ≡ answer r) × (n ≡ choicesOf named symmetry p low high) × (n ≤ a)
+      → (findResultWith named symmetry sheet low high work room ≡ answer r) × (n ≡ choicesNeeded named symmetry p low high) × (n ≤ a)
   -- where there is a result without an allowance and the choices are allowed, it is that result
-  pub enough : (a : ℕ) (r : Search) → findResultWith named symmetry sheet low high work room ≡ answer r → choicesOf named symmetry p low high ≤ a → a ≤ maxAllowance
-      → findWithin named symmetry sheet low high a work room ≡ answer (finished r (choicesOf named symmetry p low high))
+  pub enough : (a : ℕ) (r : Search) → findResultWith named symmetry sheet low high work room ≡ answer r → choicesNeeded named symmetry p low high ≤ a → a ≤ maxAllowance
+      → findWithin named symmetry sheet low high a work room ≡ answer (finished r (choicesNeeded named symmetry p low high))
   -- where there is one and fewer are allowed, the answer is stopped at the size at which they are used up; the number is the allowance
-  pub tooFew : (a : ℕ) (r : Search) → findResultWith named symmetry sheet low high work room ≡ answer r → a < choicesOf named symmetry p low high → a ≤ maxAllowance
+  pub tooFew : (a : ℕ) (r : Search) → findResultWith named symmetry sheet low high work room ≡ answer r → a < choicesNeeded named symmetry p low high → a ≤ maxAllowance
       → (s : ℕ) × (findWithin named symmetry sheet low high a work room ≡ answer (stopped s a)) × UsedUp symmetry (modeProblem named p) low high a s
   -- and stopped is answered only so
   pub onlyTooFew : (a s n : ℕ) → findWithin named symmetry sheet low high a work room ≡ answer (stopped s n)
-      → (n ≡ a) × (a < choicesOf named symmetry p low high) × UsedUp symmetry (modeProblem named p) low high a s
+      → (n ≡ a) × (a < choicesNeeded named symmetry p low high) × UsedUp symmetry (modeProblem named p) low high a s
   -- a larger allowance that is not refused never turns found or none into another answer
   pub larger : (a b n : ℕ) (r : Search) → findWithin named symmetry sheet low high a work room ≡ answer (finished r n) → a ≤ b → b ≤ maxAllowance
       → findWithin named symmetry sheet low high b work room ≡ answer (finished r n)

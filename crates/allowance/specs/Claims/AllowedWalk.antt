@@ -6,10 +6,10 @@ use mathlib.Core.List.{List}
 use lib.Dec.{leb}
 use Rattle.theory.specs.Propositional.{PropClause}
 use Rattle.theory.specs.Walk.{Walked, walked}
-use Rattle.allowance.specs.AllowedWalk.{End, ended, stopped, walkedWithin}
+use Rattle.allowance.specs.AllowedWalk.{WalkEnd, ended, stopped, walkedWithin}
 
 -- the end of a walk with so many choices left
-abbrev pub cut : ℕ → Walked → End
+abbrev pub cut : ℕ → Walked → WalkEnd
 cut left w = cond (leb (w .choices) left) (ended (w .answer) (w .choices)) stopped
 
 -- the theorem, for all clauses and all orders of values

@@ -4,7 +4,7 @@ use mathlib.Core.Path.{_≡_}
 use mathlib.Core.List.{List}
 use lib.ListN.{take}
 use Rattle.theory.specs.Refusals.{Refusal, refused}
-use Rattle.allowance.specs.FinderProgram.{Asked, finds, finder}
+use Rattle.allowance.specs.FinderProgram.{Question, finds, finder}
 
 -- four lines, at most 35 bytes together, the largest sheet, and one byte more
 abbrev pub inputBytes : ℕ
@@ -15,4 +15,4 @@ pub record FinderProgram : Type 0 where
   -- what comes after that many bytes changes nothing
   pub reads : (input : List ℕ) → finder (take inputBytes input) ≡ finder input
   -- 11 does not occur
-  pub roomy : (a : Asked) (r : Refusal) → finds a ≡ refused r → r .number ≡ 11 → ⊥
+  pub roomy : (a : Question) (r : Refusal) → finds a ≡ refused r → r .number ≡ 11 → ⊥

@@ -16,7 +16,7 @@ use Rattle.symmetry.specs.Claims.Switches.{withoutCase}
 use Rattle.allowance.specs.AllowedFind.{finished, findWithin}
 
 -- Find with these switches answers r, after some number of choices, under some allowance, and whatever work and output are lent
-pub record Answers (named symmetry : Bool) (sheet : List ℕ) (low high : ℕ) (r : Search) : Type 0 where
+pub record AnswersUnstopped (named symmetry : Bool) (sheet : List ℕ) (low high : ℕ) (r : Search) : Type 0 where
   pub allowance : ℕ
   pub choices : ℕ
   pub work : ℕ
@@ -26,13 +26,13 @@ pub record Answers (named symmetry : Bool) (sheet : List ℕ) (low high : ℕ) (
 -- the theorem
 pub record NotStopped : Type 0 where
   -- told no, what is found is the least model of all
-  pub least : (sheet : List ℕ) (p : Problem) (low high : ℕ) (r : Search) → readProblem sheet ≡ answer p → Answers false false sheet low high r → FindsLeast sheet p low high (answer r)
-  pub leastNamed : (sheet : List ℕ) (p : Problem) (low high : ℕ) (r : Search) → readNamed sheet ≡ answer p → Answers true false sheet low high r → NamedFindsLeast p low high (answer r)
+  pub least : (sheet : List ℕ) (p : Problem) (low high : ℕ) (r : Search) → readProblem sheet ≡ answer p → AnswersUnstopped false false sheet low high r → FindsLeast sheet p low high (answer r)
+  pub leastNamed : (sheet : List ℕ) (p : Problem) (low high : ℕ) (r : Search) → readNamed sheet ≡ answer p → AnswersUnstopped true false sheet low high r → NamedFindsLeast p low high (answer r)
   -- told yes, the least of those that obey the constant clauses
-  pub obeying : (named : Bool) (sheet : List ℕ) (p : Problem) (low high : ℕ) (r : Search) → readProblemIn named sheet ≡ answer p → Answers named true sheet low high r → FindsObeying p low high (answer r)
+  pub obeying : (named : Bool) (sheet : List ℕ) (p : Problem) (low high : ℕ) (r : Search) → readProblemIn named sheet ≡ answer p → AnswersUnstopped named true sheet low high r → FindsObeying p low high (answer r)
   -- plain and mode answer alike under one switch
-  pub sameInBothModes : (symmetry : Bool) (sheet : List ℕ) (low high : ℕ) (r r⁺ : Search) → Answers false symmetry sheet low high r → Answers true symmetry sheet low high r⁺ → r ≡ r⁺
+  pub sameInBothModes : (symmetry : Bool) (sheet : List ℕ) (low high : ℕ) (r r⁺ : Search) → AnswersUnstopped false symmetry sheet low high r → AnswersUnstopped true symmetry sheet low high r⁺ → r ≡ r⁺
   -- told yes or no: the same size, or both none with the same mark; and the same case where all constants are declared before other functions
-  pub sameSize : (named : Bool) (sheet : List ℕ) (low high : ℕ) (r r⁺ : Search) → Answers named false sheet low high r → Answers named true sheet low high r⁺ → withoutCase r ≡ withoutCase r⁺
+  pub sameSize : (named : Bool) (sheet : List ℕ) (low high : ℕ) (r r⁺ : Search) → AnswersUnstopped named false sheet low high r → AnswersUnstopped named true sheet low high r⁺ → withoutCase r ≡ withoutCase r⁺
   pub sameCase : (named : Bool) (sheet : List ℕ) (p : Problem) (low high : ℕ) (r r⁺ : Search) → readProblemIn named sheet ≡ answer p → constantsFirst (p .symbols) ≡ true
-      → Answers named false sheet low high r → Answers named true sheet low high r⁺ → r ≡ r⁺
+      → AnswersUnstopped named false sheet low high r → AnswersUnstopped named true sheet low high r⁺ → r ≡ r⁺
