@@ -1,6 +1,5 @@
 // The search size by size: the smallest that has a model decides, and the choices that are left are handed on.
 use crate::allowed::AllowedAnswer;
-use crate::allowed::stop;
 use crate::one_size::search_size;
 use crate::settled::is_settled;
 use loading::clear_all;
@@ -42,7 +41,8 @@ pub fn search_sizes(
         let n = numbering_of(signature, size);
         let s = search_size(sheet, p, n, size, allowance - made, work);
         if s.stopped {
-            return stop(size, allowance, work);
+            clear_all(work);
+            return AllowedAnswer::Stopped(size.0 as u64, allowance);
         }
         made += s.choices;
         if s.found {

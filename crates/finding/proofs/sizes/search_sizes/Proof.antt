@@ -18,7 +18,6 @@ use Rattle.syntax.specs.declared.size.DomainSize.{DomainSize}
 use Rattle.problem.specs.Problems.{problemIn}
 use Rattle.search.specs.Search.{searchAnswer}
 use Rattle.finding.specs.declared.allowed.AllowedAnswer.the-variants as find
-use Rattle.finding.specs.Calls.{allowedIn}
 use Rattle.finding.specs.Searching.{Searchable}
 use Rattle.finding.specs.Ending.{foundWithin, caseFound}
 use Rattle.finding.proofs.Searched.{ended-within, end-stopped, end-finished, end-found, end-none}
@@ -65,8 +64,8 @@ search-size-requires c κs =
       c .before .numbering-of .ensures,
     )
 
-stop-requires : tie.Need-stop-requires Inv-loop μ-loop
-stop-requires c κs = search needs
+clear-all-requires : tie.Need-clear-all-requires Inv-loop μ-loop
+clear-all-requires c κs = search needs
 
 same-length : tie.Need-same-length Inv-loop μ-loop
 same-length c = search needs
@@ -76,7 +75,7 @@ same-length-2 c = search needs
 
 returns : tie.Need-returns Inv-loop μ-loop
 returns c =
-    let k = c .before .before .stop in
+    let k = c .before .before .clear-all in
     let i = c .before .before .before .before in
     let y = i .before .before .before in
     let t = y .search-size in
@@ -85,11 +84,11 @@ returns c =
     let s = y .before .before .before .before .before .before .before .before in
     let a = s .args in
     let q = problemIn (a .sheet .now) (a .p) in
-    ends-by (foundWithin (a .p .symmetry) q (a .low .0) (a .high .0) (a .allowance)) (k .result) (a .work .now) (k .last .1 .1 .0) (a .output .now) (l .output) (answer (stopped (l .size .0) (a .allowance)))
+    ends-by (foundWithin (a .p .symmetry) q (a .low .0) (a .high .0) (a .allowance)) (find.Stopped (l .size .0) (a .allowance)) (a .work .now) (k .last .0) (a .output .now) (l .output) (answer (stopped (l .size .0) (a .allowance)))
     (ap (λ (w : Allowed). answer (withinIn true q (a .low .0) (a .high .0) (a .allowance) w))
     (l .inv .6 ∙ remaining-stopped (a .p .symmetry) q (a .high .0) (l .size .0) (l .made) (a .allowance) (l .inv .1) (t .ensures ∙ end-stopped (t .result) (take (n .result .count) (t .last .1 .1 .1 .1 .1 .0)) (i .if1 .taken))))
-    (ap allowedIn (k .ensures .0))
-    (k .ensures .1 ∙ ap (λ (m : ℕ). replicate m 0) (t .kept .1 .1 .1 .1 .1 .0 ∙ l .inv .2))
+    refl
+    (k .ensures ∙ ap (λ (m : ℕ). replicate m 0) (t .kept .1 .1 .1 .1 .1 .0 ∙ l .inv .2))
     (l .inv .3)
 
 add-made : tie.Need-add-made Inv-loop μ-loop
@@ -155,8 +154,8 @@ returns-2 c =
     ∙ ap (λ (k : ℕ). answer (caseFound q (l .size .0) (take k (t .last .1 .1 .1 .1 .1 .0)) made)) (n .ensures (a .sheet .now) .count))
     (t .kept .1 .1 .1 .1 .1 .0 ∙ l .inv .2) (l .inv .3) (f .ensures)
 
-clear-all-requires : tie.Need-clear-all-requires Inv-loop μ-loop
-clear-all-requires c κs = search needs
+clear-all-requires-2 : tie.Need-clear-all-requires-2 Inv-loop μ-loop
+clear-all-requires-2 c κs = search needs
 
 is-settled-requires : tie.Need-is-settled-requires Inv-loop μ-loop
 is-settled-requires c κs = c .before .before .before .before .before .before .before .before .before .before .before .before .before .before .before .before .before .before .before .before .pre .searchable .accepted .readable .limited
@@ -169,7 +168,7 @@ same-length-6 c = search needs
 
 returns-3 : tie.Need-returns-3 Inv-loop μ-loop
 returns-3 c =
-    let k = c .before .before .before .clear-all in
+    let k = c .before .before .before .clear-all2 in
     let m = c .before .before .before .before .before in
     let j = m .before .before .before in
     let i = j .before .before in
@@ -234,7 +233,7 @@ search-sizes-spec =
     numbering-of-requires
     sub-search-size
     search-size-requires
-    stop-requires
+    clear-all-requires
     same-length
     same-length-2
     returns
@@ -243,7 +242,7 @@ search-sizes-spec =
     same-length-3
     same-length-4
     returns-2
-    clear-all-requires
+    clear-all-requires-2
     is-settled-requires
     same-length-5
     same-length-6
