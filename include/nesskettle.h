@@ -33,8 +33,8 @@ enum {
     NK_READ = 1,         /* nk_read: the sheet is accepted */
     NK_YES = 1,          /* nk_judge, nk_explain: the case is a model */
     NK_NO = 2,           /* nk_judge, nk_explain: it is none */
-    NK_WRITTEN = 1,      /* nk_write, nk_read_back, nk_setting, nk_from_tptp, nk_from_solver, nk_merge: it stands in the
-                            output */
+    NK_WRITTEN = 1,      /* nk_write, nk_read_back, nk_setting, nk_from_tptp, nk_from_solver, nk_merge, nk_renumber,
+                            nk_least_form: it stands in the output */
     NK_CLAIMED_NONE = 2, /* nk_from_solver: the solver says that there is no model; whether that is so is not checked */
     NK_FOUND = 1,        /* nk_find, nk_find_plain: a model, told there which, stands in the output */
     NK_NONE = 2,         /* nk_find, nk_find_plain: no case of a searched size is a model */
@@ -98,7 +98,10 @@ enum {
     NK_MERGE_TOO_LARGE = 23, /* the merged sheet has over 12 functions, 12 predicates, 64 clauses or 16,384 bytes */
 
     /* The search of nk_find; it names no line, and comes directly after 8. */
-    NK_ALLOWANCE_TOO_LARGE = 24 /* an allowance over 1,000,000 */
+    NK_ALLOWANCE_TOO_LARGE = 24, /* an allowance over 1,000,000 */
+
+    /* The list of nk_renumber; it names no line. */
+    NK_BAD_LIST = 25 /* not as many bytes as the case's size, or not each number from 1 to the size once */
 };
 
 /*
@@ -187,7 +190,7 @@ typedef struct {
     uint8_t values[8];  /*        and the elements that they stand for, numbers from 1 (not digits); 0 past `count` */
 } nk_explain_answer;
 
-/* The answer of nk_write, nk_read_back, nk_setting, nk_from_tptp and nk_from_solver. */
+/* The answer of nk_write, nk_read_back, nk_setting, nk_from_tptp, nk_from_solver, nk_renumber and nk_least_form. */
 typedef struct {
     uint32_t outcome; /* NK_WRITTEN or NK_REFUSED; of nk_from_solver NK_CLAIMED_NONE too */
     uint32_t reason;
@@ -370,6 +373,32 @@ nk_write_answer nk_from_solver(const uint8_t *sheet, size_t sheet_length, uint64
 nk_merge_answer nk_merge(const uint8_t *first, size_t first_length,
                          const uint8_t *second, size_t second_length,
                          uint8_t *output, size_t output_length);
+
+/*
+ * Writes the case with its elements numbered otherwise. The list is a rearrangement of 1 to the case's size s: s bytes, each of
+ * the numbers (not digits) from 1 to s once. Element d becomes the number p(d) that stands d-th in it, in arguments and in
+ * values: the new table of a function f has f(p(x), ..) = p(f(x, ..)), that of a predicate P has P(p(x), ..) = P(x, ..), where
+ * the right sides are the old tables'. The case need not be a model: what is written is one exactly if the case is. One list
+ * after another writes the same as the composed one, d to q(p(d)), and the reverse list brings the case back.
+ * Afterwards the output's first `length` bytes are the case; the bytes after it are as they were.
+ * Refused: as nk_judge, 1 to 7, then 12; then 25, 11; every byte of the output is then as it was.
+ */
+nk_write_answer nk_renumber(const uint8_t *sheet, size_t sheet_length,
+                            const uint8_t *case_, size_t case_length,
+                            const uint8_t *list, size_t list_length,
+                            uint8_t *output, size_t output_length);
+
+/*
+ * Writes the least form of a case: the least of all that nk_renumber writes of it, with any rearrangement. Of two cases the one
+ * is less that has the lower value in the first cell in which they differ, cells in the order in which a case writes them.
+ * The least forms of two cases of one sheet and size are equal exactly if some rearrangement turns one case into the other.
+ * Time grows with the number of rearrangements, 40,320 at size 8, and with how many cells it takes to tell them apart.
+ * Afterwards the output's first `length` bytes are the least form; the bytes after it are as they were.
+ * Refused: as nk_judge, 1 to 7, then 12; then 11; every byte of the output is then as it was.
+ */
+nk_write_answer nk_least_form(const uint8_t *sheet, size_t sheet_length,
+                              const uint8_t *case_, size_t case_length,
+                              uint8_t *output, size_t output_length);
 
 #ifdef __cplusplus
 }

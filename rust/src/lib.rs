@@ -13,6 +13,8 @@
 //! | [`from_tptp`] | the sheet that a file of TPTP clauses is read into |
 //! | [`from_solver`] | the case that a SAT solver answers, if it is a model; or the solver's claim that there is none |
 //! | [`merge`] | two sheets made one |
+//! | [`renumber`] | a case with its elements numbered otherwise |
+//! | [`least_form`] | the least of all renumberings of a case |
 //!
 //! [`write`], [`read_back`] and [`find`] take a sheet's fixed terms as they are written or named, see [`Terms`]. [`write`] and
 //! [`find`] keep or reduce the symmetry between a model and its renumberings, see [`Symmetry`]: [`find`] reduces it by default,
@@ -40,6 +42,8 @@ pub const OPERATIONS: Operations = Operations {
     from_tptp,
     from_solver,
     merge,
+    renumber,
+    least_form,
 };
 
 /// Reads a sheet.
@@ -256,6 +260,44 @@ pub fn merge(first: &[u8], second: &[u8], output: &mut [u8]) -> Result<usize, Me
         1 => Ok(answer.length as usize),
         other => unknown_outcome(other),
     }
+}
+
+/// Writes the case with its elements numbered otherwise and answers its length. The bytes after it are unchanged.
+///
+/// The list is a rearrangement of 1 to the case's size, one byte for each element: element d becomes the number that stands
+/// d-th in it, in arguments and in values. The case need not be a model; renumbered it is one exactly if it was.
+pub fn renumber(sheet: &[u8], case: &[u8], list: &[u8], output: &mut [u8]) -> Result<usize, Refusal> {
+    // SAFETY: pointers and lengths are slices', and the output is lent to this call alone.
+    written(unsafe {
+        raw::nk_renumber(
+            sheet.as_ptr(),
+            sheet.len(),
+            case.as_ptr(),
+            case.len(),
+            list.as_ptr(),
+            list.len(),
+            output.as_mut_ptr(),
+            output.len(),
+        )
+    })
+}
+
+/// Writes the least form of a case, the least of all that [`renumber`] writes of it, and answers its length. The bytes after it
+/// are unchanged.
+///
+/// The least forms of two cases of one sheet and size are equal exactly if some rearrangement turns one into the other.
+pub fn least_form(sheet: &[u8], case: &[u8], output: &mut [u8]) -> Result<usize, Refusal> {
+    // SAFETY: pointers and lengths are slices', and the output is lent to this call alone.
+    written(unsafe {
+        raw::nk_least_form(
+            sheet.as_ptr(),
+            sheet.len(),
+            case.as_ptr(),
+            case.len(),
+            output.as_mut_ptr(),
+            output.len(),
+        )
+    })
 }
 
 /// The C interface's number.

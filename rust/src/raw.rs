@@ -37,7 +37,8 @@ pub struct ExplainAnswer {
     pub values: [u8; 8],
 }
 
-/// The answer of [`nk_write`], [`nk_read_back`], [`nk_setting`], [`nk_from_tptp`] and [`nk_from_solver`].
+/// The answer of [`nk_write`], [`nk_read_back`], [`nk_setting`], [`nk_from_tptp`], [`nk_from_solver`], [`nk_renumber`] and
+/// [`nk_least_form`].
 #[repr(C)]
 #[derive(Clone, Copy, Debug, PartialEq, Eq)]
 pub struct WriteAnswer {
@@ -154,4 +155,24 @@ extern "C" {
         output: *mut u8,
         output_length: usize,
     ) -> MergeAnswer;
+
+    pub fn nk_renumber(
+        sheet: *const u8,
+        sheet_length: usize,
+        case: *const u8,
+        case_length: usize,
+        list: *const u8,
+        list_length: usize,
+        output: *mut u8,
+        output_length: usize,
+    ) -> WriteAnswer;
+
+    pub fn nk_least_form(
+        sheet: *const u8,
+        sheet_length: usize,
+        case: *const u8,
+        case_length: usize,
+        output: *mut u8,
+        output_length: usize,
+    ) -> WriteAnswer;
 }

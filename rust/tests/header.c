@@ -228,6 +228,32 @@ int main(void) {
     expect(made.outcome == NK_REFUSED && made.reason == NK_MERGE_TOO_LARGE, "65 clauses are too many");
     expect(made.sheet == 0 && made.line == 0 && made.length == 0, "which is about both sheets too");
 
+    static const char before[] = "case=1\nsize=3\na=1\nb=3\n";
+    const uint8_t *pair = (const uint8_t *)before;
+    const uint8_t turn[] = {2, 3, 1};
+    output[22] = 9;
+    written = nk_renumber(sheet, sheet_length, pair, strlen(before), turn, sizeof turn, output, sizeof output);
+    expect(written.outcome == NK_WRITTEN && written.reason == 0, "a case is renumbered");
+    expect(text_is(output, written.length, "case=1\nsize=3\na=2\nb=1\n"), "1 becomes 2 and 3 becomes 1");
+    expect(output[22] == 9, "and the byte after it is as it was");
+    written = nk_renumber(sheet, sheet_length, pair, strlen(before), turn, sizeof turn, output, 21);
+    expect(written.reason == NK_OUTPUT_TOO_SHORT && written.length == 22, "21 bytes are too few for it");
+    written = nk_renumber(sheet, sheet_length, pair, strlen(before), turn, 2, output, 0);
+    expect(written.outcome == NK_REFUSED && written.reason == NK_BAD_LIST, "two bytes are no list for three elements");
+    expect(written.line == 0 && written.column == 0 && written.length == 0, "without a place");
+    const uint8_t twice[] = {2, 2, 1};
+    written = nk_renumber(sheet, sheet_length, pair, strlen(before), twice, sizeof twice, output, sizeof output);
+    expect(written.outcome == NK_REFUSED && written.reason == NK_BAD_LIST, "nor is one with an entry twice");
+    written = nk_renumber(sheet, sheet_length, pair, 18, twice, sizeof twice, output, sizeof output);
+    expect(written.reason == NK_BAD_CASE && written.line == 4 && written.column == 1, "the case is looked at first");
+    written = nk_least_form(sheet, sheet_length, pair, strlen(before), output, sizeof output);
+    expect(written.outcome == NK_WRITTEN, "it has a least form");
+    expect(text_is(output, written.length, "case=1\nsize=3\na=1\nb=2\n") && output[22] == 9, "in which b is 2");
+    written = nk_least_form(sheet, sheet_length, pair, strlen(before), output, 21);
+    expect(written.reason == NK_OUTPUT_TOO_SHORT && written.length == 22, "21 bytes are too few for this too");
+    written = nk_least_form(sheet, sheet_length, pair, 18, output, sizeof output);
+    expect(written.reason == NK_BAD_CASE && written.line == 4 && written.length == 0, "without b there is none");
+
     printf("%zu %zu %zu %zu %zu %zu\n", sizeof(nk_read_answer), sizeof(nk_judge_answer), sizeof(nk_explain_answer),
            sizeof(nk_write_answer), sizeof(nk_find_answer), sizeof(nk_merge_answer));
     return failures;

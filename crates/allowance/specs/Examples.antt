@@ -14,7 +14,7 @@ use Rattle.allowance.specs.AllowedSearch.{countedSearch}
 use Rattle.allowance.specs.AllowedFind.{Stoppable, finished, stopped, findWithin, allowedOutput, allowedWork}
 use Rattle.allowance.specs.FinderProgram.{finder}
 
--- two predicates of which each thing has exactly one
+-- two predicates of which each element has exactly one
 unfoldable pub eitherOr : List ℕ
 eitherOr = bytes "sheet=1\nfuns=0\npreds=2\npred=p/1\npred=q/1\nclauses=2\nclause=+ p A + q A\nclause=- p A - q A\n"
 

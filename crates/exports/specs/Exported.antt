@@ -11,6 +11,7 @@ use Rattle.theory.specs.PlainSearch.{plainResult}
 use Rattle.naming.specs.NamedOperations.{readBackTextIn}
 use Rattle.symmetry.specs.SymmetricOperations.{writtenTextWith}
 use Rattle.allowance.specs.AllowedFind.{Stoppable, findWithin, allowedAnswer, allowedOutput, allowedWork}
+use Rattle.renumbered_cases.specs.RenumberedCases.{renumberedText, leastFormText}
 use Rattle.tptp.specs.Tptp.{tptpText}
 use Rattle.solver.specs.SolverText.{solverText, solverAnswer, solverOutput}
 use Rattle.sheet_merging.specs.Merging.{mergedText, whichSheet}
@@ -39,6 +40,14 @@ ReadBackExport sheet size named setting r output output′ = WritingExport (read
 -- Setting
 abbrev pub SettingExport : List ℕ → List ℕ → WriteOut → List ℕ → List ℕ → Type 0
 SettingExport sheet case r output output′ = WritingExport (settingText sheet case (length output)) r output output′
+
+-- Renumber
+abbrev pub RenumberExport : List ℕ → List ℕ → List ℕ → WriteOut → List ℕ → List ℕ → Type 0
+RenumberExport sheet case list r output output′ = WritingExport (renumberedText sheet case list (length output)) r output output′
+
+-- Least form
+abbrev pub LeastFormExport : List ℕ → List ℕ → WriteOut → List ℕ → List ℕ → Type 0
+LeastFormExport sheet case r output output′ = WritingExport (leastFormText sheet case (length output)) r output output′
 
 -- a call that searches with this result, or is refused
 pub record SearchingExport (result : Answer (Stoppable Search)) (r : FindOut) (work work′ output output′ : List ℕ) : Type 0 where

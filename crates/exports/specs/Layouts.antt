@@ -38,7 +38,7 @@ explainOut a =
     let q = reasonBeside a in
     record { outcome = j .outcome; reason = j .reason; line = j .line; column = j .column; clause = q .clause; count = q .count; letters = q .letters; values = q .values }
 
--- Write, Read back, Setting and From TPTP: outcome 1 and the length; refused, the needed length
+-- Write, Read back, Setting, Renumber, Least form and From TPTP: outcome 1 and the length; refused, the needed length
 abbrev pub writeOut : Answer ℕ → WriteOut
 writeOut (answer n) = record { outcome = 1; reason = 0; line = 0; column = 0; length = n }
 writeOut (refused r) = record { outcome = 0; reason = r .number; line = r .place .line; column = r .place .column; length = r .needed }

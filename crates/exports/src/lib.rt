@@ -18,7 +18,7 @@ ghost use Rattle.theory.specs.Refusals.{Answer};
 ghost use Rattle.theory.specs.Operations as theory;
 ghost use Rattle.accepting.specs.Calls.{solverIn};
 ghost use Rattle.finding.specs.Calls.{allowedIn};
-ghost use Rattle.exports.specs.Exported.{FindExport, FromSolverExport, MergeExport, PlainExport, ReadBackExport, SettingExport, TptpExport, WriteExport};
+ghost use Rattle.exports.specs.Exported.{FindExport, FromSolverExport, LeastFormExport, MergeExport, PlainExport, ReadBackExport, RenumberExport, SettingExport, TptpExport, WriteExport};
 ghost use Rattle.exports.specs.Layouts.{readOut, judgeOut, explainOut, writeOut, solverOut, mergeOut, resultOut, findOut, plainOut};
 
 #[repr(C)]
@@ -227,6 +227,20 @@ pub extern "C" fn nk_setting(sheet: &[u8], case: &[u8], output: &mut [u8]) -> Wr
     ensures { λ r. ⌜ SettingExport (now (sheet .entry)) (now (case .entry)) r (now (output .entry)) (now (output .exit)) ⌝ }
 {
     write_out(nesskettle::setting(sheet, case, output))
+}
+
+#[no_mangle]
+pub extern "C" fn nk_renumber(sheet: &[u8], case: &[u8], list: &[u8], output: &mut [u8]) -> WriteOut
+    ensures { λ r. ⌜ RenumberExport (now (sheet .entry)) (now (case .entry)) (now (list .entry)) r (now (output .entry)) (now (output .exit)) ⌝ }
+{
+    write_out(nesskettle::renumber(sheet, case, list, output))
+}
+
+#[no_mangle]
+pub extern "C" fn nk_least_form(sheet: &[u8], case: &[u8], output: &mut [u8]) -> WriteOut
+    ensures { λ r. ⌜ LeastFormExport (now (sheet .entry)) (now (case .entry)) r (now (output .entry)) (now (output .exit)) ⌝ }
+{
+    write_out(nesskettle::least_form(sheet, case, output))
 }
 
 #[no_mangle]

@@ -39,6 +39,7 @@ use Rattle.symmetry.specs.ConstantClauses.{propClausesWith, instanceCountWith, 
 use Rattle.symmetry.specs.SymmetricOperations.{shownIn, writtenTextWith}
 use Rattle.symmetry.proofs.Chains.{contentChain, writeChain, write-chain}
 use Rattle.allowance.specs.AllowedFind.{maxAllowance, findWithin}
+use Rattle.renumbered_cases.specs.RenumberedCases.{isListed, renumberedText, leastFormText}
 use Rattle.solver.specs.Replies.{Reply, claimsNone, states, readReply}
 use Rattle.solver.specs.SolverText.{Outcome, modelCase, claimedNone, statedCase, outcomeOf, solverText, solverAnswer}
 use Rattle.sheet_merging.specs.Sheets.{Sheet, sheetOf, textOf}
@@ -236,6 +237,23 @@ setting-placed sheet case room q e =
     let n : ℕ = propCount (k .size) (p .symbols) in
     unrefused (check (leb n room) (needing 11 n)) _ q e₂ (λ h. inr (inr (no-place (leb n room) (needing 11 n) q (refl, refl) h))) λ u _ e₃. absurd (answer≢refused _ q e₃)
 
+renumber-placed : (sheet case list : List ℕ) (room : ℕ) (q : Refusal) → renumberedText sheet case list room ≡ refused q → OfTheSheet false sheet q ⊎ (OfTheCase sheet case q ⊎ NoPlace q)
+unfolding renumberedText
+renumber-placed sheet case list room q e =
+    unrefused (placedProblem sheet) _ q e (λ h. inl (of-the-sheet sheet q h)) λ (p : Problem) h₁ e₁.
+    unrefused (placedCase (p .symbols) case) _ q e₁ (λ h. inr (inl (of-the-case sheet case p q (problem-read sheet p h₁) h))) λ k _ e₂.
+    let n : ℕ = caseLength (k .size) (p .symbols) in
+    unrefused (check (isListed (k .size) list) (unplaced 25)) _ q e₂ (λ h. inr (inr (no-place (isListed (k .size) list) (unplaced 25) q (refl, refl) h))) λ u _ e₃.
+    unrefused (check (leb n room) (needing 11 n)) _ q e₃ (λ h. inr (inr (no-place (leb n room) (needing 11 n) q (refl, refl) h))) λ u _ e₄. absurd (answer≢refused _ q e₄)
+
+least-form-placed : (sheet case : List ℕ) (room : ℕ) (q : Refusal) → leastFormText sheet case room ≡ refused q → OfTheSheet false sheet q ⊎ (OfTheCase sheet case q ⊎ NoPlace q)
+unfolding leastFormText
+least-form-placed sheet case room q e =
+    unrefused (placedProblem sheet) _ q e (λ h. inl (of-the-sheet sheet q h)) λ (p : Problem) h₁ e₁.
+    unrefused (placedCase (p .symbols) case) _ q e₁ (λ h. inr (inl (of-the-case sheet case p q (problem-read sheet p h₁) h))) λ k _ e₂.
+    let n : ℕ = caseLength (k .size) (p .symbols) in
+    unrefused (check (leb n room) (needing 11 n)) _ q e₂ (λ h. inr (inr (no-place (leb n room) (needing 11 n) q (refl, refl) h))) λ u _ e₃. absurd (answer≢refused _ q e₃)
+
 -- a text that is no reply
 unread : (o : Option Reply) (q : Refusal) → orRefuse o (unplaced 18) ≡ refused q → NoPlace q
 unread none q e = subst NoPlace (refused-inj {A = Reply} (unplaced 18) q e) (refl, refl)
@@ -292,6 +310,8 @@ columns-of-calls =
       write = λ sheet size named symmetry r output output′ c q e. write-placed named symmetry sheet size (length output) q (refused-text _ q (sym (c .answer) ∙ e));
       readBack = λ sheet size named setting r output output′ c q e. read-back-placed-in named sheet size setting (length output) q (refused-text _ q (sym (c .answer) ∙ e));
       setting = λ sheet case r output output′ c q e. setting-placed sheet case (length output) q (refused-text _ q (sym (c .answer) ∙ e));
+      renumber = λ sheet case list r output output′ c q e. renumber-placed sheet case list (length output) q (refused-text _ q (sym (c .answer) ∙ e));
+      leastForm = λ sheet case r output output′ c q e. least-form-placed sheet case (length output) q (refused-text _ q (sym (c .answer) ∙ e));
       find = λ sheet low high named symmetry a r work work′ output output′ c q e. find-placed named symmetry sheet low high a (length work) (length output) q (allowed-refused _ q (sym (c .answer) ∙ e));
       findPlain = λ sheet low high r output output′ c q e. plain-placed sheet low high (length output) q (search-refused _ q (sym (c .answer) ∙ e));
       fromSolver = λ sheet size text r output output′ c q e. solver-placed sheet size text (length output) q (outcome-refused _ q (sym (c .answer) ∙ e));

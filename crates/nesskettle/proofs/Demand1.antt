@@ -35,6 +35,7 @@ use Rattle.symmetry.specs.ConstantClauses.{propClausesWith, instanceCountWith, 
 use Rattle.symmetry.specs.SymmetricOperations.{shownIn, writtenTextWith}
 use Rattle.symmetry.proofs.Chains.{contentChain, writeChain, write-chain}
 use Rattle.allowance.specs.AllowedFind.{maxAllowance, Stoppable, finished, stopped, findWithin, allowedAnswer, allowedOutput, allowedWork}
+use Rattle.renumbered_cases.specs.RenumberedCases.{isListed, renumberedText, leastFormText}
 use Rattle.tptp.specs.Symbols.{problemOf}
 use Rattle.tptp.specs.Places.{placeOf}
 use Rattle.tptp.specs.Tptp.{readFile, clausesOfFile, Fault, faults, sheetIn, tptpText}
@@ -50,7 +51,7 @@ use Rattle.answers.specs.Answers.{lengthIn, findIn}
 use Rattle.answers.specs.Calls.{WritingCall, PlainSearchingCall}
 use Rattle.finding.specs.declared.allowed.AllowedAnswer.{AllowedAnswer}
 use Rattle.finding.specs.Calls.{allowedIn, AllowedCall}
-use Rattle.nesskettle.specs.Demand1.{readNumbers, judgeNumbers, writeNumbers, readBackNumbers, settingNumbers, findNumbers, plainNumbers, tptpNumbers, solverNumbers, mergeNumbers, numbersIn, NumberOf, ResultOr, Demand1}
+use Rattle.nesskettle.specs.Demand1.{readNumbers, judgeNumbers, writeNumbers, readBackNumbers, settingNumbers, renumberNumbers, leastFormNumbers, findNumbers, plainNumbers, tptpNumbers, solverNumbers, mergeNumbers, numbersIn, NumberOf, ResultOr, Demand1}
 use Rattle.nesskettle.proofs.TptpNumbers.{isTptpNumber, text-numbers}
 
 -- the number of every refusal of the answer is one of these
@@ -155,6 +156,23 @@ setting-within sheet case room =
     then settingNumbers _ _ (sheet-within (11 ∷ 12 ∷ []) sheet) λ p.
     then settingNumbers _ _ (case-within settingNumbers refl (p .symbols) case) λ k.
     checks settingNumbers (leb (propCount (k .size) (p .symbols)) room) (needing 11 (propCount (k .size) (p .symbols))) _ refl (ends settingNumbers _)
+
+-- Renumber
+renumber-within : (sheet case list : List ℕ) (room : ℕ) → Within renumberNumbers (renumberedText sheet case list room)
+unfolding renumberedText
+renumber-within sheet case list room =
+    then renumberNumbers _ _ (sheet-within (11 ∷ 12 ∷ 25 ∷ []) sheet) λ p.
+    then renumberNumbers _ _ (case-within renumberNumbers refl (p .symbols) case) λ k.
+    checks renumberNumbers (isListed (k .size) list) (unplaced 25) _ refl
+    (checks renumberNumbers (leb (caseLength (k .size) (p .symbols)) room) (needing 11 (caseLength (k .size) (p .symbols))) _ refl (ends renumberNumbers _))
+
+-- Least form
+least-form-within : (sheet case : List ℕ) (room : ℕ) → Within leastFormNumbers (leastFormText sheet case room)
+unfolding leastFormText
+least-form-within sheet case room =
+    then leastFormNumbers _ _ (sheet-within (11 ∷ 12 ∷ []) sheet) λ p.
+    then leastFormNumbers _ _ (case-within leastFormNumbers refl (p .symbols) case) λ k.
+    checks leastFormNumbers (leb (caseLength (k .size) (p .symbols)) room) (needing 11 (caseLength (k .size) (p .symbols))) _ refl (ends leastFormNumbers _)
 
 -- Write and Find, with both switches, by the numbers of the sheet and of each check
 module _ (named symmetry : Bool) (sheet : List ℕ) (numbers : List ℕ) (sheets : Within numbers (placedIn named sheet)) (eight : elem 8 numbers ≡ true) (nine : elem 9 numbers ≡ true) (eleven : elem 11 numbers ≡ true) where
@@ -321,6 +339,10 @@ demand1-of-calls =
           writing-kept (numbersIn named readBackNumbers) (readBackTextIn named sheet size setting (length output)) r output output′ c (read-back-within-in named sheet size setting (length output));
       setting = λ sheet case r output output′ c.
           writing-kept settingNumbers (settingText sheet case (length output)) r output output′ c (setting-within sheet case (length output));
+      renumber = λ sheet case list r output output′ c.
+          writing-kept renumberNumbers (renumberedText sheet case list (length output)) r output output′ c (renumber-within sheet case list (length output));
+      leastForm = λ sheet case r output output′ c.
+          writing-kept leastFormNumbers (leastFormText sheet case (length output)) r output output′ c (least-form-within sheet case (length output));
       find = λ sheet low high named symmetry a r work work′ output output′ c.
           searching-kept (numbersIn named findNumbers) (findWithin named symmetry sheet low high a (length work) (length output)) r work work′ output output′ c
           (find-within-in named symmetry sheet low high a (length work) (length output));

@@ -18,6 +18,7 @@ use Rattle.answers.specs.Answers.{readIn, judgeIn, explainIn, lengthIn, findIn}
 use Rattle.answers.specs.Calls.{ReadCall, JudgeCall, ExplainCall, WriteCall, ReadBackCall, SettingCall, PlainCall}
 use Rattle.finding.specs.declared.allowed.AllowedAnswer.{AllowedAnswer}
 use Rattle.finding.specs.Calls.{allowedIn, FindCall}
+use Rattle.case_forms.specs.Calls.{RenumberCall, LeastFormCall}
 use Rattle.accepting.specs.declared.SolverAnswer.{SolverAnswer}
 use Rattle.accepting.specs.Calls.{solverIn, FromSolverCall}
 use Rattle.uniting.specs.declared.merge.MergeAnswer.{MergeAnswer}
@@ -71,6 +72,10 @@ pub record Columns : Type 0 where
   pub readBack : (sheet : List ℕ) (size : ℕ) (named : Bool) (setting : List ℕ) (r : WriteAnswer) (output output′ : List ℕ) → ReadBackCall sheet size named setting r output output′
       → (q : Refusal) → lengthIn r ≡ refused q → OfTheSheet named sheet q ⊎ NoPlace q
   pub setting : (sheet case : List ℕ) (r : WriteAnswer) (output output′ : List ℕ) → SettingCall sheet case r output output′
+      → (q : Refusal) → lengthIn r ≡ refused q → OfTheSheet false sheet q ⊎ (OfTheCase sheet case q ⊎ NoPlace q)
+  pub renumber : (sheet case list : List ℕ) (r : WriteAnswer) (output output′ : List ℕ) → RenumberCall sheet case list r output output′
+      → (q : Refusal) → lengthIn r ≡ refused q → OfTheSheet false sheet q ⊎ (OfTheCase sheet case q ⊎ NoPlace q)
+  pub leastForm : (sheet case : List ℕ) (r : WriteAnswer) (output output′ : List ℕ) → LeastFormCall sheet case r output output′
       → (q : Refusal) → lengthIn r ≡ refused q → OfTheSheet false sheet q ⊎ (OfTheCase sheet case q ⊎ NoPlace q)
   pub find : (sheet : List ℕ) (low high : ℕ) (named symmetry : Bool) (a : ℕ) (r : AllowedAnswer) (work work′ output output′ : List ℕ) → FindCall sheet low high named symmetry a r work work′ output output′
       → (q : Refusal) → allowedIn r ≡ refused q → OfTheSheet named sheet q ⊎ NoPlace q

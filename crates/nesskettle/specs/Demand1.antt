@@ -16,6 +16,7 @@ use Rattle.answers.specs.Calls.{ReadCall, JudgeCall, ExplainCall, WriteCall, Re
 use Rattle.finding.specs.declared.allowed.AllowedAnswer.{AllowedAnswer}
 use Rattle.finding.specs.Calls.{allowedIn, FindCall}
 use Rattle.importing.specs.Calls.{TptpCall}
+use Rattle.case_forms.specs.Calls.{RenumberCall, LeastFormCall}
 use Rattle.accepting.specs.declared.SolverAnswer.{SolverAnswer}
 use Rattle.accepting.specs.Calls.{solverIn, FromSolverCall}
 use Rattle.uniting.specs.declared.merge.MergeAnswer.{MergeAnswer}
@@ -40,6 +41,14 @@ readBackNumbers = upFrom 1 8 ++ (11 ∷ 13 ∷ 14 ∷ [])
 -- Setting: 1 to 7, 11 and 12
 abbrev pub settingNumbers : List ℕ
 settingNumbers = upFrom 1 7 ++ (11 ∷ 12 ∷ [])
+
+-- Renumber: 1 to 7, 11, 12 and 25
+abbrev pub renumberNumbers : List ℕ
+renumberNumbers = upFrom 1 7 ++ (11 ∷ 12 ∷ 25 ∷ [])
+
+-- Least form: 1 to 7, 11 and 12
+abbrev pub leastFormNumbers : List ℕ
+leastFormNumbers = upFrom 1 7 ++ (11 ∷ 12 ∷ [])
 
 -- Find: 1 to 11, and 24
 abbrev pub findNumbers : List ℕ
@@ -86,6 +95,10 @@ pub record Demand1 : Type 0 where
       → ResultOr (λ q. NumberOf (numbersIn named readBackNumbers) q × (output′ ≡ output)) (lengthIn r)
   pub setting : (sheet case : List ℕ) (r : WriteAnswer) (output output′ : List ℕ) → SettingCall sheet case r output output′
       → ResultOr (λ q. NumberOf settingNumbers q × (output′ ≡ output)) (lengthIn r)
+  pub renumber : (sheet case list : List ℕ) (r : WriteAnswer) (output output′ : List ℕ) → RenumberCall sheet case list r output output′
+      → ResultOr (λ q. NumberOf renumberNumbers q × (output′ ≡ output)) (lengthIn r)
+  pub leastForm : (sheet case : List ℕ) (r : WriteAnswer) (output output′ : List ℕ) → LeastFormCall sheet case r output output′
+      → ResultOr (λ q. NumberOf leastFormNumbers q × (output′ ≡ output)) (lengthIn r)
   pub find : (sheet : List ℕ) (low high : ℕ) (named symmetry : Bool) (a : ℕ) (r : AllowedAnswer) (work work′ output output′ : List ℕ) → FindCall sheet low high named symmetry a r work work′ output output′
       → ResultOr (λ q. NumberOf (numbersIn named findNumbers) q × (work′ ≡ work) × (output′ ≡ output)) (allowedIn r)
   pub findPlain : (sheet : List ℕ) (low high : ℕ) (r : FindAnswer) (output output′ : List ℕ) → PlainCall sheet low high r output output′

@@ -9,6 +9,7 @@ pub mod Columns
 pub mod Explains
 pub mod Settings
 pub mod Settles
+pub mod Renumbers
 pub mod FromTptp
 pub mod FromSolver
 pub mod Merges

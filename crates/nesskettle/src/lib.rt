@@ -1,12 +1,10 @@
-// The operations of documents 01 and 02. Each answers every byte string, number and lent buffer with a result or a numbered refusal, and
-// ends. A promise is a record of `answers/specs/Calls` (Find's of `finding/specs/Calls`, From TPTP's of `importing/specs/Calls`, From solver's of `accepting/specs/Calls`, Merge's of
-// `uniting/specs/Calls`): equations with the definitions of `theory/specs/Operations`, `naming/specs/NamedOperations`,
-// `symmetry/specs/SymmetricOperations`, `allowance/specs/AllowedFind`, `theory/specs/PlainSearch`, `tptp/specs/Tptp`, `solver/specs/SolverText` and `sheet_merging/specs/Merging`, where
-// `answers/specs/Answers` says what each answer means. What is lent as `&` cannot change; what is lent as `&mut` is told to the last byte
-// and number. The demands (`specs/Demand1` to `specs/Demand3`) and what is asked of From TPTP (`specs/FromTptp`), From solver
-// (`specs/FromSolver`), Merge (`specs/Merges`), Explain (`specs/Explains`) and Setting (`specs/Settings`), what settled means (`specs/Settles`), that Find and Find
-// plain answer the same (`specs/SameAnswers`), what the mode of named terms (`specs/Named`), the constant clauses (`specs/Symmetry`) and the allowance (`specs/Allowance`) do to the answers, and where
-// refusals point (`specs/Columns`), are proved of these records.
+// The operations of documents 01 and 02. Each answers every byte string, number and lent buffer with a result or a numbered refusal, and ends. A promise is a record of `answers/specs/Calls` (Find's of
+// `finding/specs/Calls`, From TPTP's of `importing/specs/Calls`, From solver's of `accepting/specs/Calls`, Merge's of `uniting/specs/Calls`, Renumber's and Least form's of `case_forms/specs/Calls`): equations
+// with the definitions of `theory/specs/Operations`, `naming/specs/NamedOperations`, `symmetry/specs/SymmetricOperations`, `allowance/specs/AllowedFind`, `theory/specs/PlainSearch`, `tptp/specs/Tptp`,
+// `solver/specs/SolverText`, `sheet_merging/specs/Merging` and `renumbered_cases/specs/RenumberedCases`, where `answers/specs/Answers` says what each answer means. What is lent as `&` cannot change; what is
+// lent as `&mut` is told to the last byte and number. The demands (`specs/Demand1` to `specs/Demand3`) and what is asked of From TPTP (`specs/FromTptp`), From solver (`specs/FromSolver`), Merge (`specs/Merges`),
+// Explain (`specs/Explains`), Setting (`specs/Settings`), Renumber and Least form (`specs/Renumbers`), what settled means (`specs/Settles`), that Find and Find plain answer the same (`specs/SameAnswers`), what
+// the mode of named terms (`specs/Named`), the constant clauses (`specs/Symmetry`) and the allowance (`specs/Allowance`) do to the answers, and where refusals point (`specs/Columns`), are proved of these records.
 mod reading;
 
 use accepting::SolverAnswer;
@@ -16,6 +14,8 @@ use answers::FindAnswer;
 use answers::JudgeAnswer;
 use answers::ReadAnswer;
 use answers::WriteAnswer;
+use case_forms::least::write_least_form;
+use case_forms::renumber::renumber_case;
 use finding::allowed::AllowedAnswer;
 use finding::find_model;
 use importing::import_clauses;
@@ -28,6 +28,7 @@ use uniting::merge::MergeAnswer;
 use uniting::merge::merge_sheets;
 use writing::write_clauses;
 ghost use Rattle.answers.specs.Calls.{ExplainCall, JudgeCall, PlainCall, ReadBackCall, ReadCall, SettingCall, WriteCall};
+ghost use Rattle.case_forms.specs.Calls.{LeastFormCall, RenumberCall};
 ghost use Rattle.finding.specs.Calls.{FindCall};
 ghost use Rattle.importing.specs.Calls.{TptpCall};
 ghost use Rattle.accepting.specs.Calls.{FromSolverCall};
@@ -79,6 +80,20 @@ pub fn setting(sheet: &[u8], case: &[u8], output: &mut [u8]) -> WriteAnswer
     ensures { λ r. ⌜ SettingCall (now (sheet .entry)) (now (case .entry)) r (now (output .entry)) (now (output .exit)) ⌝ }
 {
     write_case_setting(sheet, case, output)
+}
+
+// Renumber: the case with element d numbered as the list's d-th byte says, at the front of the output.
+pub fn renumber(sheet: &[u8], case: &[u8], list: &[u8], output: &mut [u8]) -> WriteAnswer
+    ensures { λ r. ⌜ RenumberCall (now (sheet .entry)) (now (case .entry)) (now (list .entry)) r (now (output .entry)) (now (output .exit)) ⌝ }
+{
+    renumber_case(sheet, case, list, output)
+}
+
+// Least form: the first in value order of all renumberings of the case, at the front of the output.
+pub fn least_form(sheet: &[u8], case: &[u8], output: &mut [u8]) -> WriteAnswer
+    ensures { λ r. ⌜ LeastFormCall (now (sheet .entry)) (now (case .entry)) r (now (output .entry)) (now (output .exit)) ⌝ }
+{
+    write_least_form(sheet, case, output)
 }
 
 // Find: the least model at the smallest size from low to high that has one, as a case at the front of the output; or none. It searches the sheet's clauses as they stand, or with named terms. Told yes

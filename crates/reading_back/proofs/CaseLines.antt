@@ -61,7 +61,7 @@ module _ (s : ℕ) where
 
   -- values in range are below 8 at sizes up to 8
   module _ (small : s ≤ 8) where
-    count-small : (k : Kind) → valueCount s k ≤ 8
+    pub count-small : (k : Kind) → valueCount s k ≤ 8
     count-small function = small
     count-small predicate = omega arith
 

@@ -118,7 +118,7 @@ module _ (s : ℕ) (g : Signature) where
   comes-back p vs hp h =
       composes p (reversed s p) vs hp (reversed-is s p hp) h ∙ ap (λ (q : List ℕ). renumbered s g q vs) (rearrangements s .thereAndBack p hp) ∙ stays vs h
 
-  -- truth: what each thing becomes keeps every symbol, so under the renamed assignment the renumbered interpretation says what the old one says
+  -- truth: what each element becomes keeps every symbol, so under the renamed assignment the renumbered interpretation says what the old one says
   module _ (p vs : List ℕ) (r : Rearranged s p) (h : isInterpretation s g vs ≡ true) where
     abbrev old : Interpretation
     old = interpretation s g vs

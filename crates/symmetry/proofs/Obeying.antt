@@ -29,7 +29,7 @@ use Rattle.renumbering.proofs.ValueOrder.{notAfter-antisym}
 use Rattle.symmetry.proofs.Appearance.{appearance, appearance-is, appearance-stepwise, appearance-before}
 use Rattle.symmetry.proofs.Constants.{constants-below, constants-after, constants-front, functions-first}
 
--- the renumbering of an interpretation by the first appearance of things as values of its constants
+-- the renumbering of an interpretation by the first appearance of elements as values of its constants
 module _ (s : ℕ) (g : Signature) (vs : List ℕ) (h : isInterpretation s g vs ≡ true) where
   abbrev pub naming : List ℕ
   naming = reversed s (appearance s (constantValues s g vs))

@@ -57,4 +57,6 @@ fn main() {
     run_file(b"write_named_symmetry", Operation::WriteNamedSymmetry);
     run_file(b"find_named_symmetry", Operation::FindNamedSymmetry);
     run_file(b"merge", Operation::Merge);
+    run_file(b"renumber", Operation::Renumber);
+    run_file(b"least_form", Operation::LeastForm);
 }

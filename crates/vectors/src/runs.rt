@@ -41,6 +41,8 @@ pub enum Operation {
     WriteNamedSymmetry,
     FindNamedSymmetry,
     Merge,
+    Renumber,
+    LeastForm,
 }
 
 fn read(sheet: &[u8]) {
@@ -60,7 +62,7 @@ fn judge(sheet: &[u8], case: &[u8]) {
     say(b"\n");
 }
 
-// What Write, Read back, From TPTP and Merge answer and leave; From solver and Find plain too, where they write a case or are refused.
+// What Write, Read back, From TPTP, Merge, Renumber and Least form answer and leave; From solver and Find plain too, where they write a case or are refused.
 fn text(answer: WriteAnswer, output: &[u8]) {
     match answer {
         WriteAnswer::Written(n) => {
@@ -225,6 +227,22 @@ fn merge(first: &[u8], second: &[u8], output: &mut [u8]) {
     text(said, output);
 }
 
+// Beside the sheet stand as many bytes of a case as low says, and behind them the list.
+fn renumber(sheet: &[u8], low: u64, beside: &[u8], output: &mut [u8]) {
+    let n = low as usize;
+    if beside.len() < n {
+        say(b" broken\n");
+        return;
+    }
+    let answer = nesskettle::renumber(sheet, &beside[..n], &beside[n..], output);
+    text(answer, output);
+}
+
+fn least_form(sheet: &[u8], case: &[u8], output: &mut [u8]) {
+    let answer = nesskettle::least_form(sheet, case, output);
+    text(answer, output);
+}
+
 fn name(operation: Operation) {
     match operation {
         Operation::Read => say(b"read"),
@@ -245,6 +263,8 @@ fn name(operation: Operation) {
         Operation::WriteNamedSymmetry => say(b"write_named_symmetry"),
         Operation::FindNamedSymmetry => say(b"find_named_symmetry"),
         Operation::Merge => say(b"merge"),
+        Operation::Renumber => say(b"renumber"),
+        Operation::LeastForm => say(b"least_form"),
     }
 }
 
@@ -277,6 +297,8 @@ fn answer(
         Operation::WriteNamedSymmetry => write(sheet, x.low, true, true, output),
         Operation::FindNamedSymmetry => find(sheet, x, true, true, work, output),
         Operation::Merge => merge(sheet, beside, output),
+        Operation::Renumber => renumber(sheet, x.low, beside, output),
+        Operation::LeastForm => least_form(sheet, beside, output),
     }
 }
 

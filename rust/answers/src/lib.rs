@@ -1,5 +1,5 @@
 //! The answers of the operations: read, judge, explain, write, read back, setting, find, find plain, from TPTP,
-//! from solver, and merge.
+//! from solver, merge, renumber, and least form.
 //!
 //! Each call answers a result or a [`Refusal`]. A refusal has the number that the specification gives it.
 
@@ -57,11 +57,13 @@ pub enum Reason {
     MergeTooLarge = 23,
     /// 24: the allowance is over [`FindOptions::LARGEST_ALLOWANCE`].
     AllowanceTooLarge = 24,
+    /// 25: the list is no rearrangement of the numbers from 1 to the case's size.
+    BadList = 25,
 }
 
 impl Reason {
     /// Every reason, in order of its number.
-    pub const ALL: [Reason; 24] = [
+    pub const ALL: [Reason; 25] = [
         Reason::SheetTooLong,
         Reason::Layout,
         Reason::OverLimit,
@@ -86,6 +88,7 @@ impl Reason {
         Reason::NamesDiffer,
         Reason::MergeTooLarge,
         Reason::AllowanceTooLarge,
+        Reason::BadList,
     ];
 
     /// The specification's number of this reason.
@@ -159,6 +162,7 @@ impl fmt::Display for Reason {
                 "the merged sheet would be over the limit (12 functions, 12 predicates, 64 clauses, 16,384 bytes)"
             }
             Reason::AllowanceTooLarge => "at most 1,000,000 choices can be allowed",
+            Reason::BadList => "the list does not have each number from 1 to the case's size once",
         })
     }
 }
@@ -409,6 +413,8 @@ pub struct Operations {
     pub from_tptp: fn(&[u8], &mut [u8]) -> Answer<usize>,
     pub from_solver: fn(&[u8], u64, &[u8], &mut [u8]) -> Answer<SolverAnswer>,
     pub merge: fn(&[u8], &[u8], &mut [u8]) -> Result<usize, MergeRefusal>,
+    pub renumber: fn(&[u8], &[u8], &[u8], &mut [u8]) -> Answer<usize>,
+    pub least_form: fn(&[u8], &[u8], &mut [u8]) -> Answer<usize>,
 }
 
 #[cfg(test)]
@@ -422,7 +428,7 @@ mod tests {
             assert_eq!(Reason::from_number(reason.number()), Some(reason));
         }
         assert_eq!(Reason::from_number(0), None);
-        assert_eq!(Reason::from_number(25), None);
+        assert_eq!(Reason::from_number(26), None);
     }
 
     #[test]

@@ -9,8 +9,8 @@ use std::ops::RangeInclusive;
 
 /// A full table for each symbol, at a size: the values of all cells in line order, as the text writes them.
 pub struct Interpretation {
-    size: usize,
-    cells: Vec<u8>,
+    pub size: usize,
+    pub cells: Vec<u8>,
 }
 
 impl Interpretation {

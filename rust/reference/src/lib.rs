@@ -15,6 +15,7 @@ mod naming;
 mod plain;
 mod problem;
 mod program;
+mod renumbering;
 mod search;
 mod sheet;
 mod solver;
@@ -55,6 +56,8 @@ pub const OPERATIONS: Operations = Operations {
     from_tptp,
     from_solver,
     merge,
+    renumber,
+    least_form,
 };
 
 /// Reads a sheet: its counts.
@@ -233,6 +236,26 @@ pub fn from_solver(sheet: &[u8], size: u64, text: &[u8], out: &mut [u8]) -> Resu
 pub fn merge(first: &[u8], second: &[u8], out: &mut [u8]) -> Result<usize, MergeRefusal> {
     let sheet = merging::merged(first, second)?;
     put(&sheet, out).map_err(merging::about_both)
+}
+
+/// Writes the case in which each element d is the d-th number of the list instead; the case's length.
+pub fn renumber(sheet: &[u8], case: &[u8], list: &[u8], out: &mut [u8]) -> Result<usize, Refusal> {
+    let problem = Problem::read(sheet, Terms::AsWritten)?;
+    let interpretation = Interpretation::read(&problem, case)?;
+    if !renumbering::is_rearrangement(list, interpretation.size) {
+        return Err(refused(Reason::BadList));
+    }
+    put(
+        &renumbering::renumbered(&problem, &interpretation, list).text(&problem),
+        out,
+    )
+}
+
+/// Writes the least of all renumberings of a case; its length.
+pub fn least_form(sheet: &[u8], case: &[u8], out: &mut [u8]) -> Result<usize, Refusal> {
+    let problem = Problem::read(sheet, Terms::AsWritten)?;
+    let interpretation = Interpretation::read(&problem, case)?;
+    put(&renumbering::least_form(&problem, &interpretation).text(&problem), out)
 }
 
 /// The needed lengths of a search: work numbers and output bytes at the size, for a sheet that is not refused.

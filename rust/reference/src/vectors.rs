@@ -183,6 +183,11 @@ pub fn run(operations: &Operations, vector: &Vector) -> Result<(), String> {
         "from-solver" => {
             (operations.from_solver)(sheet, given.number("size"), given.bytes("text"), &mut out).map(from_solver)
         }
+        "renumber" => {
+            let (case, list) = (given.bytes("case"), given.bytes("list"));
+            (operations.renumber)(sheet, case, list, &mut out).map(|n| format!("length={n}"))
+        }
+        "least-form" => (operations.least_form)(sheet, given.bytes("case"), &mut out).map(|n| format!("length={n}")),
         "merge" => return run_merge(operations, vector),
         other => panic!("no operation {other}"),
     };

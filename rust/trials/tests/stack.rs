@@ -3,12 +3,14 @@
 
 use nesskettle::Terms::{AsWritten, Named};
 use nesskettle::{explain, find, find_plain, from_solver, from_tptp, judge, read, read_back, setting, write};
+use nesskettle::{least_form, renumber};
 use nesskettle::{merge, WhichSheet};
 use nesskettle::{FirstFailure, Reason, Search, SolverAnswer};
 use nesskettle_reference::sheet_of;
 use nesskettle_trials::draft::Draft;
 use nesskettle_trials::options::{asked, told_yes};
 use nesskettle_trials::random::Random;
+use nesskettle_trials::renumbering::rearrangement;
 use nesskettle_trials::solver::stating;
 
 const STACK: usize = 192 * 1024;
@@ -43,6 +45,14 @@ fn the_deepest_terms_are_refused() {
         assert_eq!(explain(&sheet, b"").unwrap_err().reason, Reason::ClauseTooLarge);
         assert_eq!(
             setting(&sheet, b"", &mut output).unwrap_err().reason,
+            Reason::ClauseTooLarge
+        );
+        assert_eq!(
+            renumber(&sheet, b"", b"", &mut output).unwrap_err().reason,
+            Reason::ClauseTooLarge
+        );
+        assert_eq!(
+            least_form(&sheet, b"", &mut output).unwrap_err().reason,
             Reason::ClauseTooLarge
         );
         for terms in [AsWritten, Named] {
@@ -83,6 +93,8 @@ fn the_deepest_terms_are_taken() {
         assert_eq!(judge(&sheet, case), Ok(false));
         assert_eq!(explain(&sheet, case), Ok(Some(FirstFailure::new(1, [('A', 2)]))));
         assert_eq!(setting(&sheet, case, &mut output), Ok(6));
+        assert_eq!(renumber(&sheet, case, &[2, 1], &mut output), Ok(case.len()));
+        assert_eq!(least_form(&sheet, case, &mut output), Ok(case.len()));
         assert!(write(&sheet, 2, asked(AsWritten), &mut output).is_ok());
         assert!(read_back(&sheet, 1, AsWritten, &[1, 1], &mut output).is_ok());
         assert!(find(&sheet, 1, 2, told_yes(AsWritten), &mut work, &mut output).is_ok());
@@ -218,6 +230,23 @@ fn large_sheets_are_merged() {
             (refused.refusal.reason, refused.sheet),
             (Reason::ClauseTooLarge, Some(WhichSheet::Second))
         );
+    });
+}
+
+/// Every table there can be, renumbered, and its least form, which is the same before and after.
+#[test]
+fn the_most_cells_are_renumbered() {
+    let draft = Draft::most_cells();
+    let mut random = Random::new(11);
+    let (sheet, case) = (draft.sheet(), draft.case(&mut random, 8));
+    let list = rearrangement(&mut random, 8);
+    on_a_small_stack(move || {
+        let (mut twin, mut form, mut again) = (case.clone(), case.clone(), case.clone());
+        assert_eq!(renumber(&sheet, &case, &list, &mut twin), Ok(case.len()));
+        assert!(twin != case);
+        assert_eq!(least_form(&sheet, &case, &mut form), Ok(case.len()));
+        assert_eq!(least_form(&sheet, &twin, &mut again), Ok(case.len()));
+        assert_eq!(form, again);
     });
 }
 

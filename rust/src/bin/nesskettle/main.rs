@@ -8,8 +8,10 @@ mod from_solver;
 mod merge;
 mod named;
 mod options;
+mod renumber;
 mod report;
 mod room;
+mod same;
 mod setting;
 mod stopped;
 mod symbols;
@@ -67,6 +69,18 @@ fn run(command: Command) -> Result<u8, Failure> {
             tables,
         } => from_solver::from_solver(&read_sheet(&sheet)?, size, &File::read(&answer)?, tables),
         Command::Setting { sheet, case } => setting::setting(&read_sheet(&sheet)?, &File::read(&case)?),
+        Command::Renumber {
+            sheet,
+            case,
+            list,
+            tables,
+        } => renumber::renumber(&read_sheet(&sheet)?, &File::read(&case)?, &list, tables),
+        Command::LeastForm { sheet, case, tables } => {
+            renumber::print_least_form(&read_sheet(&sheet)?, &File::read(&case)?, tables)
+        }
+        Command::Same { sheet, first, second } => {
+            same::same(&read_sheet(&sheet)?, &File::read(&first)?, &File::read(&second)?)
+        }
         Command::Find {
             sheet,
             low,

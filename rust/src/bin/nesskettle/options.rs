@@ -41,10 +41,17 @@ nesskettle: a finite model finder. Every answer is the proved library's.
   nesskettle merge FIRST SECOND
       prints one sheet made of two: the first's functions, predicates and clauses, each
       followed by the second's that are new
+  nesskettle renumber SHEET CASE LIST [--tables]
+      prints the case with its elements numbered otherwise, as LIST says
+  nesskettle least-form SHEET CASE [--tables]
+      prints the least case that any LIST makes of this one
+  nesskettle same SHEET CASE CASE
+      are the two one case with its elements numbered otherwise? prints answer=yes and
+      the first LIST that makes the second of the first, or answer=no
   nesskettle --help, nesskettle --version
 
 SHEET, CASE, SETTING, ANSWER and FILE are files; one of them may be -, standard
-input. FIRST and SECOND are SHEETs.
+input. FIRST and SECOND are SHEETs. A LIST is written on the command line.
 
 A SHEET may be a file of TPTP clauses instead, cnf(name, role, clause). with
 comments: one whose name ends in .p or .tptp, or any file with --tptp. A case
@@ -113,6 +120,12 @@ symbol, and leaves out each clause of the second sheet that the first has byte f
 byte. A case is a model of the merged sheet exactly if its tables for each sheet's
 symbols form a model of that sheet. Sheets that disagree on a name (refusal 22) are
 not merged, nor are those that are too large for one (refusal 23).
+
+A LIST has each of the digits from 1 to the case's size once (refusal 25). Element d
+becomes the digit that stands d-th in it, in arguments and in values: with 231, 1
+becomes 2, 2 becomes 3, and 3 becomes 1. Spaces and commas between the digits do not
+count. A case is a model exactly if it is one renumbered. same compares the least
+forms, which are equal exactly if some LIST makes one case of the other.
 
 None is settled where low is 1, no function takes an argument, and high is at
 least the number of constants.
@@ -187,6 +200,22 @@ pub enum Command {
         sheet: Sheet,
         case: String,
     },
+    Renumber {
+        sheet: Sheet,
+        case: String,
+        list: Vec<u8>,
+        tables: bool,
+    },
+    LeastForm {
+        sheet: Sheet,
+        case: String,
+        tables: bool,
+    },
+    Same {
+        sheet: Sheet,
+        first: String,
+        second: String,
+    },
     Find {
         sheet: Sheet,
         low: u64,
@@ -236,6 +265,33 @@ pub fn parse(arguments: impl Iterator<Item = String>) -> Result<Command, Failure
                 "judge" => Command::Judge { sheet, case },
                 "explain" => Command::Explain { sheet, case },
                 _ => Command::Setting { sheet, case },
+            })
+        }
+        "renumber" => {
+            let tables = rest.flag("--tables");
+            let [sheet, case, list] = rest.files("SHEET CASE LIST")?;
+            Ok(Command::Renumber {
+                sheet: sheet_in(sheet),
+                case,
+                list: list_in(&list)?,
+                tables,
+            })
+        }
+        "least-form" => {
+            let tables = rest.flag("--tables");
+            let [sheet, case] = rest.files("SHEET CASE")?;
+            Ok(Command::LeastForm {
+                sheet: sheet_in(sheet),
+                case,
+                tables,
+            })
+        }
+        "same" => {
+            let [sheet, first, second] = rest.files("SHEET CASE CASE")?;
+            Ok(Command::Same {
+                sheet: sheet_in(sheet),
+                first,
+                second,
             })
         }
         "clauses" => {
@@ -380,6 +436,16 @@ impl Rest {
             .try_into()
             .map_err(|_| wrong(&format!("the command takes {names}")))
     }
+}
+
+/// The digits of a list as numbers; spaces and commas between them do not count.
+fn list_in(word: &str) -> Result<Vec<u8>, Failure> {
+    let written = word.bytes().filter(|byte| !matches!(byte, b' ' | b','));
+    let digit = |byte: u8| match byte {
+        b'0'..=b'9' => Ok(byte - b'0'),
+        _ => Err(wrong("LIST is digits, 231 for example")),
+    };
+    written.map(digit).collect()
 }
 
 fn wrong(what: &str) -> Failure {

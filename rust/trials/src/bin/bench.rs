@@ -34,6 +34,8 @@ fn main() {
     symmetry(&bench);
     from_tptp(&bench);
     merge(&bench);
+    renumber(&bench);
+    least_form(&bench);
 }
 
 struct Bench {
@@ -348,6 +350,63 @@ fn merge(bench: &Bench) {
     bench.row("merge, 9 lines each", 10_000, None, |o| {
         assert_eq!((o.merge)(&small, &small, &mut output), Ok(small.len()));
     });
+}
+
+/// The group's table, and the most tables there can be.
+fn renumber(bench: &Bench) {
+    let mut output = GROUP_CASE.to_vec();
+    let list = [2, 3, 4, 5, 6, 1];
+    bench.row("renumber, group of 6", 1_000, None, |o| {
+        assert!((o.renumber)(sheet("group"), GROUP_CASE, &list, &mut output).is_ok())
+    });
+    let draft = Draft::most_cells();
+    let (sheet, case) = (draft.sheet(), draft.case(&mut Random::new(12), 8));
+    let list = [2, 3, 4, 5, 6, 7, 8, 1];
+    let mut output = case.clone();
+    let amount = Some((case.len() as f64 / 1e6, "MB"));
+    bench.row("renumber, 24 tables of 512 at size 8", 20, amount, |o| {
+        assert_eq!((o.renumber)(&sheet, &case, &list, &mut output), Ok(case.len()))
+    });
+}
+
+/// Tables of any entries, in which most rearrangements are told from the least at one of the first cells; and tables that every
+/// rearrangement leaves as they are, so that each is compared to the last cell: this takes longest.
+fn least_form(bench: &Bench) {
+    let group = sheet("group");
+    least_form_row(bench, "group of 6", group, GROUP_CASE, 100);
+    let table = sheet_of(&["f/2"], &[], &[]);
+    let any = Draft::of_sheet(&table).case(&mut Random::new(13), 8);
+    least_form_row(bench, "64 cells at size 8", &table, &any, 5);
+    let first = first_arguments(&Draft::of_sheet(&table), 8);
+    least_form_row(bench, "64 cells at size 8, longest", &table, &first, 1);
+    let draft = Draft::most_cells();
+    let most = draft.sheet();
+    let any = draft.case(&mut Random::new(14), 8);
+    least_form_row(bench, "12,288 cells at size 8", &most, &any, 5);
+    let first = first_arguments(&draft, 8);
+    least_form_row(bench, "12,288 cells at size 8, longest", &most, &first, 1);
+}
+
+fn least_form_row(bench: &Bench, name: &str, sheet: &[u8], case: &[u8], times: u32) {
+    let mut output = case.to_vec();
+    bench.row(&format!("least form, {name}"), times, None, |o| {
+        assert_eq!((o.least_form)(sheet, case, &mut output), Ok(case.len()))
+    });
+}
+
+/// The case in which every function's value is its first argument, and no predicate holds.
+fn first_arguments(draft: &Draft, size: usize) -> Vec<u8> {
+    let mut text = format!("case=1\nsize={size}\n");
+    for (place, symbol) in draft.symbols().enumerate() {
+        let cells = size.pow(symbol.arity as u32);
+        let entry = |cell: usize| match place < draft.functions.len() {
+            true => (1 + cell * size / cells).to_string(),
+            false => "0".to_string(),
+        };
+        let row: Vec<String> = (0..cells).map(entry).collect();
+        text += &format!("{}={}\n", symbol.name, row.join(" "));
+    }
+    text.into_bytes()
 }
 
 /// 64 clauses, about as long as they may be in a sheet, which are unlike in their ends; the last one ends in this letter.

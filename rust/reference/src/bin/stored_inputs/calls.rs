@@ -19,9 +19,9 @@ pub const fn largest(terms: Terms, symmetry: Symmetry) -> FindOptions {
 pub struct Call {
     /// Or TPTP clauses.
     pub sheet: Vec<u8>,
-    /// A case, a setting, a solver's answer, or a second sheet.
+    /// A case, a setting, a solver's answer, a second sheet, or a case and a list.
     pub beside: Vec<u8>,
-    /// Low, or the size.
+    /// Low, or the size, or the length of the case before a list.
     pub low: u64,
     pub high: u64,
     /// 0 where the operation takes none.

@@ -4,7 +4,7 @@ use crate::calls::{
     answered, file, finding, finding_plain, importing, judging, reading, reading_back, setting_of, writing, Call,
 };
 use crate::examples::{full, two_constants};
-use crate::merging;
+use crate::{merging, renumbering};
 use nesskettle_reference::sheet_of;
 
 /// The edges of the bytes that layouts, names and words allow.
@@ -32,6 +32,8 @@ pub fn of(operation: &str) -> Vec<Call> {
         "find" => one_of_each().into_iter().map(|s| finding(s, 0, 9, 3, 10)).collect(),
         "find_plain" => one_of_each().into_iter().map(|s| finding_plain(s, 0, 9, 10)).collect(),
         "merge" => merging::damaged(),
+        "renumber" => renumbering::damaged_renumbers(),
+        "least_form" => renumbering::damaged_least_forms(),
         other => panic!("no operation {other}"),
     }
 }
@@ -48,7 +50,7 @@ fn damage(old: &str, new: &str) -> Vec<u8> {
 }
 
 /// Refusals 1 to 7 and 12.
-fn judged() -> Vec<Call> {
+pub fn judged() -> Vec<Call> {
     let refused = one_of_each().into_iter().map(|s| judging(s, "case=2\n"));
     refused.chain(cases()).collect()
 }

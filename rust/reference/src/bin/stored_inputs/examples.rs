@@ -4,7 +4,7 @@ use crate::calls::{
     answered, file, finding, finding_plain, importing, judging, reading, reading_back, searching, setting_of, writing,
 };
 use crate::calls::{Call, TOLD_NO};
-use crate::merging;
+use crate::{merging, renumbering};
 use nesskettle_reference::sheet_of;
 use nesskettle_reference::{
     find_plain_within, from_tptp, instances_and_variables, needed, setting, write, WriteOptions,
@@ -23,6 +23,8 @@ pub fn of(operation: &str) -> Vec<Call> {
         "from_solver" => answers(),
         "explain" => judges().into_iter().chain(explains()).collect(),
         "merge" => merging::examples(),
+        "renumber" => renumbering::renumbers(),
+        "least_form" => renumbering::least_forms(),
         other => panic!("no operation {other}"),
     }
 }
@@ -357,7 +359,7 @@ fn settings() -> Vec<Call> {
 }
 
 /// As many cells as a case of this size can have, each table another.
-fn full_case(size: usize) -> Call {
+pub fn full_case(size: usize) -> Call {
     let declared = |key: &str| -> String {
         let lines: String = (0..12).map(|n| format!("{key}={key}{n}/3\n")).collect();
         format!("{key}s=12\n{lines}")

@@ -3,8 +3,9 @@
 //! vectors' own.
 //!
 //! An input is a line of seven numbers, then the bytes of a sheet or of TPTP clauses and those of a case, a setting, a
-//! solver's answer or a second sheet. The numbers are the lengths of the two, size or low, high, the allowance, and the lengths
-//! of the work and the output that are lent; those that an operation does not take are 0.
+//! solver's answer, a second sheet, or a case and a list behind it. The numbers are the lengths of the two, size or low or the
+//! length of the case before a list, high, the allowance, and the lengths of the work and the output that are lent; those that
+//! an operation does not take are 0.
 
 mod allowance;
 mod calls;
@@ -12,11 +13,13 @@ mod damaged;
 mod examples;
 mod merging;
 mod named;
+mod renumbering;
 mod symmetry;
 
 use calls::Call;
 use nesskettle_reference::vectors::{self, patterned_bytes, patterned_numbers, Vector};
 use nesskettle_reference::{explain, find, find_plain, from_solver, from_tptp, judge, read, read_back, setting, write};
+use nesskettle_reference::{least_form, renumber};
 use nesskettle_reference::{merge, MergeRefusal};
 use nesskettle_reference::{FindOptions, Symmetry, Terms, WriteOptions};
 use nesskettle_reference::{FirstFailure, Refusal, Search, SolverAnswer, OPERATIONS};
@@ -33,7 +36,7 @@ const MOST_STORED: usize = 100;
 const MOST_SHEET: usize = 700;
 
 /// The files of inputs, in the order in which the program takes them.
-const OPERATIONS_IN_ORDER: [&str; 18] = [
+const OPERATIONS_IN_ORDER: [&str; 20] = [
     "read",
     "judge",
     "write",
@@ -52,6 +55,8 @@ const OPERATIONS_IN_ORDER: [&str; 18] = [
     "write_named_symmetry",
     "find_named_symmetry",
     "merge",
+    "renumber",
+    "least_form",
 ];
 
 fn main() -> io::Result<()> {
@@ -114,10 +119,12 @@ fn stored(is_taken: impl Fn(&Vector) -> bool) -> Vec<Call> {
         } else {
             (bytes("text"), Vec::new())
         };
+        // a list stands behind its case, whose length is told
+        let before_list = if v.inputs.has("list") { bytes("case").len() } else { 0 };
         let call = Call {
             sheet: [bytes("sheet"), clauses, bytes("first")].concat(),
-            beside: [bytes("case"), bytes("setting"), answer, bytes("second")].concat(),
-            low: number("low") + number("size"),
+            beside: [bytes("case"), bytes("list"), bytes("setting"), answer, bytes("second")].concat(),
+            low: number("low") + number("size") + before_list as u64,
             high: number("high"),
             allowance: v.allowance(),
             work: number("work"),
@@ -180,6 +187,11 @@ fn answer(operation: &str, call: &Call) -> Vec<u8> {
             find(sheet, call.low, call.high, options, &mut work, &mut output).map(found_by_choices)
         }
         "find_plain" => find_plain(sheet, call.low, call.high, &mut output).map(found),
+        "renumber" => {
+            let (case, list) = beside.split_at(call.low as usize);
+            renumber(sheet, case, list, &mut output).map(written)
+        }
+        "least_form" => least_form(sheet, beside, &mut output).map(written),
         other => panic!("no operation {other}"),
     };
     let length = told.as_ref().map_or(0, |(_, length)| length.unwrap_or(0));

@@ -1,0 +1,4 @@
+pub mod Entries
+pub mod Keeping
+pub mod Candidates
+pub mod All

@@ -1,0 +1,2 @@
+-- What is proved of the definitions; proofs/ has its proof under the same name.
+pub mod RenumberedCases

@@ -1,0 +1,3 @@
+pub mod RenumberedCases
+pub mod Examples
+pub mod Claims
