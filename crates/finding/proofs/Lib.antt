@@ -1,4 +1,3 @@
-pub mod Constants
 pub mod FirstValues
 pub mod Fitting
 pub mod Searched
@@ -6,5 +5,4 @@ pub mod Found
 pub mod SizeBySize
 pub mod Endings
 pub mod WritingFound
-pub mod Ranges
 pub mod Refusing

@@ -34,7 +34,7 @@ use Rattle.syntax.specs.declared.signature.Signature.{Signature}
 use Rattle.syntax.specs.Signatures.{signatureIn, withoutHelpers}
 use Rattle.problem.specs.Problems.{problemIn}
 use Rattle.problem.specs.Modes.{Shows}
-use Rattle.finding.specs.Ranges.{areSizes}
+use Rattle.ranges.specs.Ranges.{areSizes}
 use Rattle.finding.specs.Ending.{foundIn, foundWithin, Ranged, Sizes}
 
 module _ (used : Bool) (p : Problem) (low high allowance work room : ℕ) where

@@ -1,4 +1,3 @@
 pub mod Calls
 pub mod Searching
-pub mod Ranges
 pub mod Ending

@@ -2,8 +2,6 @@
 pub mod allowed;
 pub mod first_values;
 pub mod one_size;
-pub mod range;
-pub mod settled;
 pub mod sizes;
 
 use allowed::AllowedAnswer;
@@ -14,8 +12,8 @@ use columns::sheet::refusal_in;
 use counts::Counts;
 use counts::counts_at;
 use problem::modes::read_in;
-use range::RangeCheck;
-use range::checked_range;
+use ranges::range::RangeCheck;
+use ranges::range::checked_range;
 use sizes::search_sizes;
 use syntax::limits::Problem;
 use syntax::signature::Signature;

@@ -1,8 +1,8 @@
 // The search size by size: the smallest that has a model decides, and the choices that are left are handed on.
 use crate::allowed::AllowedAnswer;
 use crate::one_size::search_size;
-use crate::settled::is_settled;
 use loading::clear_all;
+use ranges::settled::is_settled;
 use reading_back::writing::write_case;
 use syntax::limits::Problem;
 use syntax::size::DomainSize;

@@ -24,7 +24,7 @@ use Rattle.answers.specs.declared.FindAnswer.{FindAnswer}
 use Rattle.answers.specs.declared.FindAnswer.the-variants as find
 use Rattle.answers.specs.Answers.{refusalIn, findIn}
 use Rattle.answers.specs.Calls.{PlainSearchingCall}
-use Rattle.finding.specs.Ranges.{areSizes}
+use Rattle.ranges.specs.Ranges.{areSizes}
 use Rattle.plain.specs.Ending.{foundWithin, foundIn}
 
 -- what is found, known

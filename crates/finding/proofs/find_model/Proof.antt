@@ -12,7 +12,7 @@ use Rattle.problem.specs.Problems.{problemIn}
 use Rattle.problem.proofs.ModeRead.{read-shows, mode-accepted, mode-refused}
 use Rattle.problem.proofs.Told.{told, accepted-told, problem-told}
 use Rattle.finding.specs.Ending.{foundIn}
-use Rattle.finding.proofs.Ranges.{range-bounds, range-taken, range-refused}
+use Rattle.ranges.proofs.Ranges.{range-bounds, range-taken, range-refused}
 use Rattle.finding.proofs.Endings.{ends-as, ends-refused}
 use Rattle.finding.proofs.Refusing.{result-refused, result-8, result-read}
 use borrow.Author.Needs.{needs}

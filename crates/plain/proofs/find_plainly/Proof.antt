@@ -8,7 +8,7 @@ use Rattle.theory.specs.PlainSearch.{plainResult}
 use Rattle.answers.specs.Answers.{refusalIn}
 use Rattle.problem.specs.Problems.{problemIn}
 use Rattle.problem.proofs.SheetRead.{sheet-accepted, sheet-placed, sheet-refused}
-use Rattle.finding.proofs.Ranges.{range-bounds, range-taken, range-refused}
+use Rattle.ranges.proofs.Ranges.{range-bounds, range-taken, range-refused}
 use Rattle.plain.specs.Ending.{foundIn}
 use Rattle.plain.proofs.Endings.{ends-as, ends-refused, result-refused, result-8, result-read}
 use borrow.Author.Needs.{needs}

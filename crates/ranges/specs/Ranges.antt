@@ -1,10 +1,10 @@
--- Low and high, as Find checks them.
+-- Low and high, as both searches check them.
 use Prim.Native.Nat.{ℕ}
 use mathlib.Core.Bool.{Bool, cond, _&&_}
 use lib.Dec.{leb}
 use Rattle.theory.specs.Operations.{maxSize}
-use Rattle.finding.specs.declared.range.RangeCheck.{RangeCheck}
-use Rattle.finding.specs.declared.range.RangeCheck.the-variants.{Is, Refused}
+use Rattle.ranges.specs.declared.range.RangeCheck.{RangeCheck}
+use Rattle.ranges.specs.declared.range.RangeCheck.the-variants.{Is, Refused}
 
 -- low to high are sizes: 1 to 8, in order
 abbrev pub areSizes : ℕ → ℕ → Bool

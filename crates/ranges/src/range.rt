@@ -1,8 +1,8 @@
-// Low and high: the sizes that Find searches.
+// Low and high: the sizes that are searched.
 use syntax::size::DomainSize;
 use syntax::size::SizeCheck;
 ghost use mathlib.Core.Path.{_≡_};
-ghost use Rattle.finding.specs.Ranges.{checkedRange};
+ghost use Rattle.ranges.specs.Ranges.{checkedRange};
 
 // The least and the largest size.
 pub enum RangeCheck {
