@@ -2,9 +2,7 @@
 // `finding/specs/Calls`, From TPTP's of `importing/specs/Calls`, From solver's of `accepting/specs/Calls`, Merge's of `uniting/specs/Calls`, Renumber's and Least form's of `case_forms/specs/Calls`): equations
 // with the definitions of `theory/specs/Operations`, `naming/specs/NamedOperations`, `symmetry/specs/SymmetricOperations`, `allowance/specs/AllowedFind`, `theory/specs/PlainSearch`, `tptp/specs/Tptp`,
 // `solver/specs/SolverText`, `sheet_merging/specs/Merging` and `renumbered_cases/specs/RenumberedCases`, where `answers/specs/Answers` says what each answer means. What is lent as `&` cannot change; what is
-// lent as `&mut` is told to the last byte and number. The demands (`specs/Demand1` to `specs/Demand3`) and what is asked of From TPTP (`specs/FromTptp`), From solver (`specs/FromSolver`), Merge (`specs/Merges`),
-// Explain (`specs/Explains`), Setting (`specs/Settings`), Renumber and Least form (`specs/Renumbers`), what settled means (`specs/Settles`), that Find and Find plain answer the same (`specs/SameAnswers`), what
-// the mode of named terms (`specs/Named`), the constant clauses (`specs/Symmetry`) and the allowance (`specs/Allowance`) do to the answers, and where refusals point (`specs/Columns`), are proved of these records.
+// lent as `&mut` is told to the last byte and number. What the promises come to, the three demands and what is asked of each call, is proved of these records in `theorems/specs`.
 mod reading;
 
 use accepting::SolverAnswer;

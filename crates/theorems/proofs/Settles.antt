@@ -1,0 +1,31 @@
+-- Settles, of the calls, from what is proved of the search's definition.
+use Prim.Native.Nat.{ℕ}
+use mathlib.Core.Path.{_≡_, sym, ap, _∙_}
+use mathlib.Core.Bool.{Bool, true, false}
+use mathlib.Core.List.{List}
+use lib.ListN.{length}
+use Rattle.theory.specs.Refusals.{answer}
+use Rattle.theory.specs.Problem.{Problem}
+use Rattle.theory.specs.Operations.{nothing}
+use Rattle.theory.specs.Claims.Settling.{Unsatisfiable}
+use Rattle.theory.proofs.Settling.{settling}
+use Rattle.naming.specs.NamedOperations.{readProblemIn}
+use Rattle.naming.proofs.FindsLeast.{named-finds-least}
+use Rattle.symmetry.specs.SymmetricOperations.{findResultWith}
+use Rattle.symmetry.proofs.FindsObeying.{finds-obeying}
+use Rattle.answers.specs.Answers.{findIn}
+use Rattle.theorems.specs.Settles.{SettlesHolds}
+use Rattle.theorems.proofs.Unstopped.{unstopped, none-taken}
+use Rattle.theorems.proofs.Demand2.{no-case}
+
+none-in : (named symmetry : Bool) (sheet : List ℕ) (p : Problem) (low high work room : ℕ) → readProblemIn named sheet ≡ answer p
+    → findResultWith named symmetry sheet low high work room ≡ answer (nothing true) → Unsatisfiable p
+none-in false false sheet p low high work room read e = settling sheet p low high work room read e
+none-in true false sheet p low high work room read e = named-finds-least sheet p low high work room read .settles e
+none-in named true sheet p low high work room read e = finds-obeying named sheet p low high work room read .settles e
+
+pub settles : SettlesHolds
+settles sheet p low high named symmetry read r work work′ output output′ f e =
+    let c = unstopped sheet low high named symmetry r work work′ output output′ f (none-taken r true e) in
+    none-in named symmetry sheet p low high (length work) (length output) read
+    (no-case (findResultWith named symmetry sheet low high (length work) (length output)) true (sym (c .answer) ∙ ap findIn e))
