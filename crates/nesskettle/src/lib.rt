@@ -3,8 +3,6 @@
 // with the definitions of `theory/specs/Operations`, `naming/specs/NamedOperations`, `symmetry/specs/SymmetricOperations`, `allowance/specs/AllowedFind`, `theory/specs/PlainSearch`, `tptp/specs/Tptp`,
 // `solver/specs/SolverText`, `sheet_merging/specs/Merging` and `renumbered_cases/specs/RenumberedCases`, where `answers/specs/Answers` says what each answer means. What is lent as `&` cannot change; what is
 // lent as `&mut` is told to the last byte and number. What the promises come to, the three demands and what is asked of each call, is proved of these records in `theorems/specs`.
-mod reading;
-
 use accepting::SolverAnswer;
 use accepting::accept_answer;
 use answers::ExplainAnswer;
@@ -20,6 +18,7 @@ use importing::import_clauses;
 use judging::explain::explain_case;
 use judging::verdict::judge_case;
 use plain::find_plainly;
+use reading::read_counts;
 use reading_back::setting::read_setting_back;
 use settings::setting::write_case_setting;
 use uniting::merge::MergeAnswer;
@@ -36,7 +35,7 @@ ghost use Rattle.uniting.specs.Calls.{MergeCall};
 pub fn read(sheet: &[u8]) -> ReadAnswer
     ensures { λ r. ⌜ ReadCall (now (sheet .entry)) r ⌝ }
 {
-    reading::counts(sheet)
+    read_counts(sheet)
 }
 
 // Judge: whether the case is a model of the sheet.

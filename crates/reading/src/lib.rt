@@ -6,7 +6,7 @@ ghost use mathlib.Core.Path.{_≡_};
 ghost use Rattle.theory.specs.Operations as theory;
 ghost use Rattle.answers.specs.Answers.{readIn};
 
-pub fn counts(sheet: &[u8]) -> ReadAnswer
+pub fn read_counts(sheet: &[u8]) -> ReadAnswer
     ensures { λ r. ⌜ readIn r ≡ theory.readAnswer (now (sheet .entry)) ⌝ }
 {
     let r = read_problem(sheet);

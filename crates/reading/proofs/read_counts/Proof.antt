@@ -1,13 +1,13 @@
--- `counts` meets its contract: the sheet's refusals, then its counts.
+-- `read_counts` meets its contract: the sheet's refusals, then its counts.
 use mathlib.Core.Path.{refl, sym, ap, _∙_}
 use borrow.Author.Needs.{needs}
 use Rattle.theory.specs.Refusals.{answer}
 use Rattle.theory.specs.Operations.{readAnswer}
 use Rattle.theory.proofs.Answers.{bind-step, bind-refused}
 use Rattle.problem.proofs.SheetRead.{sheet-placed, sheet-refused}
-use Rattle.nesskettle.proofs.Counts.{functions-within, counted}
-use Rattle.nesskettle.proofs.reading.counts.Statement.{statement}
-use Rattle.nesskettle.proofs.reading.counts.Tie as tie
+use Rattle.reading.proofs.Counts.{functions-within, counted}
+use Rattle.reading.proofs.read_counts.Statement.{statement}
+use Rattle.reading.proofs.read_counts.Tie as tie
 
 read-problem-requires : tie.Need-read-problem-requires
 read-problem-requires c κs = search needs
@@ -34,5 +34,5 @@ returns-2 c =
     ap answer (counted (z .args .sheet .now) (r .result .problem) (r .ensures .1 (c .before .before .if1 .left)))
     ∙ sym (bind-step _ _ _ _ (sheet-placed (z .args .sheet .now) (r .result) (r .ensures .0) (c .before .before .if1 .left)) refl)
 
-pub counts-spec : {M : Type 1} → statement M
-counts-spec = tie.close (tie.spec read-problem-requires sheet-refusal-requires returns sub-t6 returns-2)
+pub read-counts-spec : {M : Type 1} → statement M
+read-counts-spec = tie.close (tie.spec read-problem-requires sheet-refusal-requires returns sub-t6 returns-2)
