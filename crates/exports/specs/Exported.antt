@@ -15,10 +15,10 @@ use Rattle.renumbered_cases.specs.RenumberedCases.{renumberedText, leastFormTex
 use Rattle.tptp.specs.Tptp.{tptpText}
 use Rattle.solver.specs.SolverText.{solverText, solverAnswer, solverOutput}
 use Rattle.sheet_merging.specs.Merging.{mergedText, whichSheet}
-use Rattle.exports.specs.declared.WriteOut.{WriteOut}
-use Rattle.exports.specs.declared.FindOut.{FindOut}
-use Rattle.exports.specs.declared.MergeOut.{MergeOut}
-use Rattle.exports.specs.Layouts.{writeOut, solverOut, mergeOut, findOut, plainOut}
+use Rattle.layouts.specs.declared.WriteOut.{WriteOut}
+use Rattle.layouts.specs.declared.FindOut.{FindOut}
+use Rattle.layouts.specs.declared.MergeOut.{MergeOut}
+use Rattle.layouts.specs.Layouts.{writeOut, solverOut, mergeOut, findOut, plainOut}
 
 -- a call that writes this text, or is refused
 pub record WritingExport (text : Answer (List ℕ)) (r : WriteOut) (output output′ : List ℕ) : Type 0 where

@@ -1,118 +1,28 @@
-// The operations for C: `include/nesskettle.h` has the declarations. Each answer is a struct of numbers; outcome 0 is always "refused", and a
-// field that an outcome does not speak of is 0.
-use accepting::SolverAnswer;
-use answers::ExplainAnswer;
-use answers::FindAnswer;
-use answers::JudgeAnswer;
-use answers::ReadAnswer;
-use answers::WriteAnswer;
-use finding::allowed::AllowedAnswer;
-use syntax::limits::Problem;
-use uniting::merge::MergeAnswer;
+// The operations for C: `include/nesskettle.h` has the declarations. Each entry is its call, and the answer laid out as a struct of numbers (`layouts`).
+use layouts::ExplainOut;
+use layouts::FindOut;
+use layouts::JudgeOut;
+use layouts::MergeOut;
+use layouts::ReadOut;
+use layouts::WriteOut;
+use layouts::explain_out;
+use layouts::find_out;
+use layouts::judge_out;
+use layouts::merge_out;
+use layouts::plain_out;
+use layouts::read_out;
+use layouts::solver_out;
+use layouts::write_out;
 ghost use mathlib.Core.Path.{_≡_};
-ghost use mathlib.Core.Bool.{cond};
-ghost use mathlib.Core.Option.{Option};
-ghost use Rattle.answers.specs.Answers.{readIn, judgeIn, lengthIn, findIn};
-ghost use Rattle.answers.specs.Calls.{ReasoningCall};
-ghost use Rattle.theory.specs.Refusals.{Answer};
 ghost use Rattle.theory.specs.Operations as theory;
-ghost use Rattle.accepting.specs.Calls.{solverIn};
-ghost use Rattle.finding.specs.Calls.{allowedIn};
 ghost use Rattle.exports.specs.Exported.{FindExport, FromSolverExport, LeastFormExport, MergeExport, PlainExport, ReadBackExport, RenumberExport, SettingExport, TptpExport, WriteExport};
-ghost use Rattle.exports.specs.Layouts.{readOut, judgeOut, explainOut, writeOut, solverOut, mergeOut, resultOut, findOut, plainOut};
-
-#[repr(C)]
-pub struct ReadOut {
-    pub outcome: u32,
-    pub reason: u32,
-    pub line: u64,
-    pub column: u64,
-    pub funs: u64,
-    pub preds: u64,
-    pub clauses: u64,
-}
-
-#[repr(C)]
-pub struct JudgeOut {
-    pub outcome: u32,
-    pub reason: u32,
-    pub line: u64,
-    pub column: u64,
-}
-
-#[repr(C)]
-pub struct ExplainOut {
-    pub outcome: u32,
-    pub reason: u32,
-    pub line: u64,
-    pub column: u64,
-    pub clause: u64,
-    pub count: u64,
-    pub letters: [u8; Problem::MAX_LETTERS],
-    pub values: [u8; Problem::MAX_LETTERS],
-}
-
-#[repr(C)]
-pub struct WriteOut {
-    pub outcome: u32,
-    pub reason: u32,
-    pub line: u64,
-    pub column: u64,
-    pub length: u64,
-}
-
-#[repr(C)]
-pub struct FindOut {
-    pub outcome: u32,
-    pub reason: u32,
-    pub line: u64,
-    pub column: u64,
-    pub size: u64,
-    pub length: u64,
-    pub choices: u64,
-    pub settled: u32,
-}
-
-#[repr(C)]
-pub struct MergeOut {
-    pub outcome: u32,
-    pub reason: u32,
-    pub line: u64,
-    pub column: u64,
-    pub length: u64,
-    pub sheet: u32,
-}
+ghost use Rattle.layouts.specs.Layouts.{readOut, judgeOut, explainOut};
 
 #[no_mangle]
 pub extern "C" fn nk_read(sheet: &[u8]) -> ReadOut
     ensures { λ r. ⌜ r ≡ readOut (theory.readAnswer (now (sheet .entry))) ⌝ }
 {
     read_out(nesskettle::read(sheet))
-}
-
-fn read_out(answer: ReadAnswer) -> ReadOut
-    ensures { λ r. ⌜ r ≡ readOut (readIn answer) ⌝ }
-{
-    match answer {
-        ReadAnswer::Counts(functions, predicates, clauses) => ReadOut {
-            outcome: 1,
-            reason: 0,
-            line: 0,
-            column: 0,
-            funs: functions as u64,
-            preds: predicates as u64,
-            clauses: clauses as u64,
-        },
-        ReadAnswer::Refused(r) => ReadOut {
-            outcome: 0,
-            reason: r.number as u32,
-            line: r.line as u64,
-            column: r.column as u64,
-            funs: 0,
-            preds: 0,
-            clauses: 0,
-        },
-    }
 }
 
 #[no_mangle]
@@ -122,57 +32,11 @@ pub extern "C" fn nk_judge(sheet: &[u8], case: &[u8]) -> JudgeOut
     judge_out(nesskettle::judge(sheet, case))
 }
 
-fn judge_out(answer: JudgeAnswer) -> JudgeOut
-    ensures { λ r. ⌜ r ≡ judgeOut (judgeIn answer) ⌝ }
-{
-    match answer {
-        JudgeAnswer::Yes => JudgeOut {
-            outcome: 1,
-            reason: 0,
-            line: 0,
-            column: 0,
-        },
-        JudgeAnswer::No => JudgeOut {
-            outcome: 2,
-            reason: 0,
-            line: 0,
-            column: 0,
-        },
-        JudgeAnswer::Refused(r) => JudgeOut {
-            outcome: 0,
-            reason: r.number as u32,
-            line: r.line as u64,
-            column: r.column as u64,
-        },
-    }
-}
-
 #[no_mangle]
 pub extern "C" fn nk_explain(sheet: &[u8], case: &[u8]) -> ExplainOut
     ensures { λ r. ⌜ r ≡ explainOut (theory.explainAnswer (now (sheet .entry)) (now (case .entry))) ⌝ }
 {
     explain_out(nesskettle::explain(sheet, case))
-}
-
-// Judge's struct, and the reason behind it.
-fn explain_out(answer: ExplainAnswer) -> ExplainOut
-    ensures { λ r. ⌜ ((a : Answer (Option theory.Reason)) → ReasoningCall a answer → r ≡ explainOut a) ⌝ }
-{
-    let verdict = answer.verdict;
-    let reason = answer.reason;
-    let letters = reason.letters;
-    let values = reason.values;
-    let judged = judge_out(verdict);
-    ExplainOut {
-        outcome: judged.outcome,
-        reason: judged.reason,
-        line: judged.line,
-        column: judged.column,
-        clause: reason.clause as u64,
-        count: reason.count as u64,
-        letters,
-        values,
-    }
 }
 
 #[no_mangle]
@@ -186,27 +50,6 @@ pub extern "C" fn nk_write(
     ensures { λ r. ⌜ WriteExport (now (sheet .entry)) size named symmetry r (now (output .entry)) (now (output .exit)) ⌝ }
 {
     write_out(nesskettle::write(sheet, size, named != 0, symmetry != 0, output))
-}
-
-fn write_out(answer: WriteAnswer) -> WriteOut
-    ensures { λ r. ⌜ r ≡ writeOut (lengthIn answer) ⌝ }
-{
-    match answer {
-        WriteAnswer::Written(n) => WriteOut {
-            outcome: 1,
-            reason: 0,
-            line: 0,
-            column: 0,
-            length: n as u64,
-        },
-        WriteAnswer::Refused(r) => WriteOut {
-            outcome: 0,
-            reason: r.number as u32,
-            line: r.line as u64,
-            column: r.column as u64,
-            length: r.needed as u64,
-        },
-    }
 }
 
 #[no_mangle]
@@ -276,63 +119,6 @@ pub extern "C" fn nk_find_plain(sheet: &[u8], low: u64, high: u64, output: &mut 
     plain_out(nesskettle::find_plain(sheet, low, high, output))
 }
 
-fn find_out(answer: AllowedAnswer) -> FindOut
-    ensures { λ r. ⌜ r ≡ findOut (allowedIn answer) ⌝ }
-{
-    match answer {
-        AllowedAnswer::Found(size, n, choices) => result_out(1, size, n as u64, choices, 0),
-        AllowedAnswer::Nothing(mark, choices) => result_out(2, 0, 0, choices, number_of(mark)),
-        AllowedAnswer::Stopped(size, choices) => result_out(3, size, 0, choices, 0),
-        AllowedAnswer::Refused(r) => FindOut {
-            outcome: 0,
-            reason: r.number as u32,
-            line: r.line as u64,
-            column: r.column as u64,
-            size: 0,
-            length: r.needed as u64,
-            choices: 0,
-            settled: 0,
-        },
-    }
-}
-
-// A result of Find.
-fn result_out(outcome: u32, size: u64, length: u64, choices: u64, settled: u32) -> FindOut
-    ensures { λ r. ⌜ r ≡ resultOut outcome size length choices settled ⌝ }
-{
-    FindOut {
-        outcome,
-        reason: 0,
-        line: 0,
-        column: 0,
-        size,
-        length,
-        choices,
-        settled,
-    }
-}
-
-// Find plain makes no choices of Find's kind.
-fn plain_out(answer: FindAnswer) -> FindOut
-    ensures { λ r. ⌜ r ≡ plainOut (findIn answer) ⌝ }
-{
-    match answer {
-        FindAnswer::Found(size, n) => find_out(AllowedAnswer::Found(size, n, 0)),
-        FindAnswer::Nothing(settled) => find_out(AllowedAnswer::Nothing(settled, 0)),
-        FindAnswer::Refused(r) => find_out(AllowedAnswer::Refused(r)),
-    }
-}
-
-// Yes as 1, no as 0.
-fn number_of(mark: bool) -> u32
-    ensures { λ r. ⌜ r ≡ cond mark 1 0 ⌝ }
-{
-    if mark {
-        return 1;
-    }
-    0
-}
-
 #[no_mangle]
 pub extern "C" fn nk_from_tptp(text: &[u8], output: &mut [u8]) -> WriteOut
     ensures { λ r. ⌜ TptpExport (now (text .entry)) r (now (output .entry)) (now (output .exit)) ⌝ }
@@ -352,53 +138,9 @@ pub extern "C" fn nk_from_solver(
     solver_out(nesskettle::from_solver(sheet, size, text, output))
 }
 
-fn solver_out(answer: SolverAnswer) -> WriteOut
-    ensures { λ r. ⌜ r ≡ solverOut (solverIn answer) ⌝ }
-{
-    match answer {
-        SolverAnswer::Case(n) => WriteOut {
-            outcome: 1,
-            reason: 0,
-            line: 0,
-            column: 0,
-            length: n as u64,
-        },
-        SolverAnswer::ClaimedNone => WriteOut {
-            outcome: 2,
-            reason: 0,
-            line: 0,
-            column: 0,
-            length: 0,
-        },
-        SolverAnswer::Refused(r) => WriteOut {
-            outcome: 0,
-            reason: r.number as u32,
-            line: r.line as u64,
-            column: r.column as u64,
-            length: r.needed as u64,
-        },
-    }
-}
-
 #[no_mangle]
 pub extern "C" fn nk_merge(first: &[u8], second: &[u8], output: &mut [u8]) -> MergeOut
     ensures { λ r. ⌜ MergeExport (now (first .entry)) (now (second .entry)) r (now (output .entry)) (now (output .exit)) ⌝ }
 {
     merge_out(nesskettle::merge(first, second, output))
-}
-
-// Write's struct, and the sheet behind it.
-fn merge_out(answer: MergeAnswer) -> MergeOut
-    ensures { λ r. ⌜ r ≡ mergeOut (lengthIn (answer .answer)) (answer .sheet) ⌝ }
-{
-    let said = answer.answer;
-    let written = write_out(said);
-    MergeOut {
-        outcome: written.outcome,
-        reason: written.reason,
-        line: written.line,
-        column: written.column,
-        length: written.length,
-        sheet: answer.sheet,
-    }
 }

@@ -1,5 +1,6 @@
+-- `nk_find_plain` says what the call says.
 use mathlib.Core.Path.{ap, _∙_}
-use Rattle.exports.specs.Layouts.{plainOut}
+use Rattle.layouts.specs.Layouts.{plainOut}
 use borrow.Author.Needs.{needs}
 use Rattle.exports.proofs.nk_find_plain.Statement.{statement}
 use Rattle.exports.proofs.nk_find_plain.Tie as tie

@@ -1,7 +1,7 @@
 -- `nk_from_solver` says what the call says.
 use borrow.Author.Needs.{needs}
 use mathlib.Core.Path.{ap, _∙_}
-use Rattle.exports.specs.Layouts.{solverOut}
+use Rattle.layouts.specs.Layouts.{solverOut}
 use Rattle.exports.proofs.nk_from_solver.Statement.{statement}
 use Rattle.exports.proofs.nk_from_solver.Tie as tie
 

@@ -1,7 +1,7 @@
 -- `nk_from_tptp` says what the call says.
 use borrow.Author.Needs.{needs}
 use mathlib.Core.Path.{ap, _∙_}
-use Rattle.exports.specs.Layouts.{writeOut}
+use Rattle.layouts.specs.Layouts.{writeOut}
 use Rattle.exports.proofs.nk_from_tptp.Statement.{statement}
 use Rattle.exports.proofs.nk_from_tptp.Tie as tie
 

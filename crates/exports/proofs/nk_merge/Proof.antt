@@ -5,7 +5,7 @@ use lib.ListN.{length}
 use Rattle.theory.specs.Refusals.{Answer}
 use Rattle.theory.specs.Operations.{lengthAnswer}
 use Rattle.sheet_merging.specs.Merging.{mergedText}
-use Rattle.exports.specs.Layouts.{mergeOut}
+use Rattle.layouts.specs.Layouts.{mergeOut}
 use borrow.Author.Needs.{needs}
 use Rattle.exports.proofs.nk_merge.Statement.{statement}
 use Rattle.exports.proofs.nk_merge.Tie as tie

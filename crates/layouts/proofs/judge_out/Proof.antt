@@ -1,37 +1,29 @@
+-- `judge_out`: each answer as its struct.
 use mathlib.Core.Path.{sym, ap}
 use Rattle.answers.specs.Answers.{judgeIn}
-use Rattle.exports.specs.Layouts.{judgeOut}
+use Rattle.layouts.specs.Layouts.{judgeOut}
 use borrow.Author.Needs.{needs}
-use Rattle.exports.proofs.judge_out.Statement.{statement}
-use Rattle.exports.proofs.judge_out.Tie as tie
-use Rattle.exports.proofs.judge_out.Reads as reads
-use Rattle.exports.proofs.judge_out.Lts as lts
+use Rattle.layouts.proofs.judge_out.Statement.{statement}
+use Rattle.layouts.proofs.judge_out.Tie as tie
 
--- src/lib.rt:92:29
 enum-told : tie.Need-enum-told
 enum-told c = search needs
 
--- src/lib.rt:97:28
 enum-told-2 : tie.Need-enum-told-2
 enum-told-2 c = search needs
 
--- src/lib.rt:102:30
 enum-known-answer : tie.Need-enum-known-answer
 enum-known-answer c = search needs
 
--- src/lib.rt:104:21
 cast-t4 : tie.Need-cast-t4
 cast-t4 c = search needs
 
--- src/lib.rt:88:1
 returns : tie.Need-returns
 returns c = sym (ap (λ a. judgeOut (judgeIn a)) (c .enum-told .given .1))
 
--- src/lib.rt:88:1
 returns-2 : tie.Need-returns-2
 returns-2 c = sym (ap (λ a. judgeOut (judgeIn a)) (c .enum-told2 .given .1))
 
--- src/lib.rt:88:1
 returns-3 : tie.Need-returns-3
 returns-3 c = sym (ap (λ a. judgeOut (judgeIn a)) (c .before .before .answer .given .1))
 

@@ -1,8 +1,8 @@
 -- `explain_out` lays Judge's struct and the reason out.
 use borrow.Author.Needs.{needs}
-use Rattle.exports.proofs.ExplainLaid.{laid-out}
-use Rattle.exports.proofs.explain_out.Statement.{statement}
-use Rattle.exports.proofs.explain_out.Tie as tie
+use Rattle.layouts.proofs.ExplainLaid.{laid-out}
+use Rattle.layouts.proofs.explain_out.Statement.{statement}
+use Rattle.layouts.proofs.explain_out.Tie as tie
 
 judge-out-requires : tie.Need-judge-out-requires
 judge-out-requires c κs = search needs

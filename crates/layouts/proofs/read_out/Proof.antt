@@ -1,29 +1,23 @@
+-- `read_out`: each answer as its struct.
 use mathlib.Core.Path.{sym, ap}
 use Rattle.answers.specs.Answers.{readIn}
-use Rattle.exports.specs.Layouts.{readOut}
+use Rattle.layouts.specs.Layouts.{readOut}
 use borrow.Author.Needs.{needs}
-use Rattle.exports.proofs.read_out.Statement.{statement}
-use Rattle.exports.proofs.read_out.Tie as tie
-use Rattle.exports.proofs.read_out.Reads as reads
-use Rattle.exports.proofs.read_out.Lts as lts
+use Rattle.layouts.proofs.read_out.Statement.{statement}
+use Rattle.layouts.proofs.read_out.Tie as tie
 
--- src/lib.rt:62:28
 enum-known-answer : tie.Need-enum-known-answer
 enum-known-answer c = search needs
 
--- src/lib.rt:70:29
 enum-known-answer-2 : tie.Need-enum-known-answer-2
 enum-known-answer-2 c = search needs
 
--- src/lib.rt:72:21
 cast-t10 : tie.Need-cast-t10
 cast-t10 c = search needs
 
--- src/lib.rt:58:1
 returns : tie.Need-returns
 returns c = sym (ap (λ a. readOut (readIn a)) (c .before .answer .given .1))
 
--- src/lib.rt:58:1
 returns-2 : tie.Need-returns-2
 returns-2 c = sym (ap (λ a. readOut (readIn a)) (c .before .before .answer2 .given .1))
 

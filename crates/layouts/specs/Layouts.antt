@@ -6,13 +6,13 @@ use Rattle.theory.specs.Refusals.{Answer, answer, refused}
 use Rattle.theory.specs.Operations.{Counts, Reason, Found, foundCase, noCase}
 use Rattle.allowance.specs.AllowedFind.{Stoppable, finished, stopped}
 use Rattle.solver.specs.SolverText.{Outcome, modelCase, claimedNone}
-use Rattle.exports.specs.declared.ReadOut.{ReadOut}
-use Rattle.exports.specs.declared.JudgeOut.{JudgeOut}
+use Rattle.layouts.specs.declared.ReadOut.{ReadOut}
+use Rattle.layouts.specs.declared.JudgeOut.{JudgeOut}
 use Rattle.answers.specs.Answers.{reasonBeside}
-use Rattle.exports.specs.declared.ExplainOut.{ExplainOut}
-use Rattle.exports.specs.declared.WriteOut.{WriteOut}
-use Rattle.exports.specs.declared.FindOut.{FindOut}
-use Rattle.exports.specs.declared.MergeOut.{MergeOut}
+use Rattle.layouts.specs.declared.ExplainOut.{ExplainOut}
+use Rattle.layouts.specs.declared.WriteOut.{WriteOut}
+use Rattle.layouts.specs.declared.FindOut.{FindOut}
+use Rattle.layouts.specs.declared.MergeOut.{MergeOut}
 
 -- Read: outcome 1 and the counts
 abbrev pub readOut : Answer Counts → ReadOut

@@ -1,14 +1,10 @@
--- `find_out` meets its contract.
+-- `find_out`: each answer as its struct.
 use mathlib.Core.Path.{sym, ap, _∙_}
 use Rattle.finding.specs.Calls.{allowedIn}
-use Rattle.exports.specs.Layouts.{resultOut, findOut}
+use Rattle.layouts.specs.Layouts.{resultOut, findOut}
 use borrow.Author.Needs.{needs}
-use Rattle.exports.proofs.find_out.Statement.{statement}
-use Rattle.exports.proofs.find_out.Tie as tie
-use Rattle.exports.proofs.find_out.Reads as reads
-use Rattle.exports.proofs.find_out.Lts as lts
-use Rattle.exports.proofs.number_of.Reads as number-of-reads
-use Rattle.exports.proofs.result_out.Reads as result-out-reads
+use Rattle.layouts.proofs.find_out.Statement.{statement}
+use Rattle.layouts.proofs.find_out.Tie as tie
 
 enum-known-answer : tie.Need-enum-known-answer
 enum-known-answer c = search needs

@@ -9,9 +9,9 @@ use Rattle.answers.specs.declared.Reason.{Reason}
 use Rattle.answers.specs.declared.ExplainAnswer.{ExplainAnswer}
 use Rattle.answers.specs.Answers.{judgeIn, explained}
 use Rattle.answers.specs.Calls.{ReasoningCall}
-use Rattle.exports.specs.declared.JudgeOut.{JudgeOut}
-use Rattle.exports.specs.declared.ExplainOut.{ExplainOut}
-use Rattle.exports.specs.Layouts.{judgeOut, verdictOf, explainOut}
+use Rattle.layouts.specs.declared.JudgeOut.{JudgeOut}
+use Rattle.layouts.specs.declared.ExplainOut.{ExplainOut}
+use Rattle.layouts.specs.Layouts.{judgeOut, verdictOf, explainOut}
 
 verdict-of : (v : JudgeAnswer) (q : Reason) → verdictOf (explained v q) ≡ judgeIn v
 verdict-of Yes q = refl

@@ -2,9 +2,9 @@
 use borrow.Author.Needs.{needs}
 use mathlib.Core.Path.{sym, ap}
 use Rattle.accepting.specs.Calls.{solverIn}
-use Rattle.exports.specs.Layouts.{solverOut}
-use Rattle.exports.proofs.solver_out.Statement.{statement}
-use Rattle.exports.proofs.solver_out.Tie as tie
+use Rattle.layouts.specs.Layouts.{solverOut}
+use Rattle.layouts.proofs.solver_out.Statement.{statement}
+use Rattle.layouts.proofs.solver_out.Tie as tie
 
 enum-known-answer : tie.Need-enum-known-answer
 enum-known-answer c = search needs

@@ -1,13 +1,10 @@
--- `plain_out` meets its contract.
+-- `plain_out`: each answer as its struct.
 use mathlib.Core.Path.{sym, ap, _∙_}
 use Rattle.answers.specs.Answers.{findIn}
-use Rattle.exports.specs.Layouts.{plainOut}
+use Rattle.layouts.specs.Layouts.{plainOut}
 use borrow.Author.Needs.{needs}
-use Rattle.exports.proofs.plain_out.Statement.{statement}
-use Rattle.exports.proofs.plain_out.Tie as tie
-use Rattle.exports.proofs.plain_out.Reads as reads
-use Rattle.exports.proofs.plain_out.Lts as lts
-use Rattle.exports.proofs.find_out.Reads as find-out-reads
+use Rattle.layouts.proofs.plain_out.Statement.{statement}
+use Rattle.layouts.proofs.plain_out.Tie as tie
 
 enum-known-answer : tie.Need-enum-known-answer
 enum-known-answer c = search needs

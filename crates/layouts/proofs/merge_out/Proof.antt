@@ -4,11 +4,11 @@ use mathlib.Core.Path.{_≡_, ap}
 use borrow.Author.Needs.{needs}
 use Rattle.theory.specs.Refusals.{Answer}
 use Rattle.answers.specs.Answers.{lengthIn}
-use Rattle.exports.specs.declared.WriteOut.{WriteOut}
-use Rattle.exports.specs.declared.MergeOut.{MergeOut}
-use Rattle.exports.specs.Layouts.{writeOut, mergeOut}
-use Rattle.exports.proofs.merge_out.Statement.{statement}
-use Rattle.exports.proofs.merge_out.Tie as tie
+use Rattle.layouts.specs.declared.WriteOut.{WriteOut}
+use Rattle.layouts.specs.declared.MergeOut.{MergeOut}
+use Rattle.layouts.specs.Layouts.{writeOut, mergeOut}
+use Rattle.layouts.proofs.merge_out.Statement.{statement}
+use Rattle.layouts.proofs.merge_out.Tie as tie
 
 -- the struct of these fields
 abbrev laid : ℕ → WriteOut → MergeOut
