@@ -4,25 +4,24 @@ use mathlib.Core.Path.{_≡_, sym, ap, _∙_}
 use mathlib.Core.Bool.{Bool, false}
 use mathlib.Core.Option.{none, some}
 use mathlib.Core.List.{List}
-use native.Mathlib.Omega.{arith}
-use lib.ListN.{length, take, drop, length-drop}
-use lib.Seq.{take-all}
+use lib.ListN.{length, take, drop}
 use Rattle.theory.specs.Bytes.{bytes}
 use Rattle.theory.specs.Refusals.{refused, unplaced}
 use Rattle.theory.specs.Program.{digitLine, switchLine}
 use Rattle.solver.proofs.Options.{read-on, not-read}
 use Rattle.allowance.specs.AllowedFind.{findWithin}
 use Rattle.allowance.specs.FinderProgram.{allowanceLine, finderAnswer, printedWithin, finder}
-use Rattle.program.specs.declared.digits.DigitLine.{DigitLine}
-use Rattle.program.specs.declared.digits.DigitLine.the-variants.{Digit, Fault}
-use Rattle.program.specs.declared.switches.SwitchLine.{SwitchLine}
-use Rattle.program.specs.declared.switches.SwitchLine.the-variants as switch
-use Rattle.program.specs.declared.allowances.AllowanceLine.{AllowanceLine}
-use Rattle.program.specs.declared.allowances.AllowanceLine.the-variants as allowances
-use Rattle.program.specs.Digits.{digitIn, DigitRead}
-use Rattle.program.specs.Switches.{switchIn, SwitchRead}
-use Rattle.program.specs.Allowances.{allowanceIn, AllowanceRead}
-use Rattle.program.specs.Reports.{fromHigh, fromSwitch, fromAllowance}
+use Rattle.input_lines.specs.declared.digits.DigitLine.{DigitLine}
+use Rattle.input_lines.specs.declared.digits.DigitLine.the-variants.{Digit, Fault}
+use Rattle.input_lines.specs.declared.switches.SwitchLine.{SwitchLine}
+use Rattle.input_lines.specs.declared.switches.SwitchLine.the-variants as switch
+use Rattle.input_lines.specs.declared.allowances.AllowanceLine.{AllowanceLine}
+use Rattle.input_lines.specs.declared.allowances.AllowanceLine.the-variants as allowances
+use Rattle.input_lines.specs.Digits.{digitIn, DigitRead}
+use Rattle.input_lines.specs.Switches.{switchIn, SwitchRead}
+use Rattle.input_lines.specs.Allowances.{allowanceIn, AllowanceRead}
+use Rattle.input_lines.proofs.LentRest.{rest}
+use Rattle.program.specs.Asked.{fromHigh, fromSwitch, fromAllowance}
 
 module _ (input : List ℕ) (at : ℕ) (key : List ℕ) (r : DigitLine) (h : DigitRead input at key r) where
   pub next-within : (d next : ℕ) → r ≡ Digit d next → next ≤ length input
@@ -33,10 +32,6 @@ module _ (input : List ℕ) (at : ℕ) (key : List ℕ) (r : DigitLine) (h : Dig
 
   one-digit : (d next : ℕ) → r ≡ Digit d next → digitLine key (drop at input) ≡ some (d, drop next input)
   one-digit d next e = sym (h .read) ∙ ap (digitIn input) e
-
--- the part that is lent from a place to the end
-pub rest : (input : List ℕ) (next : ℕ) → next ≤ length input → take (length input - next) (drop next input) ≡ drop next input
-rest input next h = take-all (length input - next) (drop next input) (omega (arith, length-drop next input))
 
 -- the fourth line
 module _ (input : List ℕ) (at low high : ℕ) (symmetry : Bool) (r : AllowanceLine) (h : AllowanceRead input at r) where

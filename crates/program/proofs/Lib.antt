@@ -1,12 +1,4 @@
-pub mod Printing
 pub mod RefusalLines
-pub mod KeyedLines
-pub mod DigitLines
-pub mod SwitchLines
-pub mod AllowanceLines
-pub mod Results
 pub mod Searching
 pub mod Inputs
-pub mod CaseStarts
-pub mod ReasonLines
-pub mod Explained
+pub mod ShortAnswers

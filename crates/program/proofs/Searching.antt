@@ -11,7 +11,7 @@ use Rattle.theory.specs.Operations.{Search}
 use Rattle.allowance.specs.AllowedFind.{Stoppable, findWithin, allowedAnswer, allowedOutput}
 use Rattle.finding.specs.declared.allowed.AllowedAnswer.{AllowedAnswer}
 use Rattle.finding.specs.Calls.{allowedIn}
-use Rattle.program.specs.Reports.{Reportable}
+use Rattle.printing.specs.Reports.{Reportable}
 use Rattle.program.proofs.RefusalLines.{refusal-near, size-near}
 
 module _ (out : List ℕ) (h : length out ≡ 24915) where

@@ -1,5 +1,1 @@
-pub mod Digits
-pub mod Switches
-pub mod Allowances
-pub mod Reports
-pub mod Reasons
+pub mod Asked

@@ -1,21 +1,16 @@
 // The programs' work: the whole output of each as a function of its input, the finder's here, the explainer's in `explaining`. The programs themselves (crates `finder`, `explainer`) only read and print.
-mod allowances;
-mod digits;
 pub mod explaining;
-mod reasons;
-mod report;
-mod switches;
 
-use crate::allowances::AllowanceLine;
-use crate::allowances::allowance_line;
-use crate::digits::DigitLine;
-use crate::digits::digit_line;
-use crate::report::OUTCOME;
-use crate::report::put_refusal;
-use crate::report::put_result;
-use crate::switches::SwitchLine;
-use crate::switches::switch_line;
+use input_lines::allowances::AllowanceLine;
+use input_lines::allowances::allowance_line;
+use input_lines::digits::DigitLine;
+use input_lines::digits::digit_line;
+use input_lines::switches::SwitchLine;
+use input_lines::switches::switch_line;
 use nesskettle::find;
+use printing::report::OUTCOME;
+use printing::report::put_refusal;
+use printing::report::put_result;
 use syntax::limits::Problem;
 ghost use mathlib.Core.Path.{_≡_};
 ghost use Prim.Native.Nat.{_≤_};
@@ -23,7 +18,8 @@ ghost use lib.ListN.{length, drop};
 ghost use mathlib.Core.Bool.{false};
 ghost use Rattle.allowance.specs.AllowedFind.{findWithin};
 ghost use Rattle.allowance.specs.FinderProgram.{printedWithin, finder};
-ghost use Rattle.program.specs.Reports.{Responds, fromHigh, fromSwitch, fromAllowance};
+ghost use Rattle.printing.specs.Reports.{Responds};
+ghost use Rattle.program.specs.Asked.{fromHigh, fromSwitch, fromAllowance};
 
 // Four lines of at most 35 bytes together, the largest sheet, and one byte more: no answer depends on what comes after.
 pub const MAX_INPUT: usize = 35 + Problem::MAX_BYTES + 1;

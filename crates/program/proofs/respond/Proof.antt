@@ -1,3 +1,4 @@
+-- `respond` leaves the finder's text.
 use mathlib.Core.Path.{sym}
 use Rattle.program.proofs.Inputs.{next-within, low-fault, low-digit}
 use Rattle.theory.specs.Program.{printed}
@@ -5,46 +6,33 @@ use Rattle.allowance.specs.FinderProgram.{printedWithin}
 use borrow.Author.Needs.{needs}
 use Rattle.program.proofs.respond.Statement.{statement}
 use Rattle.program.proofs.respond.Tie as tie
-use Rattle.program.proofs.respond.Reads as reads
-use Rattle.program.proofs.respond.Lts as lts
-use Rattle.program.proofs.digits.digit_line.Reads as digit-line-reads
-use Rattle.program.proofs.report.put_refusal.Reads as put-refusal-reads
-use Rattle.program.proofs.respond_from.Reads as respond-from-reads
 
--- src/lib.rt:37:32
 slice-aggregate-digit-line : tie.Need-slice-aggregate-digit-line
 slice-aggregate-digit-line c = search needs
 
--- src/lib.rt:37:11
 digit-line-requires : tie.Need-digit-line-requires
 digit-line-requires c κs = search needs
 
--- src/lib.rt:38:41
 enum-told : tie.Need-enum-told
 enum-told c = search needs
 
--- src/lib.rt:38:29
 put-refusal-requires : tie.Need-put-refusal-requires
 put-refusal-requires c κs = search needs
 
--- src/lib.rt:39:26
 enum-known-low : tie.Need-enum-known-low
 enum-known-low c = search needs
 
--- src/lib.rt:39:40
 respond-from-requires : tie.Need-respond-from-requires
 respond-from-requires c κs =
     let z = c .before .before .before .before .before .before .before in
     (next-within (z .args .input .now) 0 _ _ (c .before .before .before .before .digit-line .ensures) _ _ (c .before .before .low .given .1), search needs)
 
--- src/lib.rt:34:1
 returns : tie.Need-returns
 unfolding printed printedWithin
 returns c =
     let z = c .before .before .before .before .before .before .before in
     rw (sym (low-fault (z .args .input .now) _ (c .before .before .before .before .digit-line .ensures) (c .before .before .enum-told .given .1))) (c .put-refusal .ensures)
 
--- src/lib.rt:34:1
 returns-2 : tie.Need-returns-2
 returns-2 c =
     let z = c .before .before .before .before .before .before .before .before in

@@ -1,44 +1,33 @@
+-- `search_sheet` leaves what is printed for Find's answer.
 use Rattle.program.proofs.Searching.{reportable}
 use borrow.Author.Needs.{needs}
 use Rattle.program.proofs.search_sheet.Statement.{statement}
 use Rattle.program.proofs.search_sheet.Tie as tie
-use Rattle.program.proofs.search_sheet.Reads as reads
-use Rattle.program.proofs.search_sheet.Lts as lts
-use Rattle.nesskettle.proofs.find.Reads as find-reads
-use Rattle.program.proofs.report.put_result.Reads as put-result-reads
 
--- src/lib.rt:60:41
 slice-aggregate-find : tie.Need-slice-aggregate-find
 slice-aggregate-find c = search needs
 
--- src/lib.rt:60:52
 sub-find : tie.Need-sub-find
 sub-find c = search needs
 
--- src/lib.rt:60:52
 part-find-start : tie.Need-part-find-start
 part-find-start c = search needs
 
--- src/lib.rt:60:52
 part-find-end : tie.Need-part-find-end
 part-find-end c = search needs
 
--- src/lib.rt:60:9
 find-requires : tie.Need-find-requires
 find-requires c κs = search needs
 
--- src/lib.rt:61:5
 put-result-requires : tie.Need-put-result-requires
 put-result-requires c κs =
     let z = c .before .before .before .before .before .before .before .before .before in
     let f = c .before .before .before .before .find in
     reportable (z .args .out .now) (z .pre) (z .args .sheet .now) (z .args .low) (z .args .high) (z .args .symmetry) (z .args .allowance) _ (search needs) (f .result) (f .last .1 .1 .1 .1 .1 .1 .1 .0) (f .kept .1 .1 .1 .1 .1 .1 .1 .0) (f .ensures .answer) (f .ensures .left)
 
--- src/lib.rt:55:1
 same-length : tie.Need-same-length
 same-length c = search needs
 
--- src/lib.rt:55:1
 returns : tie.Need-returns
 unfolding reportable
 returns c =

@@ -4,7 +4,7 @@ use mathlib.Core.Bool.{true}
 use native.Mathlib.Omega.{arith}
 use lib.Seq.{length-take-le}
 use Rattle.theory.proofs.Explainer.{start-within}
-use Rattle.program.proofs.Explained.{explicable, input-responds}
+use Rattle.program.proofs.ShortAnswers.{explicable, input-responds}
 use borrow.Author.Needs.{needs}
 use Rattle.program.proofs.explaining.explain_input.Statement.{statement}
 use Rattle.program.proofs.explaining.explain_input.Tie as tie

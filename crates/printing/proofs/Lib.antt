@@ -1,0 +1,4 @@
+pub mod Printing
+pub mod Results
+pub mod ReasonLines
+pub mod Explained
