@@ -2,7 +2,9 @@
 //!
 //! Prints medians of processor time, which other work on the machine disturbs little, and their ratio.
 //!
-//!     cargo run --release -p nesskettle-trials --bin bench [RUNS]
+//!     cargo run --release -p nesskettle-trials --bin bench [RUNS [PART..]]
+//!
+//! All parts are taken where the command line names none.
 
 use nesskettle_reference as reference;
 use nesskettle_trials::draft::Draft;
@@ -20,22 +22,33 @@ const COUNTER: &[u8] = include_bytes!("../../../../examples/counter.sheet");
 /// How many times each measurement is taken where the command line does not say.
 const RUNS: usize = 5;
 
+/// The rows, in parts.
+const PARTS: [(&str, fn(&Bench)); 12] = [
+    ("read", read),
+    ("judge", judge),
+    ("write", write),
+    ("read-back", read_back),
+    ("find", find),
+    ("find-plain", find_plain),
+    ("named", named),
+    ("symmetry", symmetry),
+    ("tptp", from_tptp),
+    ("merge", merge),
+    ("renumber", renumber),
+    ("least-form", least_form),
+];
+
 fn main() {
-    let runs = std::env::args().nth(1).and_then(|n| n.parse().ok()).unwrap_or(RUNS);
+    let mut arguments = std::env::args().skip(1);
+    let runs = arguments.next().and_then(|n| n.parse().ok()).unwrap_or(RUNS);
+    let wanted: Vec<String> = arguments.collect();
     let bench = Bench { runs };
     println!("{:<44}{:>12}{:>12}{:>8}  rate", "", "nesskettle", "reference", "ratio");
-    read(&bench);
-    judge(&bench);
-    write(&bench);
-    read_back(&bench);
-    find(&bench);
-    find_plain(&bench);
-    named(&bench);
-    symmetry(&bench);
-    from_tptp(&bench);
-    merge(&bench);
-    renumber(&bench);
-    least_form(&bench);
+    for (name, part) in PARTS {
+        if wanted.is_empty() || wanted.iter().any(|w| w == name) {
+            part(&bench);
+        }
+    }
 }
 
 struct Bench {
@@ -311,11 +324,11 @@ fn from_tptp(bench: &Bench) {
     tptp_row(bench, "64 ordinary clauses", clauses, 20);
     let line = "   \t % a comment to the line's end, of any bytes\r\n/* and another, * which ends\nhere */\n\n";
     tptp_row(bench, "comments and blanks", line.repeat(1_000_000 / line.len()), 2);
-    // the number of arguments of a symbol is told where they end: at worst the whole term is looked through for each
-    for depth in [60, 1_000, 5_000, 10_000] {
-        let nested = format!("{}X{}", "f(".repeat(depth), ")".repeat(depth));
-        let text = format!("cnf(deep, axiom, p({nested})).\n");
-        tptp_row(bench, &format!("terms nested {depth} deep"), text, 1);
+    for depth in [60, 1_000, 30_000, 300_000] {
+        let inside = format!("cnf(deep, axiom, p({}X", "f(".repeat(depth));
+        let closed = format!("{inside}{})).\n", ")".repeat(depth));
+        tptp_row(bench, &format!("terms nested {depth} deep"), closed, 1);
+        tptp_row(bench, &format!("nested {depth} deep, unclosed"), inside, 1);
     }
 }
 
