@@ -112,7 +112,7 @@ module _ (text : List ℕ) (s : Signature) where
   -- a symbol
   module _ (c : Coding) (n : Name) (i : ℕ) (found : placeOfName (n .bytes) g ≡ cond (ltb i (s .count)) (some i) none) where
     abbrev its : Bool → ℕ → List Entry
-    its f a = map occurs (occurrencesIn n (Symbol f a))
+    its f a = map occurs (occurrencesIn n a (Symbol f))
 
     named-within : isNamed (n .bytes) g ≡ true → (i < s .count) × (symbolOfName g (n .bytes) ≡ i)
     named-within h =

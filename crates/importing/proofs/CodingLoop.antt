@@ -1,7 +1,7 @@
 -- The words of a statement's clause, read token by token.
 use Prim.Native.Nat.{ℕ, _≤_, _<_}
 use mathlib.Core.Path.{_≡_, refl, sym, ap, _∙_, subst}
-use mathlib.Core.Bool.{true, _&&_}
+use mathlib.Core.Bool.{Bool, true, _&&_}
 use mathlib.Core.List.{List, [], _++_, append-assoc, append-nil}
 use native.Mathlib.Omega.{arith}
 use lib.ListN.{length, length-append}
@@ -13,9 +13,10 @@ use Rattle.syntax.specs.Signatures.{signatureIn}
 use Rattle.clauses.specs.Names.{Readable}
 use Rattle.clauses.specs.Clauses.{Passed}
 use Rattle.tptp.specs.Grammar.{DueToken, opening}
-use Rattle.tptp.specs.Scanning.{Entry}
+use Rattle.tptp.specs.Scanning.{Entry, arityAhead}
 use Rattle.statements.specs.Follows.{Inside}
 use Rattle.scanning.specs.declared.entries.Entries.{Entries}
+use Rattle.scanning.specs.Ahead.{itemsAt}
 use Rattle.scanning.specs.Entries.{entriesIn}
 use Rattle.scanning.specs.Taking.{nameIn, entriesFrom, TokenTaken}
 use Rattle.importing.specs.declared.words.Coding.{Coding}
@@ -60,9 +61,9 @@ module _ (text : List ℕ) (s : Signature) (at : ℕ) where
         record { whole = λ _. subst (λ (l : List Word). Passed g l (c .words)) (sym all) (q .coding .passed); long = λ k. absurd (omega arith) }
 
     -- one token more
-    module _ (es : Entries) (start end : ℕ) (e : DueToken) (t : TokenTaken text d i es start end e) where
+    module _ (es : Entries) (opens : Bool) (start end : ℕ) (e : DueToken) (t : TokenTaken text d i es opens start end e) where
       abbrev here : List Entry
-      here = entriesIn (nameIn text start end) es
+      here = entriesIn (nameIn text start end) (arityAhead (itemsAt text end)) es
 
       abbrev later : List Entry
       later = entriesFrom text e end

@@ -13,7 +13,7 @@ use Rattle.text.specs.Lines.{part}
 use Rattle.tptp.specs.Grammar.{DueToken, opening}
 use Rattle.tptp.specs.Trees.{Name}
 use Rattle.tptp.specs.Symbols.{Occurrence, declares, names}
-use Rattle.tptp.specs.Scanning.{mark, occurs, occurrenceIn}
+use Rattle.tptp.specs.Scanning.{arityAhead, mark, occurs, occurrenceIn}
 use Rattle.tptp.specs.Claims.Deciding.{firstOfOccurrences}
 use Rattle.tptp.proofs.Stepping.{marks-occur-not, occur-all}
 use Rattle.declaring.specs.declared.symbols.Symbols.{Symbols}
@@ -26,9 +26,11 @@ use Rattle.declaring.proofs.Occurring.{symbol-passed, symbol-refused, letters-k
 use Rattle.statements.specs.Follows.{Inside}
 use Rattle.scanning.specs.declared.entries.Entries.{Entries}
 use Rattle.scanning.specs.Entries.{marksIn, occurrencesIn, entriesIn}
+use Rattle.scanning.specs.Ahead.{itemsAt}
 use Rattle.scanning.specs.Taking.{nameIn, entriesFrom, TokenTaken}
+use Rattle.argument_lists.specs.declared.arity.Arity.{Arity}
 use Rattle.importing.specs.declared.noting.Noted.{Noted}
-use Rattle.importing.specs.Noting.{occurrencesFrom, declaredOf, namesOf, OccurrencesNoted, StatementNoted}
+use Rattle.importing.specs.Noting.{NamedArity, occurrencesFrom, declaredOf, namesOf, OccurrencesNoted, StatementNoted}
 
 module _ (text : List ℕ) (t : Symbols) (v : Letters) where
   -- nothing occurs
@@ -82,11 +84,11 @@ module _ (text : List ℕ) (t : Symbols) (v : Letters) where
           }
 
 -- what occurs among the entries of a token
-entry-occurs : (n : Name) (e : Entries) → concatMap occurrenceIn (entriesIn n e) ≡ occurrencesIn n (e .named)
-entry-occurs n e =
-    concatMap-append occurrenceIn (map mark (marksIn (e .marks))) (map occurs (occurrencesIn n (e .named)))
-    ∙ ap (λ (l : List Occurrence). l ++ concatMap occurrenceIn (map occurs (occurrencesIn n (e .named)))) (marks-occur-not (marksIn (e .marks)))
-    ∙ occur-all (occurrencesIn n (e .named))
+entry-occurs : (n : Name) (a : ℕ) (e : Entries) → concatMap occurrenceIn (entriesIn n a e) ≡ occurrencesIn n a (e .named)
+entry-occurs n a e =
+    concatMap-append occurrenceIn (map mark (marksIn (e .marks))) (map occurs (occurrencesIn n a (e .named)))
+    ∙ ap (λ (l : List Occurrence). l ++ concatMap occurrenceIn (map occurs (occurrencesIn n a (e .named)))) (marks-occur-not (marksIn (e .marks)))
+    ∙ occur-all (occurrencesIn n a (e .named))
 
 module _ (text : List ℕ) (before : Symbols) (at : ℕ) where
   abbrev all-occur : List Occurrence
@@ -130,17 +132,17 @@ module _ (text : List ℕ) (before : Symbols) (at : ℕ) where
         }
 
     -- one token more
-    module _ (es : Entries) (start end : ℕ) (e : DueToken) (k : TokenTaken text d i es start end e) (r : Noted) (n : OccurrencesNoted text t v (occurrencesIn (nameIn text start end) (es .named)) start r) where
+    module _ (es : Entries) (opens : Bool) (start end : ℕ) (e : DueToken) (k : TokenTaken text d i es opens start end e) (counts : List ℕ) (y : Arity) (m : NamedArity text end (es .named) counts y) (r : Noted) (n : OccurrencesNoted text t v (occurrencesIn (nameIn text start end) (y .count) (es .named)) start r) where
       abbrev here : List Occurrence
-      here = occurrencesIn (nameIn text start end) (es .named)
+      here = occurrencesIn (nameIn text start end) (y .count) (es .named)
 
       abbrev later : List Occurrence
       later = occurrencesFrom text e end
 
       parted : occurrencesFrom text d i ≡ here ++ later
       parted =
-          ap (concatMap occurrenceIn) (k .adds) ∙ concatMap-append occurrenceIn (entriesIn (nameIn text start end) es) (entriesFrom text e end)
-          ∙ ap (λ (l : List Occurrence). l ++ later) (entry-occurs (nameIn text start end) es)
+          ap (concatMap occurrenceIn) (k .adds) ∙ concatMap-append occurrenceIn (entriesIn (nameIn text start end) (arityAhead (itemsAt text end)) es) (entriesFrom text e end)
+          ∙ ap (λ (l : List Occurrence). l ++ later) (entry-occurs (nameIn text start end) (arityAhead (itemsAt text end)) es ∙ sym (m .same (nameIn text start end)))
 
       walked : (X : List Symbol) → TableOf text X before → firstOfOccurrences X [] all-occur ≡ firstOfOccurrences (X ++ declaredOf (q .done)) (namesOf (q .done)) (here ++ later)
       walked X T = q .walk X T ∙ ap (firstOfOccurrences (X ++ declaredOf (q .done)) (namesOf (q .done))) parted

@@ -7,16 +7,27 @@ use lib.ListN.{length}
 use Rattle.theory.specs.Lists.{concatMap}
 use Rattle.theory.specs.Syntax.{Symbol}
 use Rattle.tptp.specs.Grammar.{DueToken}
+use Rattle.tptp.specs.Trees.{Name}
 use Rattle.tptp.specs.Symbols.{Occurrence, declares, names}
-use Rattle.tptp.specs.Scanning.{occurrenceIn}
+use Rattle.tptp.specs.Scanning.{arityAhead, occurrenceIn}
 use Rattle.tptp.specs.Claims.Deciding.{firstOfOccurrences}
 use Rattle.declaring.specs.declared.symbols.Symbols.{Symbols}
 use Rattle.declaring.specs.declared.letters.Letters.{Letters}
 use Rattle.declaring.specs.Tables.{TableOf, LimitedTable, faultAt}
 use Rattle.declaring.specs.Letters.{LettersOf, Lettered}
+use Rattle.scanning.specs.declared.entries.Named.{Named}
+use Rattle.scanning.specs.Ahead.{itemsAt}
+use Rattle.scanning.specs.Entries.{occurrencesIn}
 use Rattle.scanning.specs.Taking.{entriesFrom}
+use Rattle.argument_lists.specs.declared.arity.Arity.{Arity}
+use Rattle.argument_lists.specs.Told.{ToldAt}
 use Rattle.importing.specs.declared.noting.Noted.{Noted}
 use Rattle.importing.specs.declared.noting.Noting.{Noting}
+
+-- the arguments of what a token that ends at a place names, if it is a symbol, and what is told of the lists from there on
+pub record NamedArity (text : List ℕ) (end : ℕ) (named : Named) (counts : List ℕ) (r : Arity) : Type 0 where
+  pub same : (n : Name) → occurrencesIn n (r .count) named ≡ occurrencesIn n (arityAhead (itemsAt text end)) named
+  pub told : ToldAt text end counts (r .told)
 
 -- the variables and symbols from a place on up to the statement's full stop, where d is due
 abbrev pub occurrencesFrom : List ℕ → DueToken → ℕ → List Occurrence

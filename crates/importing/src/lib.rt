@@ -8,6 +8,7 @@ pub mod words;
 use answers::WriteAnswer;
 use answers::at_place;
 use answers::needing;
+use argument_lists::pass::LISTS;
 use sheet::put_sheet;
 use sheet::sheet_length;
 use survey::survey_statements;
@@ -25,7 +26,9 @@ pub fn import_clauses(text: &[u8], output: &mut [u8]) -> WriteAnswer
     ensures { λ r. ⌜ TptpCall (now (text .entry)) r (now (output .entry)) (now (output .exit)) ⌝ }
 {
     let mut lines = [0u8; Problem::MAX_BYTES];
-    let survey = survey_statements(text, &mut lines);
+    let mut counts = [0u8; LISTS];
+    let mut links = [0u16; LISTS];
+    let survey = survey_statements(text, &mut lines, &mut counts, &mut links);
     if survey.fault != 0 {
         return refused_at(text, survey.fault, survey.place);
     }

@@ -20,6 +20,7 @@ ghost use Rattle.text.specs.Put.{put};
 ghost use Rattle.syntax.specs.Signatures.{signatureIn};
 ghost use Rattle.syntax.specs.Codes.{wordsIn};
 ghost use Rattle.sheet_text.specs.Parts.{ShortNames, Writable, clauseLine};
+ghost use Rattle.argument_lists.specs.Lists.{Room};
 ghost use Rattle.importing.specs.Surveys.{StatementStands, StatementChecked, Surveyed};
 
 // The symbols after a statement and the words of its clause; or the number and the place of its first fault, number 0 for none.
@@ -53,14 +54,22 @@ fn faulty(table: Symbols, fault: u8, place: usize) -> Checked
 }
 
 // A whole statement after `count` others: one too many, its symbols and variables, its words, literals and flattened variables.
-fn check_statement(text: &[u8], start: usize, stop: usize, count: usize, before: Symbols) -> Checked
-    requires { ⌜ StatementStands (now text) start stop before ⌝ }
+fn check_statement(
+    text: &[u8],
+    start: usize,
+    stop: usize,
+    count: usize,
+    before: Symbols,
+    counts: &mut [u8],
+    links: &mut [u16],
+) -> Checked
+    requires { ⌜ StatementStands (now text) start stop before × Room (now counts) (now links) ⌝ }
     ensures { λ r. ⌜ StatementChecked (now (text .entry)) start stop count before r ⌝ }
 {
     if Problem::MAX_CLAUSES <= count {
         return faulty(before, 17, start);
     }
-    let noted = note_statement(text, start + 3, before);
+    let noted = note_statement(text, start + 3, before, counts, links);
     let table = noted.table;
     if noted.fault != 0 {
         return faulty(table, noted.fault, noted.place);
@@ -101,8 +110,14 @@ fn add_line(
     put_clause_line(lines, at, text, signature, words)
 }
 
-// The statements of a text; their lines are left at the front, where they have room there.
-pub fn survey_statements(text: &[u8], lines: &mut [u8]) -> Survey
+// The statements of a text; their lines are left at the front, where they have room there. Lists of arguments are noted in `counts` and `links`.
+pub fn survey_statements(
+    text: &[u8],
+    lines: &mut [u8],
+    counts: &mut [u8],
+    links: &mut [u16],
+) -> Survey
+    requires { ⌜ Room (now counts) (now links) ⌝ }
     ensures { λ r. ⌜ Surveyed (now (text .entry)) (now (lines .exit)) r ⌝ }
 {
     let mut table = none();
@@ -130,7 +145,7 @@ pub fn survey_statements(text: &[u8], lines: &mut [u8]) -> Survey
                 };
             }
             Followed::Whole(start, stop, past) => {
-                let checked = check_statement(text, start, stop, count, table);
+                let checked = check_statement(text, start, stop, count, table, counts, links);
                 table = checked.table;
                 if checked.fault != 0 {
                     return Survey {

@@ -82,8 +82,8 @@ fn with_variable(text: &[u8], signature: Signature, c: Coding, start: usize, end
 
 // A symbol.
 fn with_symbol(text: &[u8], signature: Signature, c: Coding, start: usize, end: usize) -> Coding
-    requires { ⌜ Ready (now text) signature c 66 (map occurs (occurrencesIn (nameIn (now text) start end) (Symbol true 0))) × ((start ≤ end) × (end ≤ length (now text))) ⌝ }
-    ensures { λ r. ⌜ ((function : Bool) (arity : ℕ) → Coded (now (text .entry)) signature c (map occurs (occurrencesIn (nameIn (now (text .entry)) start end) (Symbol function arity))) r) ⌝ }
+    requires { ⌜ Ready (now text) signature c 66 (map occurs (occurrencesIn (nameIn (now text) start end) 0 (Symbol true))) × ((start ≤ end) × (end ≤ length (now text))) ⌝ }
+    ensures { λ r. ⌜ ((function : Bool) (arity : ℕ) → Coded (now (text .entry)) signature c (map occurs (occurrencesIn (nameIn (now (text .entry)) start end) arity (Symbol function))) r) ⌝ }
 {
     let place = find_name(text, signature, &text[start..end]);
     let words = c.words;
@@ -103,13 +103,13 @@ fn with_named(
     start: usize,
     end: usize,
 ) -> Coding
-    requires { ⌜ Ready (now text) signature c 66 (map occurs (occurrencesIn (nameIn (now text) start end) named)) × ((start ≤ end) × (end ≤ length (now text))) ⌝ }
-    ensures { λ r. ⌜ Coded (now (text .entry)) signature c (map occurs (occurrencesIn (nameIn (now (text .entry)) start end) named)) r ⌝ }
+    requires { ⌜ ((arity : ℕ) × Ready (now text) signature c 66 (map occurs (occurrencesIn (nameIn (now text) start end) arity named))) × ((start ≤ end) × (end ≤ length (now text))) ⌝ }
+    ensures { λ r. ⌜ ((arity : ℕ) → Coded (now (text .entry)) signature c (map occurs (occurrencesIn (nameIn (now (text .entry)) start end) arity named)) r) ⌝ }
 {
     match named {
         Named::Nothing => c,
         Named::Variable => with_variable(text, signature, c, start, end),
-        Named::Symbol(_, _) => with_symbol(text, signature, c, start, end),
+        Named::Symbol(_) => with_symbol(text, signature, c, start, end),
     }
 }
 
@@ -122,8 +122,8 @@ fn with_entries(
     start: usize,
     end: usize,
 ) -> Coding
-    requires { ⌜ Ready (now text) signature c 64 (entriesIn (nameIn (now text) start end) entries) × ((start ≤ end) × (end ≤ length (now text))) ⌝ }
-    ensures { λ r. ⌜ Coded (now (text .entry)) signature c (entriesIn (nameIn (now (text .entry)) start end) entries) r ⌝ }
+    requires { ⌜ ((arity : ℕ) × Ready (now text) signature c 64 (entriesIn (nameIn (now text) start end) arity entries)) × ((start ≤ end) × (end ≤ length (now text))) ⌝ }
+    ensures { λ r. ⌜ ((arity : ℕ) → Coded (now (text .entry)) signature c (entriesIn (nameIn (now (text .entry)) start end) arity entries) r) ⌝ }
 {
     let words = c.words;
     let letters = c.letters;
@@ -155,7 +155,7 @@ pub fn words_of(text: &[u8], at: usize, signature: Signature) -> Words
             Taken::Stop => {
                 return c.words;
             }
-            Taken::Token(entries, start, end, next) => {
+            Taken::Token(entries, _opens, start, end, next) => {
                 c = with_entries(text, signature, c, entries, start, end);
                 due = next;
                 i = end;

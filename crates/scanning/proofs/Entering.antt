@@ -45,12 +45,12 @@ no-word-adds p foreign n us h = sign-adds p foreign us
 no-word-adds p openComment n us h = sign-adds p openComment us
 
 -- a literal's first word
-lower-atom : (c : Bool) (z : Relation) (n : Name) (a : ℕ) → entriesIn n (atomBefore c lowerWord a z) ≡ marks c z ++ (occurs (ofSymbol n (kindBefore z) a) ∷ [])
+lower-atom : (c : Bool) (z : Relation) (n : Name) (a : ℕ) → entriesIn n a (atomBefore c lowerWord z) ≡ marks c z ++ (occurs (ofSymbol n (kindBefore z) a) ∷ [])
 lower-atom c unrelated n a = refl
 lower-atom c (related true) n a = refl
 lower-atom c (related false) n a = refl
 
-upper-atom : (c : Bool) (z : Relation) (n : Name) (a : ℕ) → entriesIn n (atomBefore c upperWord a z) ≡ marks c z ++ (occurs (ofVariable n) ∷ [])
+upper-atom : (c : Bool) (z : Relation) (n : Name) (a : ℕ) → entriesIn n a (atomBefore c upperWord z) ≡ marks c z ++ (occurs (ofVariable n) ∷ [])
 upper-atom c unrelated n a = refl
 upper-atom c (related true) n a = refl
 upper-atom c (related false) n a = refl
@@ -58,7 +58,7 @@ upper-atom c (related false) n a = refl
 abbrev isWord : TokenKind → Bool
 isWord k = sameTokenKind lowerWord k || sameTokenKind upperWord k
 
-pub atom-adds : (c : Bool) (k : TokenKind) (n : Name) (us : List Item) → isWord k ≡ true → entriesIn n (atomEntries c k us) ≡ entriesAt (atomStart c) (itemOf k n) us
+pub atom-adds : (c : Bool) (k : TokenKind) (n : Name) (us : List Item) → isWord k ≡ true → entriesIn n (arityAhead us) (atomEntries c k us) ≡ entriesAt (atomStart c) (itemOf k n) us
 atom-adds c lowerWord n us h = lower-atom c (relationAhead us 0) n (arityAhead us)
 atom-adds c upperWord n us h = upper-atom c (relationAhead us 0) n (arityAhead us)
 atom-adds c digits n us h = absurd (false≢true h)
@@ -75,7 +75,7 @@ atom-adds c foreign n us h = absurd (false≢true h)
 atom-adds c openComment n us h = absurd (false≢true h)
 
 -- another term
-pub term-adds : (k : TokenKind) (n : Name) (us : List Item) → isWord k ≡ true → entriesIn n (unmarked (wordNamed k true (arityAhead us))) ≡ entriesAt inTerm (itemOf k n) us
+pub term-adds : (k : TokenKind) (n : Name) (us : List Item) → isWord k ≡ true → entriesIn n (arityAhead us) (unmarked (wordNamed k true)) ≡ entriesAt inTerm (itemOf k n) us
 term-adds lowerWord n us h = refl
 term-adds upperWord n us h = refl
 term-adds digits n us h = absurd (false≢true h)

@@ -188,7 +188,7 @@ pub record Counting (text : List ℕ) (at i m n : ℕ) : Type 0 where
 pub counting-begins : (text : List ℕ) (at : ℕ) → at ≤ length text → Counting text at at 0 0
 counting-begins text at h = record { same = omega arith; few = omega arith; within = h }
 
-no-commas : (m : ℕ) → commas [] m ≡ 0
+pub no-commas : (m : ℕ) → commas [] m ≡ 0
 no-commas zero = refl
 no-commas (suc m) = refl
 
@@ -199,7 +199,7 @@ module _ (k : TokenKind) (w : Name) (us : List Item) where
   abbrev here : List Item
   here = itemOf k w ∷ us
 
-  commas-open : (m : ℕ) → sameTokenKind leftParen k ≡ true → commas here m ≡ commas us (m + 1)
+  pub commas-open : (m : ℕ) → sameTokenKind leftParen k ≡ true → commas here m ≡ commas us (m + 1)
   commas-open zero l = commas-outside k w us ∙ ap (λ (b : Bool). cond b (commas us 1) (cond (sameTokenKind rightParen k) 0 (cond (sameTokenKind comma k) (suc (commas us 0)) (commas us 0)))) l
   commas-open (suc m) l =
       let e : suc (suc m) ≡ suc m + 1 = omega arith in
@@ -219,23 +219,23 @@ module _ (k : TokenKind) (w : Name) (us : List Item) where
       commas-inside k w us m ∙ ap (λ (x : Bool). cond x (commas us (suc (suc m))) (cond (sameTokenKind rightParen k) (commas us m) (commas us (suc m)))) l
       ∙ ap (λ (x : Bool). cond x (commas us m) (commas us (suc m))) r
 
-  commas-stop : (m : ℕ) → m ≡ 0 → sameTokenKind leftParen k ≡ false → sameTokenKind rightParen k ≡ true → commas here m ≡ 0
+  pub commas-stop : (m : ℕ) → m ≡ 0 → sameTokenKind leftParen k ≡ false → sameTokenKind rightParen k ≡ true → commas here m ≡ 0
   commas-stop zero z l r = commas-here true (sameTokenKind comma k) l r refl
   commas-stop (suc m) z l r = absurd (omega arith)
 
-  commas-close : (m : ℕ) → (m ≡ 0 → ⊥) → sameTokenKind leftParen k ≡ false → sameTokenKind rightParen k ≡ true → commas here m ≡ commas us (m - 1)
+  pub commas-close : (m : ℕ) → (m ≡ 0 → ⊥) → sameTokenKind leftParen k ≡ false → sameTokenKind rightParen k ≡ true → commas here m ≡ commas us (m - 1)
   commas-close zero z l r = absurd (z refl)
   commas-close (suc m) z l r = let n : m ≡ suc m - 1 = omega arith in commas-within m true l r ∙ ap (commas us) n
 
-  commas-inner : (m : ℕ) → (m ≡ 0 → ⊥) → sameTokenKind leftParen k ≡ false → sameTokenKind rightParen k ≡ false → commas here m ≡ commas us m
+  pub commas-inner : (m : ℕ) → (m ≡ 0 → ⊥) → sameTokenKind leftParen k ≡ false → sameTokenKind rightParen k ≡ false → commas here m ≡ commas us m
   commas-inner zero z l r = absurd (z refl)
   commas-inner (suc m) z l r = commas-within m false l r
 
-  commas-one : (m : ℕ) → m ≡ 0 → sameTokenKind leftParen k ≡ false → sameTokenKind rightParen k ≡ false → sameTokenKind comma k ≡ true → commas here m ≡ suc (commas us m)
+  pub commas-one : (m : ℕ) → m ≡ 0 → sameTokenKind leftParen k ≡ false → sameTokenKind rightParen k ≡ false → sameTokenKind comma k ≡ true → commas here m ≡ suc (commas us m)
   commas-one zero z l r e = commas-here false true l r e
   commas-one (suc m) z l r e = absurd (omega arith)
 
-  commas-other : (m : ℕ) → m ≡ 0 → sameTokenKind leftParen k ≡ false → sameTokenKind rightParen k ≡ false → sameTokenKind comma k ≡ false → commas here m ≡ commas us m
+  pub commas-other : (m : ℕ) → m ≡ 0 → sameTokenKind leftParen k ≡ false → sameTokenKind rightParen k ≡ false → sameTokenKind comma k ≡ false → commas here m ≡ commas us m
   commas-other zero z l r e = commas-here false false l r e
   commas-other (suc m) z l r e = absurd (omega arith)
 

@@ -5,11 +5,11 @@ use mathlib.Core.Bool.{Bool, true, false, false≢true}
 use mathlib.Core.Option.{Option, none, some, Option·some-injective}
 use mathlib.Core.List.{List, [], _∷_, _++_}
 use native.Mathlib.Omega.{arith}
-use Rattle.tptp.specs.Tokens.{TokenKind, fullStop, TptpToken}
+use Rattle.tptp.specs.Tokens.{TokenKind, leftParen, fullStop, TptpToken}
 use Rattle.tptp.specs.Grammar.{DueToken, statement, moves, dueAfterToken, mayEnd}
 use Rattle.tptp.specs.Trees.{Name}
 use Rattle.tptp.specs.Written.{Item, itemOf}
-use Rattle.tptp.specs.Scanning.{tokenOf, sameTokenKind, spot, Entry, entriesAt, entries}
+use Rattle.tptp.specs.Scanning.{tokenOf, sameTokenKind, arityAhead, spot, Entry, entriesAt, entries}
 use Rattle.tptp.specs.Claims.Places.{dueAfterTokens}
 use Rattle.tptp.proofs.Statements.{kind-shown}
 use Rattle.tokens.specs.Pieces.{kindIn}
@@ -76,10 +76,14 @@ module _ (text : List ℕ) (d : DueToken) (at : ℕ) (k : Kind) (s e : ℕ) (f :
   not-misplaced h g = let q : none ≡ some statement = stands-first none (due-it none h) g in let z : _≡_ {A = ℕ} 0 1 = cc in omega arith
 
   pub token-taken : (x : DueToken) (es : Entries) → some x ≡ dueAfterToken d (kindToken (kindIn k) false) → sameTokenKind fullStop (kindIn k) ≡ false
-      → ((n : Name) → entriesIn n es ≡ entriesAt (spot d) (itemOf (kindIn k) n) (itemsAt text e)) → TokenTaken text d at es s e x
-  token-taken x es h g a =
+      → ((n : Name) → entriesIn n (arityAhead (itemsAt text e)) es ≡ entriesAt (spot d) (itemOf (kindIn k) n) (itemsAt text e)) → (opens : Bool) → opens ≡ sameTokenKind leftParen (kindIn k)
+      → TokenTaken text d at es opens s e x
+  token-taken x es h g a opens o =
       let j = goes-inside d x it g (i .inside) (due-it (some x) h) in
       record {
+        kind = kindIn k;
+        items = items;
+        opening = o;
         adds =
             ap (λ (us : List Item). entries us d) items
             ∙ goes-on d x (kindIn k) (nameIn text s e) (itemsAt text e) (i .inside) g (by-kind (some x) h)

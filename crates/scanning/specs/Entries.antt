@@ -9,7 +9,7 @@ use Rattle.tptp.specs.Tokens.{TokenKind, upperWord}
 use Rattle.tptp.specs.Trees.{Name}
 use Rattle.tptp.specs.Written.{Item}
 use Rattle.tptp.specs.Symbols.{Occurrence, ofVariable, ofSymbol}
-use Rattle.tptp.specs.Scanning.{Entry, mark, occurs, Relation, unrelated, related, sameTokenKind, arityAhead, relationAhead}
+use Rattle.tptp.specs.Scanning.{Entry, mark, occurs, Relation, unrelated, related, sameTokenKind, relationAhead}
 use Rattle.tptp.specs.Scanning as scanning
 use Rattle.scanning.specs.declared.entries.Spot.{Spot}
 use Rattle.scanning.specs.declared.entries.Spot.the-variants.{AtomStart, InTerm, Elsewhere}
@@ -30,28 +30,28 @@ marksIn None = []
 marksIn (Sign b) = words.sign b ∷ []
 marksIn (Equality b) = words.sign b ∷ words.equals ∷ []
 
--- what occurs with this name
-abbrev pub occurrencesIn : Name → Named → List Occurrence
-occurrencesIn n Nothing = []
-occurrencesIn n Variable = ofVariable n ∷ []
-occurrencesIn n (Symbol f a) = ofSymbol n (kindOf f) a ∷ []
+-- what occurs with this name, a symbol having so many arguments
+abbrev pub occurrencesIn : Name → ℕ → Named → List Occurrence
+occurrencesIn n a Nothing = []
+occurrencesIn n a Variable = ofVariable n ∷ []
+occurrencesIn n a (Symbol f) = ofSymbol n (kindOf f) a ∷ []
 
--- the entries of the token with this name
-abbrev pub entriesIn : Name → Entries → List Entry
-entriesIn n e = map mark (marksIn (e .marks)) ++ map occurs (occurrencesIn n (e .named))
+-- the entries of the token with this name, and with so many arguments if it is a symbol
+abbrev pub entriesIn : Name → ℕ → Entries → List Entry
+entriesIn n a e = map mark (marksIn (e .marks)) ++ map occurs (occurrencesIn n a (e .named))
 
 -- nothing in front
 abbrev pub unmarked : Named → Entries
 unmarked w = record { marks = None; named = w }
 
--- a word of this kind: a variable, or a symbol with so many arguments
-abbrev pub wordNamed : TokenKind → Bool → ℕ → Named
-wordNamed k f n = cond (sameTokenKind upperWord k) Variable (Symbol f n)
+-- a word of this kind: a variable or a symbol
+abbrev pub wordNamed : TokenKind → Bool → Named
+wordNamed k f = cond (sameTokenKind upperWord k) Variable (Symbol f)
 
 -- a literal's first word of this kind before these items, by the relation that follows
-abbrev pub atomBefore : Bool → TokenKind → ℕ → Relation → Entries
-atomBefore c k n unrelated = record { marks = Sign (not c); named = wordNamed k false n }
-atomBefore c k n (related q) = record { marks = Equality (cond q (not c) false); named = wordNamed k true n }
+abbrev pub atomBefore : Bool → TokenKind → Relation → Entries
+atomBefore c k unrelated = record { marks = Sign (not c); named = wordNamed k false }
+atomBefore c k (related q) = record { marks = Equality (cond q (not c) false); named = wordNamed k true }
 
 abbrev pub atomEntries : Bool → TokenKind → List Item → Entries
-atomEntries c k us = atomBefore c k (arityAhead us) (relationAhead us 0)
+atomEntries c k us = atomBefore c k (relationAhead us 0)

@@ -1,6 +1,5 @@
 // What a token adds to the words of a clause: nothing, a variable or symbol, and at a literal's begin its sign and = in front.
 use crate::ahead::Relation;
-use crate::ahead::arity_ahead;
 use crate::ahead::relation_ahead;
 use statements::due::Due;
 use statements::due::Side;
@@ -35,11 +34,11 @@ pub enum Marks {
     Equality(bool),
 }
 
-// What a token names: nothing; a variable; or a symbol, a function or not, with so many arguments.
+// What a token names: nothing; a variable; or a symbol, a function or not. How many arguments a symbol has is not looked for here.
 pub enum Named {
     Nothing,
     Variable,
-    Symbol(bool, usize),
+    Symbol(bool),
 }
 
 pub struct Entries {
@@ -83,15 +82,14 @@ fn spot_of(due: Due) -> Spot
     }
 }
 
-// The word that a token is: a variable, or a symbol with the arguments that follow it.
-fn named_word(text: &[u8], kind: Kind, end: usize, function: bool) -> Named
-    requires { ⌜ end ≤ length (now text) ⌝ }
-    ensures { λ r. ⌜ r ≡ wordNamed (kindIn kind) function (arityAhead (itemsAt (now (text .entry)) end)) ⌝ }
+// The word that a token is: a variable or a symbol.
+fn named_word(kind: Kind, function: bool) -> Named
+    ensures { λ r. ⌜ r ≡ wordNamed (kindIn kind) function ⌝ }
 {
     if is(Kind::UpperWord, kind) {
         return Named::Variable;
     }
-    Named::Symbol(function, arity_ahead(text, end))
+    Named::Symbol(function)
 }
 
 // A literal's sign: != stands for - and =.
@@ -112,11 +110,11 @@ fn atom_entries(text: &[u8], tilde: bool, kind: Kind, end: usize) -> Entries
     match relation_ahead(text, end) {
         Relation::Unrelated => Entries {
             marks: Marks::Sign(!tilde),
-            named: named_word(text, kind, end, false),
+            named: named_word(kind, false),
         },
         Relation::Related(equal) => Entries {
             marks: Marks::Equality(sign(tilde, equal)),
-            named: named_word(text, kind, end, true),
+            named: named_word(kind, true),
         },
     }
 }
@@ -144,14 +142,14 @@ fn is_word(kind: Kind) -> bool
 // What a token that ends at a place adds, if this is due.
 pub fn entries_at(text: &[u8], due: Due, kind: Kind, end: usize) -> Entries
     requires { ⌜ end ≤ length (now text) ⌝ }
-    ensures { λ r. ⌜ ((n : Name) → entriesIn n r ≡ entriesAt (scanning.spot (dueTokenIn due)) (itemOf (kindIn kind) n) (itemsAt (now (text .entry)) end)) ⌝ }
+    ensures { λ r. ⌜ ((n : Name) → entriesIn n (arityAhead (itemsAt (now (text .entry)) end)) r ≡ entriesAt (scanning.spot (dueTokenIn due)) (itemOf (kindIn kind) n) (itemsAt (now (text .entry)) end)) ⌝ }
 {
     if !is_word(kind) {
         return unmarked(Named::Nothing);
     }
     match spot_of(due) {
         Spot::Elsewhere => unmarked(Named::Nothing),
-        Spot::InTerm => unmarked(named_word(text, kind, end, true)),
+        Spot::InTerm => unmarked(named_word(kind, true)),
         Spot::AtomStart(tilde) => atom_entries(text, tilde, kind, end),
     }
 }

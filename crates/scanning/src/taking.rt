@@ -12,9 +12,9 @@ ghost use Rattle.statements.specs.Dues.{dueTokenIn};
 ghost use Rattle.statements.specs.Follows.{Inside};
 ghost use Rattle.scanning.specs.Taking.{TakenFrom};
 
-// A token with what it adds, its place and the place after it, and what is due then; or the statement's full stop.
+// A token with what it adds, whether it is a (, its place and the place after it, and what is due then; or the statement's full stop.
 pub enum Taken {
-    Token(Entries, usize, usize, Due),
+    Token(Entries, bool, usize, usize, Due),
     Stop,
 }
 
@@ -33,6 +33,7 @@ pub fn take_token(text: &[u8], at: usize, due: Due) -> Taken
                 After::Misplaced => Taken::Stop,
                 After::Next(next) => Taken::Token(
                     entries_at(text, due, kind, end),
+                    is(Kind::LeftParen, kind),
                     start,
                     end,
                     next,

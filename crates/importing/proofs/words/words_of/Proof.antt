@@ -41,13 +41,13 @@ enum-known-entries : tie.Need-enum-known-entries Inv-loop μ-loop
 enum-known-entries c = search needs
 
 with-entries-requires : tie.Need-with-entries-requires Inv-loop μ-loop
-with-entries-requires c κs = let z = c .before .before .before .before .before .before .before .before .before .before in let a = z .args in let l = c .before .before .before .before .before .before .loop in let t = (rw (c .before .entries .given .1) at (c .before .before .before .take-token .ensures)) in (reached-ready (a .text .now) (a .signature) (a .at) (l .i) _ _ (l .inv) _ _ _ _ t (z .pre .0) (c .before .before .before .before .if1 .left), (t .long, t .rest .within))
+with-entries-requires c κs = let z = c .before .before .before .before .before .before .before .before .before .before in let a = z .args in let l = c .before .before .before .before .before .before .loop in let t = (rw (c .before .entries .given .1) at (c .before .before .before .take-token .ensures)) in ((_, reached-ready (a .text .now) (a .signature) (a .at) (l .i) _ _ (l .inv) _ _ _ _ _ t (z .pre .0) (c .before .before .before .before .if1 .left)), (t .long, t .rest .within))
 
 loop-less : tie.Need-loop-less Inv-loop μ-loop
 loop-less c = let l = c .before .before .before .before .before .before .before .loop in let t = (rw (c .before .before .entries .given .1) at (c .before .before .before .before .take-token .ensures)) in omega (arith, t .past, t .rest .within)
 
 loop-again : tie.Need-loop-again Inv-loop μ-loop
-loop-again c = let z = c .before .before .before .before .before .before .before .before .before .before .before in let a = z .args in let l = c .before .before .before .before .before .before .before .loop in let t = (rw (c .before .before .entries .given .1) at (c .before .before .before .before .take-token .ensures)) in reached-on (a .text .now) (a .signature) (a .at) (l .i) _ _ (l .inv) _ _ _ _ t _ (c .with-entries .ensures)
+loop-again c = let z = c .before .before .before .before .before .before .before .before .before .before .before in let a = z .args in let l = c .before .before .before .before .before .before .before .loop in let t = (rw (c .before .before .entries .given .1) at (c .before .before .before .before .take-token .ensures)) in reached-on (a .text .now) (a .signature) (a .at) (l .i) _ _ (l .inv) _ _ _ _ _ t _ (c .with-entries .ensures _)
 
 pub words-of-spec : {M : Type 1} → statement M
 words-of-spec =

@@ -10,11 +10,8 @@ is-requires c κs = search needs
 returns : tie.Need-returns
 returns c = rw (sym (c .before .is .ensures) ∙ c .if1 .taken)
 
-arity-ahead-requires : tie.Need-arity-ahead-requires
-arity-ahead-requires c κs = search needs
-
 returns-2 : tie.Need-returns-2
-returns-2 c = rw (sym (c .before .before .is .ensures) ∙ c .before .if1 .left, c .arity-ahead .ensures)
+returns-2 c = rw (sym (c .before .is .ensures) ∙ c .if1 .left)
 
 pub named-word-spec : {M : Type 1} → statement M
-named-word-spec = tie.close (tie.spec is-requires returns arity-ahead-requires returns-2)
+named-word-spec = tie.close (tie.spec is-requires returns returns-2)

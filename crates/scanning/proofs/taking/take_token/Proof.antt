@@ -33,6 +33,9 @@ enum-known-next c = search needs
 entries-at-requires : tie.Need-entries-at-requires
 entries-at-requires c κs = (rw (c .before .before .before .before .before .before .before .kind .given .1) at (c .before .before .before .before .before .before .before .before .before .next-token .ensures)) .within .1 .1 .1
 
+is-requires-2 : tie.Need-is-requires-2
+is-requires-2 c κs = search needs
+
 returns-2 : tie.Need-returns-2
 returns-2 c = let z = c .before .before .before .before in let a = z .args in absurd (not-ended (a .text .now) (dueTokenIn (a .due)) (a .at) (rw (c .enum-told .given .1) at (c .before .before .next-token .ensures)) (z .pre))
 
@@ -40,7 +43,7 @@ returns-3 : tie.Need-returns-3
 returns-3 c = let z = c .before .before .before .before .before .before .before .before .before .before in let a = z .args in absurd (not-misplaced (a .text .now) (dueTokenIn (a .due)) (a .at) _ _ _ (rw (c .before .before .before .before .before .before .kind .given .1) at (c .before .before .before .before .before .before .before .before .next-token .ensures)) (z .pre) (sym (ap afterIn (c .enum-told2 .given .1)) ∙ c .before .before .after .ensures) (sym (c .before .before .before .before .is .ensures) ∙ c .before .before .before .if1 .left))
 
 returns-4 : tie.Need-returns-4
-returns-4 c = let z = c .before .before .before .before .before .before .before .before .before .before .before .before in let a = z .args in token-taken (a .text .now) (dueTokenIn (a .due)) (a .at) _ _ _ (rw (c .before .before .before .before .before .before .before .before .kind .given .1) at (c .before .before .before .before .before .before .before .before .before .before .next-token .ensures)) (z .pre) _ _ (sym (ap afterIn (c .before .before .next .given .1)) ∙ c .before .before .before .before .after .ensures) (sym (c .before .before .before .before .before .before .is .ensures) ∙ c .before .before .before .before .before .if1 .left) (c .entries-at .ensures)
+returns-4 c = let z = c .before .before .before .before .before .before .before .before .before .before .before .before .before in let a = z .args in token-taken (a .text .now) (dueTokenIn (a .due)) (a .at) _ _ _ (rw (c .before .before .before .before .before .before .before .before .before .kind .given .1) at (c .before .before .before .before .before .before .before .before .before .before .before .next-token .ensures)) (z .pre) _ _ (sym (ap afterIn (c .before .before .before .next .given .1)) ∙ c .before .before .before .before .before .after .ensures) (sym (c .before .before .before .before .before .before .before .is .ensures) ∙ c .before .before .before .before .before .before .if1 .left) (c .before .entries-at .ensures) _ (c .is2 .ensures)
 
 pub take-token-spec : {M : Type 1} → statement M
 take-token-spec =
@@ -55,6 +58,7 @@ take-token-spec =
     enum-told-2
     enum-known-next
     entries-at-requires
+    is-requires-2
     returns-2
     returns-3
     returns-4)
