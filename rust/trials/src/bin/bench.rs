@@ -7,14 +7,15 @@
 //! All parts are taken where the command line names none.
 
 use nesskettle_reference as reference;
+use nesskettle_trials::dearest::{large_sheet, unchanging_case};
 use nesskettle_trials::draft::Draft;
 use nesskettle_trials::options::{asked, not_asked, told_no, told_yes};
 use nesskettle_trials::problems::{sheet, GROUP_CASE, MILLION};
 use nesskettle_trials::random::Random;
 use nesskettle_trials::solver::stating;
+use nesskettle_trials::timing::{seconds, shown};
 use reference::Terms::{AsWritten, Named};
 use reference::{sheet_of, FindOptions, Operations, Reason, Search, SolverAnswer, Symmetry, WriteOptions};
-use std::time::Duration;
 
 /// Terms that are refused as written.
 const COUNTER: &[u8] = include_bytes!("../../../../examples/counter.sheet");
@@ -59,11 +60,8 @@ impl Bench {
     /// One row: the work is done `times` times in each measurement, and the two take turns. The rate is how much of
     /// `amount` the library does in a second.
     fn row(&self, name: &str, times: u32, amount: Option<(f64, &str)>, mut work: impl FnMut(&Operations)) {
-        let mut measure = |operations: &Operations| {
-            let start = processor_time();
-            (0..times).for_each(|_| work(operations));
-            (processor_time() - start).as_secs_f64() / times as f64
-        };
+        let mut measure =
+            |operations: &Operations| seconds(|| (0..times).for_each(|_| work(operations))) / times as f64;
         let mut library = Vec::new();
         let mut plain = Vec::new();
         for _ in 0..self.runs {
@@ -87,35 +85,6 @@ impl Bench {
 fn median(mut times: Vec<f64>) -> f64 {
     times.sort_by(f64::total_cmp);
     times[times.len() / 2]
-}
-
-fn shown(seconds: f64) -> String {
-    match seconds {
-        s if s < 1e-3 => format!("{:.2} us", s * 1e6),
-        s if s < 1.0 => format!("{:.2} ms", s * 1e3),
-        s => format!("{s:.2} s"),
-    }
-}
-
-/// The processor time that this thread has used.
-fn processor_time() -> Duration {
-    #[repr(C)]
-    struct Timespec {
-        seconds: i64,
-        nanoseconds: i64,
-    }
-    extern "C" {
-        fn clock_gettime(clock: i32, time: *mut Timespec) -> i32;
-    }
-    const CLOCK_THREAD_CPUTIME_ID: i32 = 3;
-    let mut time = Timespec {
-        seconds: 0,
-        nanoseconds: 0,
-    };
-    // SAFETY: the call writes one timespec, which is laid out as on 64-bit Linux.
-    let failed = unsafe { clock_gettime(CLOCK_THREAD_CPUTIME_ID, &mut time) };
-    assert!(failed == 0, "there is no such clock");
-    Duration::new(time.seconds as u64, time.nanoseconds as u32)
 }
 
 fn read(bench: &Bench) {
@@ -390,13 +359,13 @@ fn least_form(bench: &Bench) {
     let table = sheet_of(&["f/2"], &[], &[]);
     let any = Draft::of_sheet(&table).case(&mut Random::new(13), 8);
     least_form_row(bench, "64 cells at size 8", &table, &any, 5);
-    let first = first_arguments(&Draft::of_sheet(&table), 8);
+    let first = unchanging_case(&Draft::of_sheet(&table), 8, 0, false);
     least_form_row(bench, "64 cells at size 8, longest", &table, &first, 1);
     let draft = Draft::most_cells();
     let most = draft.sheet();
     let any = draft.case(&mut Random::new(14), 8);
     least_form_row(bench, "12,288 cells at size 8", &most, &any, 5);
-    let first = first_arguments(&draft, 8);
+    let first = unchanging_case(&draft, 8, 0, false);
     least_form_row(bench, "12,288 cells at size 8, longest", &most, &first, 1);
 }
 
@@ -405,31 +374,4 @@ fn least_form_row(bench: &Bench, name: &str, sheet: &[u8], case: &[u8], times: u
     bench.row(&format!("least form, {name}"), times, None, |o| {
         assert_eq!((o.least_form)(sheet, case, &mut output), Ok(case.len()))
     });
-}
-
-/// The case in which every function's value is its first argument, and no predicate holds.
-fn first_arguments(draft: &Draft, size: usize) -> Vec<u8> {
-    let mut text = format!("case=1\nsize={size}\n");
-    for (place, symbol) in draft.symbols().enumerate() {
-        let cells = size.pow(symbol.arity as u32);
-        let entry = |cell: usize| match place < draft.functions.len() {
-            true => (1 + cell * size / cells).to_string(),
-            false => "0".to_string(),
-        };
-        let row: Vec<String> = (0..cells).map(entry).collect();
-        text += &format!("{}={}\n", symbol.name, row.join(" "));
-    }
-    text.into_bytes()
-}
-
-/// 64 clauses, about as long as they may be in a sheet, which are unlike in their ends; the last one ends in this letter.
-fn large_sheet(last: char) -> Vec<u8> {
-    let long = "+ abcdefghijkl mnopqrstuvwx mnopqrstuvwx mnopqrstuvwx ".repeat(4);
-    let letter = |i: usize| char::from(b'A' + i as u8);
-    let mut clauses: Vec<String> = (0..63)
-        .map(|i| format!("{long}- abcdefghijkl A {} {}", letter(i / 8), letter(i % 8)))
-        .collect();
-    clauses.push(format!("{long}- abcdefghijkl B A {last}"));
-    let clauses: Vec<&str> = clauses.iter().map(String::as_str).collect();
-    sheet_of(&["mnopqrstuvwx/0"], &["abcdefghijkl/3"], &clauses)
 }
