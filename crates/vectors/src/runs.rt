@@ -1,81 +1,45 @@
 // Each operation on its stored inputs.
-use crate::inputs::Input;
-use crate::inputs::input_at;
-use crate::lending::pattern_bytes;
-use crate::lending::pattern_numbers;
-use crate::lines::cleared;
-use crate::lines::counts;
-use crate::lines::failure;
-use crate::lines::kept;
-use crate::lines::length;
-use crate::lines::made;
-use crate::lines::nothing;
-use crate::lines::refusal;
-use crate::lines::rest;
-use crate::lines::say;
-use crate::lines::short;
-use crate::lines::tell;
-use accepting::SolverAnswer;
-use answers::FindAnswer;
-use answers::JudgeAnswer;
-use answers::ReadAnswer;
-use answers::WriteAnswer;
-use finding::allowed::AllowedAnswer;
+use vector_lines::answered::bytes;
+use vector_lines::answered::counted;
+use vector_lines::answered::explained;
+use vector_lines::answered::judged;
+use vector_lines::answered::plain;
+use vector_lines::answered::pointed;
+use vector_lines::answered::search;
+use vector_lines::answered::solved;
+use vector_lines::answered::text;
+use vector_lines::inputs::Input;
+use vector_lines::inputs::input_at;
+use vector_lines::lending::pattern_bytes;
+use vector_lines::lending::pattern_numbers;
+use vector_lines::lines::heading;
+use vector_lines::lines::say;
 
+// What a file's inputs are for; the switches are the mode of named terms and the constant clauses.
 pub enum Operation {
     Read,
     Judge,
-    Write,
-    ReadBack,
-    Find,
+    Write(bool, bool),
+    ReadBack(bool),
+    Find(bool, bool),
     FromTptp,
     Explain,
     Setting,
     FromSolver,
     FindPlain,
-    WriteNamed,
-    ReadBackNamed,
-    FindNamed,
-    WriteSymmetry,
-    FindSymmetry,
-    WriteNamedSymmetry,
-    FindNamedSymmetry,
     Merge,
     Renumber,
     LeastForm,
 }
 
 fn read(sheet: &[u8]) {
-    match nesskettle::read(sheet) {
-        ReadAnswer::Counts(f, p, c) => counts(f, p, c),
-        ReadAnswer::Refused(r) => refusal(r),
-    }
-    say(b"\n");
+    let answer = nesskettle::read(sheet);
+    counted(answer);
 }
 
 fn judge(sheet: &[u8], case: &[u8]) {
-    match nesskettle::judge(sheet, case) {
-        JudgeAnswer::Yes => say(b" yes"),
-        JudgeAnswer::No => say(b" no"),
-        JudgeAnswer::Refused(r) => refusal(r),
-    }
-    say(b"\n");
-}
-
-// What Write, Read back, From TPTP, Merge, Renumber and Least form answer and leave; From solver and Find plain too, where they write a case or are refused.
-fn text(answer: WriteAnswer, output: &[u8]) {
-    match answer {
-        WriteAnswer::Written(n) => {
-            length(output, n);
-            say(b"\n");
-            short(output, n);
-        }
-        WriteAnswer::Refused(r) => {
-            refusal(r);
-            rest(output, 0);
-            say(b"\n");
-        }
-    }
+    let answer = nesskettle::judge(sheet, case);
+    judged(answer);
 }
 
 fn write(sheet: &[u8], size: u64, named: bool, symmetry: bool, output: &mut [u8]) {
@@ -86,42 +50,6 @@ fn write(sheet: &[u8], size: u64, named: bool, symmetry: bool, output: &mut [u8]
 fn read_back(sheet: &[u8], size: u64, named: bool, setting: &[u8], output: &mut [u8]) {
     let answer = nesskettle::read_back(sheet, size, named, setting, output);
     text(answer, output);
-}
-
-// What Find answers and leaves.
-fn search(answer: AllowedAnswer, work: &[u32], output: &[u8]) {
-    match answer {
-        AllowedAnswer::Found(size, n, choices) => {
-            say(b" found");
-            tell(size);
-            made(choices);
-            length(output, n);
-            cleared(work);
-            say(b"\n");
-            short(output, n);
-        }
-        AllowedAnswer::Nothing(settled, choices) => {
-            nothing(settled);
-            made(choices);
-            rest(output, 0);
-            cleared(work);
-            say(b"\n");
-        }
-        AllowedAnswer::Stopped(size, choices) => {
-            say(b" stopped");
-            tell(size);
-            made(choices);
-            rest(output, 0);
-            cleared(work);
-            say(b"\n");
-        }
-        AllowedAnswer::Refused(r) => {
-            refusal(r);
-            rest(output, 0);
-            kept(work);
-            say(b"\n");
-        }
-    }
 }
 
 fn find(sheet: &[u8], x: Input, named: bool, symmetry: bool, work: &mut [u32], output: &mut [u8]) {
@@ -138,23 +66,6 @@ fn find(sheet: &[u8], x: Input, named: bool, symmetry: bool, work: &mut [u32], o
     search(answer, work, output);
 }
 
-// What Find plain answers and leaves.
-fn plain(answer: FindAnswer, output: &[u8]) {
-    match answer {
-        FindAnswer::Found(size, n) => {
-            say(b" found");
-            tell(size);
-            text(WriteAnswer::Written(n), output);
-        }
-        FindAnswer::Nothing(settled) => {
-            nothing(settled);
-            rest(output, 0);
-            say(b"\n");
-        }
-        FindAnswer::Refused(r) => text(WriteAnswer::Refused(r), output),
-    }
-}
-
 fn find_plain(sheet: &[u8], low: u64, high: u64, output: &mut [u8]) {
     let answer = nesskettle::find_plain(sheet, low, high, output);
     plain(answer, output);
@@ -167,25 +78,7 @@ fn from_tptp(clauses: &[u8], output: &mut [u8]) {
 
 fn explain(sheet: &[u8], case: &[u8]) {
     let answer = nesskettle::explain(sheet, case);
-    let verdict = answer.verdict;
-    match verdict {
-        JudgeAnswer::Yes => say(b" yes"),
-        JudgeAnswer::No => failure(answer.reason),
-        JudgeAnswer::Refused(r) => refusal(r),
-    }
-    say(b"\n");
-}
-
-// What Setting answers and leaves. The bytes of a setting are no characters: their sum tells them.
-fn bytes(answer: WriteAnswer, output: &[u8]) {
-    match answer {
-        WriteAnswer::Written(n) => length(output, n),
-        WriteAnswer::Refused(r) => {
-            refusal(r);
-            rest(output, 0);
-        }
-    }
-    say(b"\n");
+    explained(answer);
 }
 
 fn setting(sheet: &[u8], case: &[u8], output: &mut [u8]) {
@@ -193,31 +86,9 @@ fn setting(sheet: &[u8], case: &[u8], output: &mut [u8]) {
     bytes(answer, output);
 }
 
-// What From solver answers and leaves.
-fn solved(answer: SolverAnswer, output: &[u8]) {
-    match answer {
-        SolverAnswer::Case(n) => text(WriteAnswer::Written(n), output),
-        SolverAnswer::ClaimedNone => {
-            say(b" claimed none");
-            rest(output, 0);
-            say(b"\n");
-        }
-        SolverAnswer::Refused(r) => text(WriteAnswer::Refused(r), output),
-    }
-}
-
 fn from_solver(sheet: &[u8], size: u64, reply: &[u8], output: &mut [u8]) {
     let answer = nesskettle::from_solver(sheet, size, reply, output);
     solved(answer, output);
-}
-
-// The sheet that a refusal points into, if it points into one.
-fn pointed(sheet: u32) {
-    if sheet == 0 {
-        return;
-    }
-    say(b" sheet");
-    tell(sheet as u64);
 }
 
 fn merge(first: &[u8], second: &[u8], output: &mut [u8]) {
@@ -243,31 +114,6 @@ fn least_form(sheet: &[u8], case: &[u8], output: &mut [u8]) {
     text(answer, output);
 }
 
-fn name(operation: Operation) {
-    match operation {
-        Operation::Read => say(b"read"),
-        Operation::Judge => say(b"judge"),
-        Operation::Write => say(b"write"),
-        Operation::ReadBack => say(b"read_back"),
-        Operation::Find => say(b"find"),
-        Operation::FromTptp => say(b"from_tptp"),
-        Operation::Explain => say(b"explain"),
-        Operation::Setting => say(b"setting"),
-        Operation::FromSolver => say(b"from_solver"),
-        Operation::FindPlain => say(b"find_plain"),
-        Operation::WriteNamed => say(b"write_named"),
-        Operation::ReadBackNamed => say(b"read_back_named"),
-        Operation::FindNamed => say(b"find_named"),
-        Operation::WriteSymmetry => say(b"write_symmetry"),
-        Operation::FindSymmetry => say(b"find_symmetry"),
-        Operation::WriteNamedSymmetry => say(b"write_named_symmetry"),
-        Operation::FindNamedSymmetry => say(b"find_named_symmetry"),
-        Operation::Merge => say(b"merge"),
-        Operation::Renumber => say(b"renumber"),
-        Operation::LeastForm => say(b"least_form"),
-    }
-}
-
 fn answer(
     operation: Operation,
     sheet: &[u8],
@@ -281,21 +127,14 @@ fn answer(
     match operation {
         Operation::Read => read(sheet),
         Operation::Judge => judge(sheet, beside),
-        Operation::Write => write(sheet, x.low, false, false, output),
-        Operation::ReadBack => read_back(sheet, x.low, false, beside, output),
-        Operation::Find => find(sheet, x, false, false, work, output),
+        Operation::Write(named, symmetry) => write(sheet, x.low, named, symmetry, output),
+        Operation::ReadBack(named) => read_back(sheet, x.low, named, beside, output),
+        Operation::Find(named, symmetry) => find(sheet, x, named, symmetry, work, output),
         Operation::FromTptp => from_tptp(sheet, output),
         Operation::Explain => explain(sheet, beside),
         Operation::Setting => setting(sheet, beside, output),
         Operation::FromSolver => from_solver(sheet, x.low, beside, output),
         Operation::FindPlain => find_plain(sheet, x.low, x.high, output),
-        Operation::WriteNamed => write(sheet, x.low, true, false, output),
-        Operation::ReadBackNamed => read_back(sheet, x.low, true, beside, output),
-        Operation::FindNamed => find(sheet, x, true, false, work, output),
-        Operation::WriteSymmetry => write(sheet, x.low, false, true, output),
-        Operation::FindSymmetry => find(sheet, x, false, true, work, output),
-        Operation::WriteNamedSymmetry => write(sheet, x.low, true, true, output),
-        Operation::FindNamedSymmetry => find(sheet, x, true, true, work, output),
         Operation::Merge => merge(sheet, beside, output),
         Operation::Renumber => renumber(sheet, x.low, beside, output),
         Operation::LeastForm => least_form(sheet, beside, output),
@@ -332,7 +171,13 @@ fn lend(
 }
 
 // The answers to all inputs of a file, counted from 1.
-pub fn answer_all(operation: Operation, stored: &[u8], work: &mut [u32], output: &mut [u8]) {
+pub fn answer_all(
+    label: &[u8],
+    operation: Operation,
+    stored: &[u8],
+    work: &mut [u32],
+    output: &mut [u8],
+) {
     let mut at: usize = 0;
     let mut count: u64 = 0;
     while at < stored.len() {
@@ -345,9 +190,7 @@ pub fn answer_all(operation: Operation, stored: &[u8], work: &mut [u32], output:
             return;
         }
         count = std::num::wrapping_add_u64(count, 1);
-        name(operation);
-        tell(count);
-        say(b":");
+        heading(label, count);
         lend(
             operation,
             &stored[sheet..beside],
