@@ -1,5 +1,5 @@
 //! Every call does with the stack that the top README promises, also on the deepest terms that a clause of 64 words has, with
-//! the most cells, and on TPTP terms of any depth: 192 kB, and 256 kB for From solver and Find plain.
+//! the most cells, and on TPTP terms of any depth: 192 kB, and 256 kB for From solver, From TPTP and Find plain.
 
 use nesskettle::Terms::{AsWritten, Named};
 use nesskettle::{explain, find, find_plain, from_solver, from_tptp, judge, read, read_back, setting, write};
@@ -14,8 +14,8 @@ use nesskettle_trials::renumbering::rearrangement;
 use nesskettle_trials::solver::stating;
 
 const STACK: usize = 192 * 1024;
-/// From solver has a mark for each of up to 55,296 propositional variables on its stack, and Find plain is one call deeper for
-/// each of up to 64 cells.
+/// From solver has a mark for each of up to 55,296 propositional variables on its stack, From TPTP a count and a link for each
+/// of 16,384 lists, and Find plain is one call deeper for each of up to 64 cells.
 const LARGE_STACK: usize = 256 * 1024;
 
 /// A clause of one predicate at `depth` functions, one inside the other.
@@ -274,5 +274,15 @@ fn the_deepest_tptp_terms_are_taken() {
         let mut output = vec![0; 1000];
         assert_eq!(from_tptp(text.as_bytes(), &mut output), Ok(sheet.len()));
         assert_eq!(output[..sheet.len()], sheet);
+    });
+}
+
+#[test]
+fn the_deepest_tptp_terms_of_64_words_are_refused() {
+    let text = format!("cnf(deep,axiom,p({}X{})).", "f(".repeat(61), ")".repeat(61));
+    on_a_stack(LARGE_STACK, move || {
+        let mut output = vec![0; 1000];
+        // once flattened it has over ten variables
+        assert_eq!(from_tptp(text.as_bytes(), &mut output).unwrap_err().reason, Reason::BeyondSheets);
     });
 }
