@@ -129,7 +129,8 @@ enum {
  * none repeats its work for every renumbering. nk_write and nk_find take a number `symmetry`: 0 adds nothing, every other
  * number adds clauses that few of the renumberings of a case obey.
  *
- * Of the declared constants in order, the i-th has a value from 1 to i, and a value d above 1 only if an earlier one has d - 1.
+ * Of the declared constants in order, the i-th has a value from 1 to i (to the size, where that is smaller), and a value d
+ * above 1 only if an earlier one has d - 1.
  * (So the first is 1, and each other has a value of an earlier one or the value after the highest of these.) The clauses come
  * after those of the function cells, constant by constant: that it has one of these values, then for each d from 2 up that it
  * is not d or an earlier constant is d - 1. Helpers are not declared. The clauses count in the number of instances and of

@@ -237,7 +237,8 @@ impl std::error::Error for MergeRefusal {}
 
 /// What becomes of a sheet's fixed terms: those without variables that are no constants.
 ///
-/// Where neither call is refused, a search answers the same with both.
+/// Where neither call is refused or stopped, a search with the same [`Symmetry`] answers the same with both, but for the
+/// number of choices.
 #[derive(Clone, Copy, Debug, PartialEq, Eq, Default)]
 pub enum Terms {
     /// They stay as they are written.

@@ -1,10 +1,8 @@
 //! Nesskettle's specification a second time, in plain Rust.
 //!
-//! Written from the specification, without a look at the proved code, so that both can be compared. Three parts are an
-//! exception in part: the author of [`from_solver`] had seen in which order the proved code refuses, though not how it reads
-//! the text; the author of [`Terms::Named`] had read notes on how the proved code is laid out; that of
-//! [`FindOptions::allowance`] had read a definition of what Find answers with one, though not of the walk. The calls take and
-//! answer what the proved library's calls do.
+//! Written from the specification, without a look at the proved code, so that both can be compared. Of some parts its authors
+//! had seen more than the specification; the repository's README, Why trust it, has the list. The calls take and answer what
+//! the proved library's calls do.
 
 mod flattening;
 mod grounding;

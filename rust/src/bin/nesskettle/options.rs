@@ -78,8 +78,8 @@ constant and stands inside no other such term gets a constant of its own, a help
 equal terms share one. The helper stands in the clauses instead, and a clause + =
 HELPER TERM for each comes in front. Limits of a clause are then those of the
 clauses with the names put in and of the helpers' own; at most 32 terms are named
-(refusal 21). find answers what it answers without --named where both are taken,
-and no case shows a helper. clauses prints the clauses with the helpers, whose
+(refusal 21). find finds what it finds without --named where both are taken and
+neither is stopped, and no case shows a helper. clauses prints the clauses with the helpers, whose
 variables come last, after all predicates, and a SETTING for read-back --named has
 their digits. The other commands, --plain, and a TPTP file when it is read into a
 sheet take terms as they are written.
@@ -109,11 +109,11 @@ other value, which is no choice.
 
 --plain searches as one would on a whiteboard: it fills the cells of the tables in
 order, the least value first, and looks at the clauses once all are filled. Where
-both take a sheet, it answers what find answers with --no-symmetry. It goes together
-with every other option of find but --named and --allow, as it makes no choices and
-is never stopped; other commands do not search and take no --plain. A case of size --high may have at most 64 cells (refusal 20), and time
-grows with the number of cases: at size N a cell of a function has N values, one of
-a predicate 2.
+both take a sheet, it finds what find --no-symmetry finds where that is not stopped.
+It goes together with every other option of find but --named and --allow, as it makes
+no choices and is never stopped; other commands do not search and take no --plain. A
+case of size --high may have at most 64 cells (refusal 20), and time grows with the
+number of cases: at size N a cell of a function has N values, one of a predicate 2.
 
 merge takes a name with the same kind and number of arguments in both sheets as one
 symbol, and leaves out each clause of the second sheet that the first has byte for
