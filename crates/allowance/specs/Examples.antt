@@ -30,7 +30,7 @@ unsaid = bytes "sheet=1\nfuns=0\npreds=1\npred=p/1\nclauses=0\n"
 unfoldable pub plainly : List ℕ → ℕ → ℕ → ℕ → Answer (Stoppable Search)
 plainly sheet low high allowance = findWithin false false sheet low high allowance 16000 100
 
--- f is no fixed point of c, with both switches
+-- a sheet with a function before its constant, which is no fixed point of it; with both switches
 unfoldable pub functionFirst : Bool → Bool → ℕ → Answer (Stoppable Search)
 functionFirst named symmetry allowance = findWithin named symmetry functionBefore 1 2 allowance 16000 100
 
@@ -50,12 +50,12 @@ pub record Examples : Type 0 where
   -- a choice is made also where all clauses are true already
   pub unsaid-2 : plainly unsaid 3 3 2 ≡ answer (stopped 3 2)
   pub unsaid-3 : plainly unsaid 3 3 3 ≡ answer (finished (found 3 (bytes "case=1\nsize=3\np=0 0 0\n")) 3)
-  -- 24 stands after 8, and functionFirst 10 and 11
+  -- 24 stands after 8, and before 10 and 11
   pub too-many : plainly eitherOr 2 2 1000001 ≡ refused (unplaced 24)
   pub size-first : plainly eitherOr 0 2 1000001 ≡ refused (unplaced 8)
   pub work-later : findWithin false false eitherOr 2 2 1000001 0 0 ≡ refused (unplaced 24)
   pub work-within : findWithin false false eitherOr 2 2 1000000 0 0 ≡ refused (needing 10 64)
-  -- in the mode 21 stands functionFirst both
+  -- in the mode 21 stands before both
   pub helpers-first : findWithin true false (many "+ p f f f f f a") 0 9 1000001 0 0 ≡ refused (unplaced 21)
   -- none with its number: the other value of a choice is no choice
   pub none-1 : plainly crowded 1 2 0 ≡ answer (stopped 2 0)
@@ -76,14 +76,14 @@ pub record Examples : Type 0 where
   -- stopped leaves the output, and zeros in work
   pub output : allowedOutput (plainly eitherOr 2 2 1) (7 ∷ 8 ∷ []) ≡ 7 ∷ 8 ∷ []
   pub work : allowedWork (plainly eitherOr 2 2 1) (7 ∷ 8 ∷ []) ≡ 0 ∷ 0 ∷ []
-  -- the program: document 01's example; its third line, and an 8 where that is missing or not so laid out, functionFirst the sheet is read
+  -- the program: document 01's example; its third line, and an 8 where that is missing or not so laid out, before the sheet is read
   pub program-two : finder (bytes "low=1\nhigh=3\nsym=no\nallow=1000000\n" ++ twoConstants) ≡ bytes "answer=found\ncase=1\nsize=2\na=1\nb=2\n"
   pub program-before-no : finder (bytes "low=1\nhigh=2\nsym=no\nallow=1\n" ++ functionBefore) ≡ bytes "answer=found\ncase=1\nsize=2\nf=1 1\nc=2\n"
   pub program-before-yes : finder (bytes "low=1\nhigh=2\nsym=yes\nallow=1\n" ++ functionBefore) ≡ bytes "answer=found\ncase=1\nsize=2\nf=2 1\nc=1\n"
   pub program-two-lines : finder (bytes "low=1\nhigh=3\nallow=1000000\n" ++ twoConstants) ≡ bytes "answer=refused\nreason=8\nline=0\ncolumn=0\n"
   pub program-capital : finder (bytes "low=1\nhigh=3\nsym=Yes\nallow=0\nsheet=2\n") ≡ bytes "answer=refused\nreason=8\nline=0\ncolumn=0\n"
   pub program-space : finder (bytes "low=1\nhigh=3\nsym=no \nallow=0\nsheet=2\n") ≡ bytes "answer=refused\nreason=8\nline=0\ncolumn=0\n"
-  -- its fourth line, stopped, and an 8 where the line is missing or not so laid out, functionFirst the sheet is read
+  -- its fourth line, stopped, and an 8 where the line is missing or not so laid out, before the sheet is read
   pub program-found : finder (bytes "low=2\nhigh=2\nsym=no\nallow=2\n" ++ eitherOr) ≡ bytes "answer=found\ncase=1\nsize=2\np=0 0\nq=1 1\n"
   pub program-smaller : finder (bytes "low=1\nhigh=2\nsym=no\nallow=1\n" ++ eitherOr) ≡ bytes "answer=found\ncase=1\nsize=1\np=0\nq=1\n"
   pub program-stopped : finder (bytes "low=2\nhigh=8\nsym=yes\nallow=1\n" ++ eitherOr) ≡ bytes "answer=stopped\nsize=2\n"

@@ -82,12 +82,12 @@ reasonBeside (refused r) = noReason
 abbrev pub unreasoned : JudgeAnswer → ExplainAnswer
 unreasoned v = record { verdict = v; reason = noReason }
 
--- the length that Write, Read back, Setting and From TPTP answer
+-- the length that the calls answer which write a text
 abbrev pub lengthIn : WriteAnswer → Answer ℕ
 lengthIn (write.Written n) = answer n
 lengthIn (write.Refused r) = refused (refusalIn r)
 
--- Find's size and length, or none with the mark settled
+-- Find plain's size and length, or none with the mark settled; so Find's, its choices left out
 abbrev pub findIn : FindAnswer → Answer Found
 findIn (find.Found s n) = answer (foundCase s n)
 findIn (find.Nothing b) = answer (noCase b)

@@ -39,13 +39,13 @@ pub struct ExplainAnswer {
     pub reason: Reason,
 }
 
-// Write, Read back, Setting and From TPTP: the length of the text.
+// Write, Read back, Setting, From TPTP, Renumber and Least form, and Merge with the sheet beside it: the length of the text.
 pub enum WriteAnswer {
     Written(usize),
     Refused(Refusal),
 }
 
-// Find: the size of the model and the length of its case, or none and the mark settled.
+// Find plain: the size of the model and the length of its case, or none and the mark settled. Find's own has choices, and stands in `finding`.
 pub enum FindAnswer {
     Found(u64, usize),
     Nothing(bool),

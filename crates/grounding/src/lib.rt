@@ -1,2 +1,2 @@
-// Grounding: steps 3 and 4 of document 01, the clauses of a problem at a size in written order.
+// Grounding: of step 4 of document 01 the clauses of the function cells at a size, that each has a result and not two.
 pub mod cell_clauses;

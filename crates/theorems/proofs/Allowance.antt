@@ -1,19 +1,32 @@
 -- The allowance, of the calls, from what is proved of the search with an allowance.
-use Prim.Native.Nat.{ℕ, _≤_, _<_}
-use mathlib.Core.Path.{_≡_, refl, sym, ap, _∙_}
+use Prim.Native.Nat.{ℕ, zero, _≤_, _<_}
+use mathlib.Core.Path.{_≡_, refl, sym, ap, _∙_, subst}
 use mathlib.Core.Logic.{_⊎_, inl, inr}
-use mathlib.Core.Bool.{Bool}
+use mathlib.Core.Bool.{Bool, true, false}
+use mathlib.Core.Option.{Option, none}
 use mathlib.Core.List.{List}
 use native.Mathlib.Omega.{arith}
 use lib.ListN.{length, take, drop}
 use lib.Seq.{take-append-seam}
+use Rattle.theory.specs.Cells.{isInterpretation}
+use Rattle.theory.specs.Least.{leastModel}
+use Rattle.theory.specs.Claims.Walk.{readBackFound}
 use Rattle.theory.specs.Refusals as theory
 use Rattle.theory.specs.Refusals.{Answer, answer, refused}
 use Rattle.theory.specs.Problem.{Problem}
 use Rattle.theory.specs.Operations.{Search, found, nothing, over, foundCase, noCase}
 use Rattle.theory.proofs.Answers.{answer≢refused}
-use Rattle.naming.specs.NamedOperations.{readProblemIn}
-use Rattle.symmetry.proofs.Searched.{searched-with}
+use Rattle.theory.proofs.Least.{least}
+use Rattle.theory.proofs.CaseText.{OnlyText, read-exactly}
+use Rattle.naming.specs.NamedProblem.{inMode}
+use Rattle.naming.specs.NamedOperations.{readProblemIn, modeProblem}
+use Rattle.naming.specs.Claims.Finding.{shownFound}
+use Rattle.naming.specs.Claims.ReadingBack.{SheetModel}
+use Rattle.symmetry.specs.Obeying.{leastWith, searchedWith}
+use Rattle.symmetry.proofs.ConstantClauses.{constantClauses}
+use Rattle.symmetry.proofs.NamedTwins.{namedTwins}
+use Rattle.symmetry.proofs.Obeying.{twins}
+use Rattle.symmetry.proofs.Searched.{Read, read-in, searched-with}
 use Rattle.allowance.specs.AllowedFind.{maxAllowance, Stoppable, finished, stopped, findWithin, allowedAnswer, allowedOutput, allowedWork}
 use Rattle.allowance.specs.Claims.AllowedFind.{choicesNeeded, AllowedFind}
 use Rattle.allowance.proofs.AllowedFind.{allowed-find, same-refusals}
@@ -23,9 +36,30 @@ use Rattle.answers.specs.Answers.{refusalIn}
 use Rattle.finding.specs.declared.allowed.AllowedAnswer.{AllowedAnswer}
 use Rattle.finding.specs.declared.allowed.AllowedAnswer.the-variants.{Found, Nothing, Stopped, Refused}
 use Rattle.finding.specs.Calls.{allowedIn, AllowedCall, FindCall}
+use Rattle.theorems.specs.Models.{Model}
 use Rattle.theorems.specs.Unstopped.{counting}
 use Rattle.theorems.specs.Allowance.{Unrefused, IsStopped, StoppedCall, SameWithin, AllowedCalls, Allowance}
+use Rattle.theorems.proofs.Models.{is-sheet-model}
 use Rattle.theorems.proofs.Unstopped.{result-of, allowed-refused}
+
+-- where the walk of a size finds nothing, no case of that size is a model of the sheet as handed in
+module _ (p : Problem) (got : Read p) where
+  none-least : (named symmetry : Bool) (t : ℕ) → zero < t → searchedWith symmetry t (modeProblem named p) .answer ≡ none → leastWith symmetry t p ≡ none
+  none-least false symmetry t pos e = sym (constantClauses .walk symmetry t p pos (got .sheet .clauses)) ∙ ap (readBackFound t p) e
+  none-least true symmetry t pos e =
+      sym (namedTwins p (got .sheet) .walk symmetry t pos) ∙ ap (λ (o : Option (List ℕ)). shownFound t (inMode p .symbols) (readBackFound t (inMode p) o)) e
+
+  none-at-all : (symmetry : Bool) (t : ℕ) → zero < t → leastWith symmetry t p ≡ none → leastModel t p ≡ none
+  none-at-all false t pos e = e
+  none-at-all true t pos e = twins .problems p (got .sheet .clauses) .noLeast t pos .0 e
+
+  no-model-at : (named symmetry : Bool) (t : ℕ) (d : List ℕ) → searchedWith symmetry t (modeProblem named p) .answer ≡ none → Model p t d → ⊥
+  no-model-at named symmetry t d e m =
+      let j : SheetModel p t d = is-sheet-model p t d m in
+      let only : OnlyText (p .symbols) d (j .case) = read-exactly (p .symbols) d (j .case) (j .read) in
+      let pos : zero < t = subst (λ (s : ℕ). zero < s) (j .sized) (only .positive) in
+      least p .noLeast t .0 (none-at-all symmetry t pos (none-least named symmetry t pos e)) (j .case .values)
+      (record { interpretation = ap (λ (s : ℕ). isInterpretation s (p .symbols) (j .case .values)) (sym (j .sized)) ∙ only .interpretation; model = j .model })
 
 -- the search that an answer tells of
 found-within : (a : Answer (Stoppable Search)) (size n k : ℕ) → allowedAnswer a ≡ answer (finished (foundCase size n) k) → (c : List ℕ) × (a ≡ answer (finished (found size c) k)) × (length c ≡ n)
@@ -112,6 +146,7 @@ module _ (sheet : List ℕ) (p : Problem) (low high : ℕ) (named symmetry : Boo
         record {
           number = u .0;
           usedUp = u .2;
+          below = λ t d lo lt m. no-model-at p (read-in named sheet p read) named symmetry t d (u .2 .before t lo lt) m;
           cleared = f .worked ∙ ap (λ (a : Answer (Stoppable Search)). allowedWork a work) z;
           unchanged = f .left ∙ ap (λ (a : Answer (Stoppable Search)). allowedOutput a output) z;
         }

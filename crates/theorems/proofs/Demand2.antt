@@ -14,7 +14,9 @@ use Rattle.theory.specs.Operations.{judgeAnswer, over, writtenText, Search, fou
 use Rattle.theory.specs.Claims.FindsLeast as theory
 use Rattle.theory.proofs.Answers.{unbind, bind-step, answer-inj, answer≢refused}
 use Rattle.theory.proofs.PlacedReading.{placed-problem, problem-read, placed-case, case-read}
+use Rattle.theory.specs.PlainSearch.{plainResult}
 use Rattle.theory.proofs.FindsLeast.{finds-least}
+use Rattle.theory.proofs.PlainFinds.{plain-finds}
 use Rattle.naming.specs.NamedProblem.{inMode}
 use Rattle.naming.specs.NamedReading.{readNamed}
 use Rattle.naming.specs.NamedOperations.{namedWrittenText, namedFindResult, readProblemIn, writtenTextIn, findResultIn}
@@ -27,7 +29,7 @@ use Rattle.answers.specs.declared.WriteAnswer.{WriteAnswer}
 use Rattle.answers.specs.declared.FindAnswer.{FindAnswer}
 use Rattle.answers.specs.declared.FindAnswer.the-variants.{Found, Nothing, Refused}
 use Rattle.answers.specs.Answers.{refusalIn, judgeIn, findIn}
-use Rattle.answers.specs.Calls.{JudgeCall, WriteCall}
+use Rattle.answers.specs.Calls.{JudgeCall, WriteCall, PlainCall}
 use Rattle.theorems.specs.Texts.{clausesText}
 use Rattle.theorems.specs.Leaving.{Leaves}
 use Rattle.theorems.specs.Models.{IsTrue}
@@ -140,9 +142,8 @@ module _ (sheet : List ℕ) (p : Problem) (low high : ℕ) (read : readProblem s
             rw same at (b .after);
       }
 
-  plain-searched : (work room : ℕ) → Searched p low high (findResult sheet low high work room)
-  plain-searched work room =
-      let d = finds-least sheet p low high work room read in
+  least-searched : (result : Answer Search) → theory.FindsLeast sheet p low high result → Searched p low high result
+  least-searched result d =
       record {
         least = λ size c e. least-text size c (d .finds size c e);
         none = λ b e t c le₁ le₂ m. d .findsNone b e t c le₁ le₂ (model-is-judged sheet p read t c m);
@@ -171,38 +172,37 @@ module _ (sheet : List ℕ) (p : Problem) (low high : ℕ) (read : readNamed she
       }
 
 searched-in : (named : Bool) (sheet : List ℕ) (p : Problem) (low high work room : ℕ) → readProblemIn named sheet ≡ answer p → Searched p low high (findResultIn named sheet low high work room)
-searched-in false sheet p low high work room read = plain-searched sheet p low high read work room
+searched-in false sheet p low high work room read = least-searched sheet p low high read (findResult sheet low high work room) (finds-least sheet p low high work room read)
 searched-in true sheet p low high work room read = named-searched sheet p low high read work room
 
 -- a call's case stands in its output
-pub case-stands : (result : Answer Search) (r : FindAnswer) (work work′ output output′ : List ℕ) → SearchingCall result r work work′ output output′ → (size n : ℕ) → r ≡ Found size n
+pub output-stands : (result : Answer Search) (r : FindAnswer) (output output′ : List ℕ) → findIn r ≡ findAnswer result → output′ ≡ findOutput result output → (size n : ℕ) → r ≡ Found size n
     → (c : List ℕ) × (result ≡ answer (found size c)) × (take n output′ ≡ c)
-case-stands result r work work′ output output′ f size n e =
-    let c = found-case result size n (sym (f .answer) ∙ ap findIn e) in (
+output-stands result r output output′ answered left size n e =
+    let c = found-case result size n (sym answered ∙ ap findIn e) in (
       c .0,
       c .1,
-      ap (take n) (f .left ∙ ap (λ (a : Answer Search). findOutput a output) (c .1)) ∙ ap (λ (n : ℕ). take n (over (c .0) output)) (sym (c .2)) ∙ take-append-seam (c .0) (drop (length (c .0)) output),
+      ap (take n) (left ∙ ap (λ (a : Answer Search). findOutput a output) (c .1)) ∙ ap (λ (n : ℕ). take n (over (c .0) output)) (sym (c .2)) ∙ take-append-seam (c .0) (drop (length (c .0)) output),
     )
 
-module _ (sheet : List ℕ) (p : Problem) (low high : ℕ) (named : Bool) (read : readProblemIn named sheet ≡ answer p) (r : FindAnswer) (work work′ output output′ : List ℕ)
-    (f : UnstoppedCall sheet low high named false r work work′ output output′) where
-  abbrev result : Answer Search
-  result = findResultIn named sheet low high (length work) (length output)
+pub case-stands : (result : Answer Search) (r : FindAnswer) (work work′ output output′ : List ℕ) → SearchingCall result r work work′ output output′ → (size n : ℕ) → r ≡ Found size n
+    → (c : List ℕ) × (result ≡ answer (found size c)) × (take n output′ ≡ c)
+case-stands result r work work′ output output′ f = output-stands result r output output′ (f .answer) (f .left)
 
-  call : ((q : answers.Refusal) → r ≡ Refused q → ⊥) → SearchingCall result r work work′ output output′
-  call = unstopped sheet low high named false r work work′ output output′ f
-
-  d : Searched p low high result
-  d = searched-in named sheet p low high (length work) (length output) read
-
+-- of an answer that tells such a result where it is not refused
+module _ (p : Problem) (low high : ℕ) (result : Answer Search) (d : Searched p low high result) (r : FindAnswer) (output output′ : List ℕ)
+    (call : ((q : answers.Refusal) → r ≡ Refused q → ⊥) → (findIn r ≡ findAnswer result) × (output′ ≡ findOutput result output)) where
   find-found : (size n : ℕ) → r ≡ Found size n → LeastModel p low high size (take n output′)
-  find-found size n e = let c = case-stands result r work work′ output output′ (call (found-taken r size n e)) size n e in rw (sym (c .2)) at (d .least size (c .0) (c .1))
+  find-found size n e =
+      let f = call (found-taken r size n e) in
+      let c = output-stands result r output output′ (f .0) (f .1) size n e in
+      rw (sym (c .2)) at (d .least size (c .0) (c .1))
 
-  finds : Finds p low high r output′
-  finds =
+  finds-of : Finds p low high r output′
+  finds-of =
       record {
         found = find-found;
-        saysNone = λ b e. d .none b (no-case result b (sym (call (none-taken r b e) .answer) ∙ ap findIn e));
+        saysNone = λ b e. d .none b (no-case result b (sym (call (none-taken r b e) .0) ∙ ap findIn e));
         noneIf = go r refl;
       }
     where
@@ -211,6 +211,18 @@ module _ (sheet : List ℕ) (p : Problem) (low high : ℕ) (named : Bool) (read 
       go (Nothing b) e none unrefused = (b, e)
       go (Refused q) e none unrefused = absurd (unrefused q e)
 
+finds : (sheet : List ℕ) (p : Problem) (low high : ℕ) (named : Bool) → readProblemIn named sheet ≡ answer p → (r : FindAnswer) (work work′ output output′ : List ℕ)
+    → UnstoppedCall sheet low high named false r work work′ output output′ → Finds p low high r output′
+finds sheet p low high named read r work work′ output output′ f =
+    let result : Answer Search = findResultIn named sheet low high (length work) (length output) in
+    finds-of p low high result (searched-in named sheet p low high (length work) (length output) read) r output output′
+    (λ taken. let c = unstopped sheet low high named false r work work′ output output′ f taken in (c .answer, c .left))
+
+finds-plain : (sheet : List ℕ) (p : Problem) (low high : ℕ) → readProblem sheet ≡ answer p → (r : FindAnswer) (output output′ : List ℕ) → PlainCall sheet low high r output output′ → Finds p low high r output′
+finds-plain sheet p low high read r output output′ f =
+    let result : Answer Search = plainResult sheet low high (length output) in
+    finds-of p low high result (least-searched sheet p low high read result (plain-finds sheet p low high (length output) read .least)) r output output′ (λ _. (f .answer, f .left))
+
 -- the theorem
 pub demand2-of-calls : Demand2
-demand2-of-calls = record { judge = judges; write = writes; find = finds }
+demand2-of-calls = record { judge = judges; write = writes; find = finds; findPlain = finds-plain }

@@ -12,6 +12,8 @@ pub mod Settles
 pub mod Renumbers
 pub mod FromTptp
 pub mod FromSolver
+pub mod Refusing
+pub mod EachOnce
 pub mod Merges
 pub mod SameAnswers
 pub mod Named

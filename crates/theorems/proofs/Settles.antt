@@ -8,13 +8,18 @@ use Rattle.theory.specs.Refusals.{answer}
 use Rattle.theory.specs.Problem.{Problem}
 use Rattle.theory.specs.Operations.{nothing}
 use Rattle.theory.specs.Claims.Settling.{Unsatisfiable}
+use Rattle.theory.specs.PlainSearch.{plainResult}
 use Rattle.theory.proofs.Settling.{settling}
+use Rattle.theory.proofs.PlainFinds.{plain-finds}
 use Rattle.naming.specs.NamedOperations.{readProblemIn}
 use Rattle.naming.proofs.FindsLeast.{named-finds-least}
 use Rattle.symmetry.specs.SymmetricOperations.{findResultWith}
 use Rattle.symmetry.proofs.FindsObeying.{finds-obeying}
 use Rattle.answers.specs.Answers.{findIn}
-use Rattle.theorems.specs.Settles.{SettlesHolds}
+use Rattle.answers.specs.declared.FindAnswer.{FindAnswer}
+use Rattle.answers.specs.declared.FindAnswer.the-variants.{Nothing}
+use Rattle.theorems.specs.Unstopped.{UnstoppedCall}
+use Rattle.theorems.specs.Settles.{Settles}
 use Rattle.theorems.proofs.Unstopped.{unstopped, none-taken}
 use Rattle.theorems.proofs.Demand2.{no-case}
 
@@ -24,8 +29,17 @@ none-in false false sheet p low high work room read e = settling sheet p low hig
 none-in true false sheet p low high work room read e = named-finds-least sheet p low high work room read .settles e
 none-in named true sheet p low high work room read e = finds-obeying named sheet p low high work room read .settles e
 
-pub settles : SettlesHolds
-settles sheet p low high named symmetry read r work work′ output output′ f e =
+find-settles : (sheet : List ℕ) (p : Problem) (low high : ℕ) (named symmetry : Bool) → readProblemIn named sheet ≡ answer p
+    → (r : FindAnswer) (work work′ output output′ : List ℕ) → UnstoppedCall sheet low high named symmetry r work work′ output output′ → r ≡ Nothing true → Unsatisfiable p
+find-settles sheet p low high named symmetry read r work work′ output output′ f e =
     let c = unstopped sheet low high named symmetry r work work′ output output′ f (none-taken r true e) in
     none-in named symmetry sheet p low high (length work) (length output) read
     (no-case (findResultWith named symmetry sheet low high (length work) (length output)) true (sym (c .answer) ∙ ap findIn e))
+
+pub settles : Settles
+settles =
+    record {
+      find = find-settles;
+      findPlain = λ sheet p low high read r output output′ f e.
+          plain-finds sheet p low high (length output) read .settles (no-case (plainResult sheet low high (length output)) true (sym (f .answer) ∙ ap findIn e));
+    }

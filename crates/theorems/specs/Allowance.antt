@@ -20,6 +20,7 @@ use Rattle.answers.specs.declared.FindAnswer.{FindAnswer}
 use Rattle.finding.specs.declared.allowed.AllowedAnswer.{AllowedAnswer}
 use Rattle.finding.specs.declared.allowed.AllowedAnswer.the-variants.{Found, Nothing, Stopped, Refused}
 use Rattle.finding.specs.Calls.{allowedIn, FindCall}
+use Rattle.theorems.specs.Models.{Model}
 use Rattle.theorems.specs.Unstopped.{counting}
 
 -- the call is not refused: it found, it says none, or it is stopped
@@ -30,10 +31,12 @@ Unrefused r = (q : Refusal) → r ≡ Refused q → ⊥
 abbrev pub IsStopped : AllowedAnswer → Type 0
 IsStopped r = (s : ℕ) × (n : ℕ) × (r ≡ Stopped s n)
 
--- of a stopped call with this allowance: all choices that are allowed were made, and at this size one more is needed; the output is unchanged, and work is all zeros
+-- of a stopped call with this allowance: all choices that are allowed were made, and at this size one more is needed; no case of a smaller searched size is a model of the sheet as handed in;
+-- the output is unchanged, and work is all zeros
 pub record StoppedCall (named symmetry : Bool) (p : Problem) (low high allowance s n : ℕ) (work work′ output output′ : List ℕ) : Type 0 where
   pub number : n ≡ allowance
   pub usedUp : UsedUp symmetry (modeProblem named p) low high allowance s
+  pub below : (t : ℕ) (d : List ℕ) → low ≤ t → t < s → Model p t d → ⊥
   pub cleared : work′ ≡ replicate (length work) 0
   pub unchanged : output′ ≡ output
 

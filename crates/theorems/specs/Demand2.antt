@@ -1,4 +1,4 @@
--- Demand 2 of the calls: truth in a finite interpretation decides what Judge, Write and Find answer; of Write and Find in the mode of named terms too, `named` being the switch. "No others" and the least model are
+-- Demand 2 of the calls: truth in a finite interpretation decides what Judge, Write, Find and Find plain answer; of Write and Find in the mode of named terms too, `named` being the switch. "No others" and the least model are
 -- of Write not asked for the constant clauses and of Find told no: the switch after `named` is `false`. What is said of the other calls is `Symmetry`; of stopped ones, `Allowance`.
 use Prim.Native.Nat.{ℕ, _≤_, _<_}
 use mathlib.Core.Path.{_≡_}
@@ -17,7 +17,7 @@ use Rattle.answers.specs.declared.JudgeAnswer.the-variants.{Yes, No}
 use Rattle.answers.specs.declared.WriteAnswer.{WriteAnswer}
 use Rattle.answers.specs.declared.FindAnswer.{FindAnswer}
 use Rattle.answers.specs.declared.FindAnswer.the-variants.{Found, Nothing, Refused}
-use Rattle.answers.specs.Calls.{JudgeCall, WriteCall}
+use Rattle.answers.specs.Calls.{JudgeCall, WriteCall, PlainCall}
 use Rattle.theorems.specs.Texts.{clausesText}
 use Rattle.theorems.specs.Leaving.{Leaves}
 use Rattle.theorems.specs.Models.{IsTrue, Model}
@@ -51,7 +51,7 @@ pub record LeastModel (p : Problem) (low high size : ℕ) (text : List ℕ) : Ty
   pub searched : (low ≤ size) × (size ≤ high)
   pub least : (t : ℕ) (d : List ℕ) → low ≤ t → t ≤ high → (m : Model p t d) → (size < t) ⊎ ((size ≡ t) × NotAfter (model .case .values) (m .case .values))
 
--- of a call of Find told no that is neither refused nor stopped: it finds the least model at the smallest size that has one, or it says none; none exactly if no case of a searched size is a model
+-- of a call of Find told no that is not stopped, or of Find plain: it finds the least model at the smallest size that has one, or it says none; none exactly if no case of a searched size is a model
 pub record Finds (p : Problem) (low high : ℕ) (r : FindAnswer) (output : List ℕ) : Type 0 where
   pub found : (size n : ℕ) → r ≡ Found size n → LeastModel p low high size (take n output)
   pub saysNone : (settled : Bool) → r ≡ Nothing settled → NoModel p low high
@@ -64,3 +64,5 @@ pub record Demand2 : Type 0 where
       → (text : List ℕ) → Leaves r output′ text → Writes sheet size named text
   pub find : (sheet : List ℕ) (p : Problem) (low high : ℕ) (named : Bool) → readProblemIn named sheet ≡ answer p
       → (r : FindAnswer) (work work′ output output′ : List ℕ) → UnstoppedCall sheet low high named false r work work′ output output′ → Finds p low high r output′
+  pub findPlain : (sheet : List ℕ) (p : Problem) (low high : ℕ) → readProblem sheet ≡ answer p
+      → (r : FindAnswer) (output output′ : List ℕ) → PlainCall sheet low high r output output′ → Finds p low high r output′

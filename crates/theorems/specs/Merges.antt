@@ -11,6 +11,8 @@ use Rattle.theory.specs.Problem.{Problem, readProblem}
 use Rattle.theory.specs.CaseText.{Case, caseText, readCase}
 use Rattle.theory.specs.Columns.{placedProblem}
 use Rattle.answers.specs.Answers.{lengthIn}
+use Rattle.sheet_merging.specs.Sheets.{Sheet, sheetOf, textOf}
+use Rattle.sheet_merging.specs.Merging.{mergedSheet}
 use Rattle.sheet_merging.specs.Tables.{tablesFor}
 use Rattle.sheet_merging.specs.Claims.Merging.{noProblem, IsAmong, Taken}
 use Rattle.uniting.specs.declared.merge.MergeAnswer.{MergeAnswer}
@@ -34,6 +36,13 @@ caseFor p m k = caseText (k .size) (p .symbols) (tablesFor (k .size) (m .symbols
 abbrev pub NamesAgree : Problem → Problem → Type 0
 NamesAgree p q = (f u : Symbol) → IsAmong f (p .symbols) → IsAmong u (q .symbols) → f .name ≡ u .name → (f .kind ≡ u .kind) × (f .arity ≡ u .arity)
 
+-- the two made one go into a sheet: 12 functions, 12 predicates, 64 clauses and 16,384 bytes at most
+pub record FitsOneSheet (m : Sheet) : Type 0 where
+  pub functions : length (m .functions) ≤ 12
+  pub predicates : length (m .predicates) ≤ 12
+  pub clauses : length (m .lines) ≤ 64
+  pub bytes : length (textOf m) ≤ 16384
+
 -- of two sheets that are read as p and q
 pub record MergeOfTwo (first second : List ℕ) (p q : Problem) : Type 0 where
   -- what is left is a sheet: it is read, taken apart it is the two made one, and its symbols are those of both
@@ -43,6 +52,9 @@ pub record MergeOfTwo (first second : List ℕ) (p q : Problem) : Type 0 where
       → Model m (k .size) case ↔ (Model p (k .size) (caseFor p m k) × Model q (k .size) (caseFor q m k))
   -- 22 is answered exactly if a shared name differs in kind or arity, and no sheet is named with it
   pub differing : (r : MergeAnswer) (output output′ : List ℕ) → MergeCall first second r output output′ → (lengthIn (r .answer) ≡ refused (unplaced 22)) ↔ (NamesAgree p q → ⊥)
+  -- 23 is answered exactly if none differs, and the two made one are over a limit of a sheet
+  pub tooLarge : (r : MergeAnswer) (output output′ : List ℕ) → MergeCall first second r output output′
+      → (lengthIn (r .answer) ≡ refused (unplaced 23)) ↔ (NamesAgree p q × (FitsOneSheet (mergedSheet (sheetOf p first) (sheetOf q second)) → ⊥))
   pub neither : (r : MergeAnswer) (output output′ : List ℕ) → MergeCall first second r output output′ → r .sheet ≡ 0
 
 -- the theorem

@@ -1,18 +1,18 @@
 -- Renumber and Least form, of the calls (document 02, slip 13): a renumbered model is a model; one list after another equals the composed list; the reverse list brings the case back;
 -- and two cases of one sheet have the same least form exactly if some list turns one into the other.
-use Prim.Native.Nat.{ℕ, _≤_}
+use Prim.Native.Nat.{ℕ, _≤_, _<_}
 use mathlib.Core.Path.{_≡_}
 use mathlib.Core.Logic.{_↔_}
 use mathlib.Core.List.{List}
-use lib.ListN.{length}
-use Rattle.theory.specs.Refusals.{answer}
+use lib.ListN.{length, getD}
+use Rattle.theory.specs.Refusals.{answer, refused, unplaced}
 use Rattle.theory.specs.Problem.{Problem, readProblem}
 use Rattle.theory.specs.CaseText.{Case, readCase}
 use Rattle.theory.specs.Claims.Least.{NotAfter}
 use Rattle.renumbered_cases.specs.Claims.RenumberedCases.{composedList, reversedList}
 use Rattle.answers.specs.declared.JudgeAnswer.{JudgeAnswer}
 use Rattle.answers.specs.declared.WriteAnswer.{WriteAnswer}
-use Rattle.answers.specs.Answers.{judgeIn}
+use Rattle.answers.specs.Answers.{judgeIn, lengthIn}
 use Rattle.answers.specs.Calls.{JudgeCall}
 use Rattle.case_forms.specs.Calls.{RenumberCall, LeastFormCall}
 use Rattle.theorems.specs.Leaving.{Leaves}
@@ -39,12 +39,22 @@ pub record LeastFormAs (sheet case form : List ℕ) : Type 0 where
   pub call : LeastFormCall sheet case answer output output′
   pub leaves : Leaves answer output′ form
 
+-- the list is each of the numbers 1 to s once
+pub record EachOnce (s : ℕ) (list : List ℕ) : Type 0 where
+  pub long : length list ≡ s
+  pub among : (i : ℕ) → i < s → (1 ≤ getD list i 0) × (getD list i 0 ≤ s)
+  pub there : (b : ℕ) → 1 ≤ b → b ≤ s → (i : ℕ) × (i < s) × (getD list i 0 ≡ b)
+  pub once : (i j : ℕ) → i < s → j < s → getD list i 0 ≡ getD list j 0 → i ≡ j
+
 -- of one sheet
 pub record RenumberCalls (sheet : List ℕ) : Type 0 where
   -- a renumbered model is a model
   pub model : (p : Problem) (size : ℕ) (case list turned : List ℕ) → readProblem sheet ≡ answer p → RenumberedAs sheet case list turned → Model p size case → Model p size turned
   -- Judge answers a case and the renumbered case alike
   pub judged : (case list turned : List ℕ) → RenumberedAs sheet case list turned → (r q : JudgeAnswer) → JudgeCall sheet case r → JudgeCall sheet turned q → judgeIn q ≡ judgeIn r
+  -- 25 is answered exactly if the list is not each of 1 to the case's size once
+  pub listed : (p : Problem) (k : Case) (case list : List ℕ) → readProblem sheet ≡ answer p → readCase (p .symbols) case ≡ answer k
+      → (r : WriteAnswer) (output output′ : List ℕ) → RenumberCall sheet case list r output output′ → (lengthIn r ≡ refused (unplaced 25)) ↔ (EachOnce (k .size) list → ⊥)
   -- one list after another equals the composed one
   pub composes : (case list turned next last : List ℕ) → RenumberedAs sheet case list turned → RenumberedAs sheet turned next last → AlwaysRenumberedAs sheet case (composedList list next) last
   -- the reverse brings the case back

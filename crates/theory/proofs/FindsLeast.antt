@@ -8,9 +8,10 @@ use mathlib.Core.List.{List}
 use native.Mathlib.Omega.{arith}
 use lib.Dec.{leb}
 use Rattle.theory.specs.Syntax.{Signature}
-use Rattle.theory.specs.Refusals.{answer, unplaced}
+use Rattle.theory.specs.Refusals.{Answer, answer, unplaced, check}
 use Rattle.theory.specs.Problem.{Problem, readProblem}
 use Rattle.theory.specs.CaseText.{Case, caseText}
+use Rattle.theory.specs.Columns.{placedProblem}
 use Rattle.theory.specs.Least.{smallestModel}
 use Rattle.theory.specs.Operations.{Search, found, nothing, searchOf, findResult}
 use Rattle.theory.specs.Claims.Least.{NotAfter, ModelCells}
@@ -29,6 +30,20 @@ pub record Searched (p : Problem) (low high : ℕ) (r : Search) : Type 0 where
   pub ordered : low ≤ high
   pub result : searchOf p low high (smallestModel p low high) ≡ r
 
+-- the sheet is read, its sizes are checked, and what is found is answered
+pub searched-of : (sheet : List ℕ) (p q : Problem) (low high : ℕ) (r : Search) (u : Unit {0}) → readProblem sheet ≡ answer p → placedProblem sheet ≡ answer q
+    → check (leb 1 low && leb high 8 && leb low high) (unplaced 8) ≡ answer u → answer (searchOf q low high (smallestModel q low high)) ≡ answer r → Searched p low high r
+searched-of sheet p q low high r u read placed checked e =
+    let same : p ≡ q = answer-inj p q (sym read ∙ problem-read sheet q placed) in
+    let sizes : (leb 1 low && leb high 8 && leb low high) ≡ true = check-true _ (unplaced 8) u checked in
+    let both : (leb 1 low && leb high 8) ≡ true = and-left (leb 1 low && leb high 8) (leb low high) sizes in
+    record {
+      from-one = leb-true 1 low (and-left (leb 1 low) (leb high 8) both);
+      to-eight = leb-true high 8 (and-right (leb 1 low) (leb high 8) both);
+      ordered = leb-true low high (and-right (leb 1 low && leb high 8) (leb low high) sizes);
+      result = ap (λ (p : Problem). searchOf p low high (smallestModel p low high)) same ∙ answer-inj (searchOf q low high (smallestModel q low high)) r e;
+    }
+
 pub searched : (sheet : List ℕ) (p : Problem) (low high work room : ℕ) (r : Search) → readProblem sheet ≡ answer p → findResult sheet low high work room ≡ answer r → Searched p low high r
 unfolding findResult
 searched sheet p low high work room r read e =
@@ -37,15 +52,7 @@ searched sheet p low high work room r read e =
     unbind _ _ r e₂ λ (u₂ : Unit {0}) _ e₃.
     unbind _ _ r e₃ λ (u₃ : Unit {0}) _ e₄.
     unbind _ _ r e₄ λ (u₄ : Unit {0}) _ e₅.
-    let same : p ≡ q = answer-inj p q (sym read ∙ problem-read sheet q h₁) in
-    let sizes : (leb 1 low && leb high 8 && leb low high) ≡ true = check-true _ (unplaced 8) u₁ h₂ in
-    let both : (leb 1 low && leb high 8) ≡ true = and-left (leb 1 low && leb high 8) (leb low high) sizes in
-    record {
-      from-one = leb-true 1 low (and-left (leb 1 low) (leb high 8) both);
-      to-eight = leb-true high 8 (and-right (leb 1 low) (leb high 8) both);
-      ordered = leb-true low high (and-right (leb 1 low && leb high 8) (leb low high) sizes);
-      result = ap (λ (p : Problem). searchOf p low high (smallestModel p low high)) same ∙ answer-inj (searchOf q low high (smallestModel q low high)) r e₅;
-    }
+    searched-of sheet p q low high r u₁ read h₁ h₂ e₅
 
 module _ (sheet : List ℕ) (p : Problem) (low high : ℕ) (read : readProblem sheet ≡ answer p) where
   abbrev g : Signature
@@ -93,17 +100,18 @@ module _ (sheet : List ℕ) (p : Problem) (low high : ℕ) (read : readProblem s
   finds-none none h b e t d lo hi m = least p .noSmallest low high .0 h t (m .case .values) lo hi (model-of t d m)
   finds-none (some k) h b e t d lo hi m = let z : _≡_ {A = ℕ} 0 1 = cc in absurd (omega arith)
 
+  -- whatever answers so
+  module _ (answered : Answer Search) (so : (r : Search) → answered ≡ answer r → Searched p low high r) where
+    found-text : (s : ℕ) (c : List ℕ) → answered ≡ answer (found s c) → LeastText sheet p low high s c
+    found-text s c e = let r = so (found s c) e in finds (smallestModel p low high) refl (r .from-one) (r .to-eight) s c (r .result)
+
+    pub searched-least : FindsLeast sheet p low high answered
+    searched-least =
+        record {
+          finds = found-text;
+          findsNone = λ b e. finds-none (smallestModel p low high) refl b (so (nothing b) e .result);
+          noneIf = λ h s c e. let l : LeastText sheet p low high s c = found-text s c e in h s c (l .searched .0) (l .searched .1) (l .model);
+        }
+
 pub finds-least : FindsLeastHolds
-finds-least sheet p low high work room read =
-    record {
-      finds = λ s c e. found-text s c e;
-      findsNone = λ b e.
-          let r : Searched p low high (nothing b) = searched sheet p low high work room (nothing b) read e in
-          finds-none sheet p low high read (smallestModel p low high) refl b (r .result);
-      noneIf = λ h s c e. let l : LeastText sheet p low high s c = found-text s c e in h s c (l .searched .0) (l .searched .1) (l .model);
-    }
-  where
-    found-text : (s : ℕ) (c : List ℕ) → findResult sheet low high work room ≡ answer (found s c) → LeastText sheet p low high s c
-    found-text s c e =
-        let r : Searched p low high (found s c) = searched sheet p low high work room (found s c) read e in
-        finds sheet p low high read (smallestModel p low high) refl (r .from-one) (r .to-eight) s c (r .result)
+finds-least sheet p low high work room read = searched-least sheet p low high read (findResult sheet low high work room) (λ r e. searched sheet p low high work room r read e)

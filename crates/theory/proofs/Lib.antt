@@ -68,6 +68,7 @@ pub mod Tabulated
 pub mod InterpretationCells
 pub mod NamedElements
 pub mod Settling
+pub mod PlainFinds
 pub mod Explaining
 pub mod CaseRefusals
 pub mod LineMatching

@@ -8,6 +8,7 @@ pub mod ReadingBack
 pub mod Least
 pub mod FindsLeast
 pub mod Settling
+pub mod PlainFinds
 pub mod Walk
 pub mod Counts
 pub mod SheetRead

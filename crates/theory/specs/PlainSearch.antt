@@ -1,5 +1,5 @@
--- Find plain (document 02, slip 8): the search that fills cells in order with the least value first and judges full cases by truth alone. What it finds is what Find finds, the least model at the
--- smallest size; what it refuses is its own.
+-- Find plain (document 02, slip 8): the search that fills cells in order with the least value first and judges full cases by truth alone. What it finds is the least model at the
+-- smallest size, as Find's is without the constant clauses; what it refuses is its own.
 use Prim.Native.Nat.{ℕ}
 use mathlib.Core.Bool.{_&&_}
 use mathlib.Core.List.{List}

@@ -1,4 +1,4 @@
--- A problem as a sheet can say it: every problem that is read is well-formed, and a well-formed problem that is written is read back (crate tptp, Claims/SheetRead).
+-- A problem as a sheet can say it: every problem that is read is well-formed, and a well-formed problem that is written is read back (`Claims/SheetRead`).
 use Prim.Native.Nat.{ℕ, _≤_, _<_}
 use mathlib.Core.Path.{_≡_}
 use mathlib.Core.Bool.{Bool, true, _&&_}

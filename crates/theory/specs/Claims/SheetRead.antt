@@ -7,6 +7,6 @@ use Rattle.theory.specs.Refusals.{answer}
 use Rattle.theory.specs.WellFormed.{WellFormed}
 use Rattle.theory.specs.SheetText.{sheetText}
 
--- the theorem; every problem that Read takes is well-formed
+-- the theorem
 pub record SheetRead : Type 0 where
   pub read : (p : Problem) → WellFormed p → length (sheetText p) ≤ maxBytes → readProblem (sheetText p) ≡ answer p
