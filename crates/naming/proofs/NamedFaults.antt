@@ -1,5 +1,6 @@
 -- Where a sheet is refused in the mode: with a number other than 7 the line has the condition of that number; the numbers and lines of all refusals; where 7 stands.
 use Prim.Native.Nat.{ℕ, zero, suc, _+_, _≤_, _<_}
+use mathlib.Core.Logic.{_⊎_, inl, inr}
 use mathlib.Core.Path.{_≡_, refl, sym, ap, _∙_, subst}
 use mathlib.Core.Bool.{true, _&&_, _||_}
 use mathlib.Core.List.{List, [], _∷_}
@@ -21,7 +22,7 @@ use Rattle.theory.proofs.PlacedRefusals.{at-its-line}
 use Rattle.theory.proofs.LinesBefore.{ReadUpTo}
 use Rattle.theory.proofs.DueLines.{clauseForm}
 use Rattle.theory.proofs.SheetLines.{key-cut, at-next}
-use Rattle.theory.proofs.SheetRefusals.{OfSheet, of-line, keyLine-so, nothingLeft-so, sheet-refusal}
+use Rattle.theory.proofs.SheetRefusals.{SheetLine, OfSheet, of-line, keyLine-so, nothingLeft-so, sheet-refusal}
 use Rattle.theory.proofs.SheetFaults.{LineFault, LineFaults, keyLine-faults, clauseOf-faults, end-faults, sheet-fault}
 use Rattle.naming.specs.FixedTerms.{namedTerms}
 use Rattle.naming.specs.NamedReading.{maxHelpers, isWithinNamed, namedClauseOf, namedClauseLines, readNamed, namedColumn, placedNamed}
@@ -107,41 +108,49 @@ module _ (text : List ℕ) where
       unrefused (head text) namedRest (atLine n (suc l)) (sym (named-parts text) ∙ e) (λ h. sheet-fault text n l (head-refused text (atLine n (suc l)) h))
       λ (h : Head) k e₁. refused-so NamedFaults (namedRest h) (atLine n (suc l)) (rest-faults h (head-read text h k)) e₁ other l refl
 
--- a refusal of the mode: its number is one of 1 to 7 or 21, at one of the first 93 lines, without a column
+-- a refusal of the mode: its number is one of 1 to 7 or 21, at one of the first 93 lines, without a column; 1 and 21 alone name no line
 pub record OfNamed (r : Refusal) : Type 0 where
   pub number : (leb 1 (r .number) && leb (r .number) 7 || eqb (r .number) 21) ≡ true
   pub line : r .place .line ≤ 93
   pub column : r .place .column ≡ 0
   pub needed : r .needed ≡ 0
+  pub unlined : r .place .line ≡ 0 → (r .number ≡ 1) ⊎ (r .number ≡ 21)
 
 of-sheet : (r : Refusal) → OfSheet r → OfNamed r
-of-sheet r h = record { number = or-left (leb 1 (r .number) && leb (r .number) 7) (eqb (r .number) 21) (h .number); line = h .line; column = h .column; needed = h .needed }
+of-sheet r h =
+    record {
+      number = or-left (leb 1 (r .number) && leb (r .number) 7) (eqb (r .number) 21) (h .number);
+      line = h .line;
+      column = h .column;
+      needed = h .needed;
+      unlined = λ z. inl (h .unlined z);
+    }
 
-clause-so : (g : Signature) (l : ℕ) (v : List ℕ) → l ≤ 93 → RefusedSo OfSheet (namedClauseOf g l v)
+clause-so : (g : Signature) (l : ℕ) (v : List ℕ) → SheetLine l → RefusedSo OfSheet (namedClauseOf g l v)
 unfolding namedClauseOf
 clause-so g l v h =
     bind-so OfSheet (orRefuse (readAll g (wordsOf v)) (atLine 5 l)) _ (orRefuse-so OfSheet (readAll g (wordsOf v)) (atLine 5 l) (λ _. of-line 5 l refl h))
     (λ ws _. bind-so OfSheet (orRefuse (readClause g ws) (atLine 6 l)) _ (orRefuse-so OfSheet (readClause g ws) (atLine 6 l) (λ _. of-line 6 l refl h))
     (λ c _. bind-so OfSheet (check (isWithinNamed (length g) c) (atLine 7 l)) _ (check-so OfSheet (isWithinNamed (length g) c) (atLine 7 l) (λ _. of-line 7 l refl h)) (λ _ _. tt)))
 
-lines-so : (n : ℕ) (g : Signature) (l : ℕ) (text : List ℕ) → l + n ≤ 94 → RefusedSo OfSheet (namedClauseLines n g l text)
+lines-so : (n : ℕ) (g : Signature) (l : ℕ) (text : List ℕ) → 1 ≤ l → l + n ≤ 94 → RefusedSo OfSheet (namedClauseLines n g l text)
 unfolding namedClauseLines
-lines-so zero g l text h = tt
-lines-so (suc n) g l text h =
-    let here : l ≤ 93 = omega arith in
+lines-so zero g l text one h = tt
+lines-so (suc n) g l text one h =
+    let here : SheetLine l = (one, omega arith) in
     bind-so OfSheet (keyLine (bytes "clause=") l text) _ (keyLine-so (bytes "clause=") l text here)
     (λ p _. bind-so OfSheet (namedClauseOf g l (p .0)) _ (clause-so g l (p .0) here)
-    (λ c _. bind-so OfSheet (namedClauseLines n g (suc l) (p .1)) _ (lines-so n g (suc l) (p .1) (omega arith)) (λ r _. tt)))
+    (λ c _. bind-so OfSheet (namedClauseLines n g (suc l) (p .1)) _ (lines-so n g (suc l) (p .1) (omega arith) (omega arith)) (λ r _. tt)))
 
 rest-so : (text : List ℕ) (h : Head) → HeadRead text h → RefusedSo OfNamed (namedRest h)
 unfolding namedRest
 rest-so text h b =
     let l : ℕ = firstClause h in
     bind-so OfNamed (namedClauseLines (h .clauses) (h .symbols) l (h .rest)) _
-    (so-imply OfSheet OfNamed of-sheet (namedClauseLines (h .clauses) (h .symbols) l (h .rest)) (lines-so (h .clauses) (h .symbols) l (h .rest) (omega (arith, b .functions, b .predicates, b .clauses))))
-    (λ cs _. bind-so OfNamed (nothingLeft (l + h .clauses) (cs .1)) _ (so-imply OfSheet OfNamed of-sheet (nothingLeft (l + h .clauses) (cs .1)) (nothingLeft-so (l + h .clauses) (cs .1) (omega (arith, b .functions, b .predicates, b .clauses))))
+    (so-imply OfSheet OfNamed of-sheet (namedClauseLines (h .clauses) (h .symbols) l (h .rest)) (lines-so (h .clauses) (h .symbols) l (h .rest) (omega arith) (omega (arith, b .functions, b .predicates, b .clauses))))
+    (λ cs _. bind-so OfNamed (nothingLeft (l + h .clauses) (cs .1)) _ (so-imply OfSheet OfNamed of-sheet (nothingLeft (l + h .clauses) (cs .1)) (nothingLeft-so (l + h .clauses) (cs .1) (omega arith, omega (arith, b .functions, b .predicates, b .clauses))))
     (λ _ _. bind-so OfNamed (check (leb (length (namedTerms (cs .0))) maxHelpers) (unplaced 21)) _
-    (check-so OfNamed (leb (length (namedTerms (cs .0))) maxHelpers) (unplaced 21) (λ _. record { number = refl; line = omega arith; column = refl; needed = refl })) (λ _ _. tt)))
+    (check-so OfNamed (leb (length (namedTerms (cs .0))) maxHelpers) (unplaced 21) (λ _. record { number = refl; line = omega arith; column = refl; needed = refl; unlined = λ _. inr refl })) (λ _ _. tt)))
 
 pub named-refusal : (text : List ℕ) (r : Refusal) → readNamed text ≡ refused r → OfNamed r
 named-refusal text r e =

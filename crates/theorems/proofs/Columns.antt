@@ -1,5 +1,5 @@
 -- Columns, of the calls: each refusal is the sheet's, the case's, or one without a place.
-use Prim.Native.Nat.{ℕ, suc, _≤_}
+use Prim.Native.Nat.{ℕ, suc, _-_, _≤_}
 use mathlib.Core.Path.{_≡_, refl, sym, ap, _∙_, subst}
 use mathlib.Core.Logic.{_⊎_, inl, inr}
 use mathlib.Core.Bool.{Bool, true, false, cond, _&&_}
@@ -27,14 +27,15 @@ use Rattle.theory.proofs.PlacedReading.{problem-read, plain-case}
 use Rattle.theory.proofs.PlacedRefusals.{refusal-told}
 use Rattle.theory.proofs.CaseRefusals.{case-refusal}
 use Rattle.theory.proofs.Tests.{true-or-false, eqb-true, eqb-false, eqb-ne}
-use Rattle.theory.proofs.SheetFaults.{LineFault}
+use Rattle.theory.proofs.SheetFaults.{LineFault, fault-number, sheet-fault}
+use Rattle.theory.proofs.SheetRefusals.{sheet-refusal}
 use Rattle.theory.proofs.Columns.{two-at, three-at, four-at, five-at, six-at, columns}
 use Rattle.theory.proofs.ColumnsWithin.{fault-within, within}
 use Rattle.theory.proofs.Explaining.{explaining}
 use Rattle.naming.specs.NamedProblem.{inMode, shownSymbols}
 use Rattle.naming.specs.NamedReading.{namedColumn, placedNamed}
 use Rattle.naming.specs.NamedOperations.{namedReadBackText, placedIn, modeProblem, readBackTextIn}
-use Rattle.naming.proofs.NamedFaults.{named-fault, named-told}
+use Rattle.naming.proofs.NamedFaults.{named-fault, named-refusal, named-told}
 use Rattle.symmetry.specs.ConstantClauses.{propClausesWith, instanceCountWith, workNeededWith}
 use Rattle.symmetry.specs.SymmetricOperations.{shownIn, writtenTextWith}
 use Rattle.symmetry.proofs.Chains.{contentChain, writeChain, write-chain}
@@ -64,6 +65,7 @@ module _ (sheet : List ℕ) (q : Refusal) (e : placedProblem sheet ≡ refused q
       let d : LineForm = dueInSheet sheet l in
       let t : List ℕ = firstLine (fromLine l sheet) in
       record {
+        numbered = fault-number sheet (q .number) l (sheet-fault sheet (q .number) l (told (q .number) (suc l) refl h .0) .has);
         two = λ n. let e = told 2 (suc l) n h in subst (ByteBeyondHelp twoOn sheet l) (e .1) (columns .two sheet l (e .0));
         three = λ n. let e = told 3 (suc l) n h in subst (OverNumber d t) (e .1) (columns .three sheet l (e .0));
         four = λ n. let e = told 4 (suc l) n h in subst (BadName sheet l) (e .1) (columns .four sheet l (e .0));
@@ -74,7 +76,13 @@ module _ (sheet : List ℕ) (q : Refusal) (e : placedProblem sheet ≡ refused q
       }
 
   of-the-sheet : OfTheSheet false sheet q
-  of-the-sheet = record { lined = in-sheet; unlined = λ h. sym (told (q .number) 0 refl h .1) ∙ columns .unplaced sheet (q .number) }
+  of-the-sheet =
+      record {
+        lined = in-sheet;
+        unlined = λ h.
+            let e = told (q .number) 0 refl h in
+            (sheet-refusal sheet (atLine (q .number) 0) (e .0) .unlined refl, sym (e .1) ∙ columns .unplaced sheet (q .number));
+      }
 
 -- the sheet's refusal in the mode
 module _ (sheet : List ℕ) (q : Refusal) (e : placedNamed sheet ≡ refused q) where
@@ -103,6 +111,7 @@ module _ (sheet : List ℕ) (q : Refusal) (e : placedNamed sheet ≡ refused q) 
       let d : LineForm = dueInSheet sheet l in
       let t : List ℕ = firstLine (fromLine l sheet) in
       record {
+        numbered = number (true-or-false (eqb (q .number) 7));
         two = λ n. subst (ByteBeyondHelp twoOn sheet l) (plain-column 2 l n (λ z. omega (arith, z)) h) (two-at sheet l (named-fault-at 2 l n (λ z. omega (arith, z)) h));
         three = λ n. subst (OverNumber d t) (plain-column 3 l n (λ z. omega (arith, z)) h) (three-at sheet l (named-fault-at 3 l n (λ z. omega (arith, z)) h));
         four = λ n. subst (BadName sheet l) (plain-column 4 l n (λ z. omega (arith, z)) h) (four-at sheet l (named-fault-at 4 l n (λ z. omega (arith, z)) h));
@@ -112,6 +121,10 @@ module _ (sheet : List ℕ) (q : Refusal) (e : placedNamed sheet ≡ refused q) 
         within = go (true-or-false (eqb (q .number) 7));
       }
     where
+      number : (eqb (q .number) 7 ≡ true) ⊎ (eqb (q .number) 7 ≡ false) → (2 ≤ q .number) × (q .number ≤ 7)
+      number (inl k) = let e : q .number ≡ 7 = eqb-true (q .number) 7 k in (omega (arith, e), omega (arith, e))
+      number (inr k) = fault-number sheet (q .number) l (named-fault-at (q .number) l refl (eqb-ne (q .number) 7 k) h .has)
+
       go : (eqb (q .number) 7 ≡ true) ⊎ (eqb (q .number) 7 ≡ false) → (1 ≤ q .place .column) × (q .place .column ≤ suc (length (firstLine (fromLine l sheet))))
       go (inl k) = let c : q .place .column ≡ 1 = seven-column l (eqb-true (q .number) 7 k) h in (omega (arith, c), omega (arith, c))
       go (inr k) =
@@ -121,7 +134,11 @@ module _ (sheet : List ℕ) (q : Refusal) (e : placedNamed sheet ≡ refused q) 
           (omega (arith, c, w .0), omega (arith, c, w .1))
 
   of-the-named-sheet : OfTheSheet true sheet q
-  of-the-named-sheet = record { lined = named-in-sheet; unlined = no-column }
+  of-the-named-sheet =
+      record {
+        lined = named-in-sheet;
+        unlined = λ h. (named-refusal sheet (atLine (q .number) (q .place .line)) (named-told sheet q e .0) .unlined h, no-column h);
+      }
 
 -- the case's refusal
 of-the-case : (sheet case : List ℕ) (p : Problem) (q : Refusal) → readProblem sheet ≡ answer p → placedCase (p .symbols) case ≡ refused q → OfTheCase sheet case q
@@ -131,13 +148,15 @@ of-the-case sheet case p q read e =
     let line : c .line ≡ q .place .line = ap (λ (r : Refusal). r .place .line) (sym (c .is)) ∙ ap (λ (r : Refusal). r .place .line) (r .placed) in
     let column : caseColumn (p .symbols) case (c .line) ≡ q .place .column =
     ap (λ (r : Refusal). caseColumn (p .symbols) case (r .place .line)) (sym (c .is)) ∙ ap (λ (r : Refusal). r .place .column) (r .placed) in
+    let one : c .line ≡ suc (c .line - 1) = omega (arith, c .lined) in
     record {
       problem = p;
       sheetRead = read;
       number = sym (ap (λ (r : Refusal). r .number) (r .placed)) ∙ ap (λ (r : Refusal). r .number) (c .is);
-      lined = λ l h.
-          subst (ByteBeyondHelp (twelveOn (p .symbols)) case l) (ap (caseColumn (p .symbols) case) (sym (line ∙ h)) ∙ column)
-          (columns .twelve sheet case p l read (r .refuses ∙ ap refused (c .is) ∙ ap (λ (l : ℕ). refused (atLine 12 l)) (line ∙ h)));
+      line = c .line - 1;
+      lined = sym line ∙ one;
+      beyond = subst (ByteBeyondHelp (twelveOn (p .symbols)) case (c .line - 1)) (ap (caseColumn (p .symbols) case) (sym one) ∙ column)
+          (columns .twelve sheet case p (c .line - 1) read (r .refuses ∙ ap refused (c .is) ∙ ap (λ (l : ℕ). refused (atLine 12 l)) one));
     }
 
 -- a check without a place

@@ -31,6 +31,7 @@ SevenAt true sheet l column = column ≡ 1
 
 -- of the column that a sheet's refusal on line l names, the first being line 0
 pub record InSheet (named : Bool) (sheet : List ℕ) (l number column : ℕ) : Type 0 where
+  pub numbered : (2 ≤ number) × (number ≤ 7)
   pub two : number ≡ 2 → ByteBeyondHelp twoOn sheet l column
   pub three : number ≡ 3 → OverNumber (dueInSheet sheet l) (firstLine (fromLine l sheet)) column
   pub four : number ≡ 4 → BadName sheet l column
@@ -40,17 +41,24 @@ pub record InSheet (named : Bool) (sheet : List ℕ) (l number column : ℕ) : T
   -- a byte of the line, or one past its end
   pub within : (1 ≤ column) × (column ≤ suc (length (firstLine (fromLine l sheet))))
 
+-- the number of a refusal of the sheet without a line: 1, and in the mode of named terms 21
+abbrev pub Unlined : Bool → ℕ → Type 0
+Unlined false number = number ≡ 1
+Unlined true number = (number ≡ 1) ⊎ (number ≡ 21)
+
 -- a refusal of the sheet: with a line it names a column there, without one it names none
 pub record OfTheSheet (named : Bool) (sheet : List ℕ) (q : Refusal) : Type 0 where
   pub lined : (l : ℕ) → q .place .line ≡ suc l → InSheet named sheet l (q .number) (q .place .column)
-  pub unlined : q .place .line ≡ 0 → q .place .column ≡ 0
+  pub unlined : q .place .line ≡ 0 → Unlined named (q .number) × (q .place .column ≡ 0)
 
--- a refusal of the case: 12, on a line of it
+-- a refusal of the case: 12, on a line of it, at the first byte beyond help
 pub record OfTheCase (sheet case : List ℕ) (q : Refusal) : Type 0 where
   pub problem : Problem
   pub sheetRead : readProblem sheet ≡ answer problem
   pub number : q .number ≡ 12
-  pub lined : (l : ℕ) → q .place .line ≡ suc l → ByteBeyondHelp (twelveOn (problem .symbols)) case l (q .place .column)
+  pub line : ℕ
+  pub lined : q .place .line ≡ suc line
+  pub beyond : ByteBeyondHelp (twelveOn (problem .symbols)) case line (q .place .column)
 
 -- a refusal that names no place
 abbrev pub NoPlace : Refusal → Type 0

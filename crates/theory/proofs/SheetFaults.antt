@@ -62,6 +62,18 @@ module _ (text : List ℕ) where
   HasFault (suc (suc (suc (suc (suc (suc (suc zero))))))) l = OverOn l
   HasFault (suc (suc (suc (suc (suc (suc (suc (suc n)))))))) l = ⊥
 
+  -- the numbers that a line can have
+  pub fault-number : (n l : ℕ) → HasFault n l → (2 ≤ n) × (n ≤ 7)
+  fault-number zero l f = absurd f
+  fault-number (suc zero) l f = absurd f
+  fault-number (suc (suc zero)) l f = (omega arith, omega arith)
+  fault-number (suc (suc (suc zero))) l f = (omega arith, omega arith)
+  fault-number (suc (suc (suc (suc zero)))) l f = (omega arith, omega arith)
+  fault-number (suc (suc (suc (suc (suc zero))))) l f = (omega arith, omega arith)
+  fault-number (suc (suc (suc (suc (suc (suc zero)))))) l f = (omega arith, omega arith)
+  fault-number (suc (suc (suc (suc (suc (suc (suc zero))))))) l f = (omega arith, omega arith)
+  fault-number (suc (suc (suc (suc (suc (suc (suc (suc n)))))))) l f = absurd f
+
   -- from 5 on a clause is due
   pub clause-due : (n l : ℕ) → 5 ≤ n → HasFault n l → dueInSheet text l ≡ clauseForm
   clause-due zero l h f = absurd f
