@@ -14,7 +14,7 @@ import re
 import sys
 
 TOKEN = re.compile(r"[A-Za-z_][\w'\u2080-\u2089-]*")
-TEXT = re.compile(r'b?"(?:\\.|[^"\\])*"')
+TEXT = re.compile(r"""b?"(?:\\.|[^"\\])*"|\bb'(?:\\.|[^'\\])'""")
 # Words that are other people's: the library's, C's and the command's, and what documents spell as their own text has it.
 KEEP = {"rustfmt", "noReturn"}
 # The lemmas that would have a definition's name, with the crates in whose proofs they stand.

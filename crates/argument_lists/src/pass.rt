@@ -19,7 +19,7 @@ pub const LISTS: usize = 16_384;
 pub const MANY: u8 = 4;
 
 // How many lists are noted; which of them is the innermost that is open, counted from 1, or 0; and how many lists that are not noted are open inside it.
-#[derive(Drop)]
+#[derive(Clone, Copy)]
 pub struct Pass {
     pub count: usize,
     pub innermost: usize,

@@ -17,7 +17,7 @@ use syntax::words::ClauseWords;
 use word_reader::WordReader;
 
 // What was read of a line: the codes of its first words, up to the limit, how many words and signs, what is due, whether a word was unknown.
-#[derive(Drop)]
+#[derive(Clone, Copy)]
 pub struct Words {
     pub words: [u8; Problem::MAX_WORDS],
     pub count: usize,

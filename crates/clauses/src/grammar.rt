@@ -11,7 +11,7 @@ ghost use Rattle.clauses.specs.Grammar.{due_in, pending, due_next, is_finished};
 use syntax::signature::Signature;
 use syntax::words::ClauseWords;
 
-#[derive(Drop)]
+#[derive(Clone, Copy)]
 pub enum Due {
     // so many terms; with none due a sign or the end
     Terms(usize),

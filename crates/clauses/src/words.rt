@@ -10,7 +10,7 @@ use syntax::signature::Signature;
 use syntax::words::ClauseWords;
 
 // the byte after those of the variable letters
-const PAST_LETTERS: u8 = b'_a' + Problem::MAX_LETTERS as u8;
+const PAST_LETTERS: u8 = b'A' + Problem::MAX_LETTERS as u8;
 
 #[derive(Drop)]
 pub enum Word {
@@ -60,5 +60,5 @@ fn is_fixed(b: u8) -> bool
     if b == b'=' {
         return true;
     }
-    b'_a' <= b && b < PAST_LETTERS
+    b'A' <= b && b < PAST_LETTERS
 }

@@ -10,7 +10,7 @@ use crate::lines::line_at;
 use text::numbers::{Count, count_of};
 
 // The lines of a sheet in order, and the end after them.
-#[derive(Drop)]
+#[derive(Clone, Copy)]
 pub enum SheetLine {
     Heading,
     FunctionCount,

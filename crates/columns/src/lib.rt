@@ -1,4 +1,5 @@
 // The column of a refusal, told from the text after the fact.
+#![tactic(auto)]
 pub mod case;
 mod cells;
 mod due;

@@ -9,13 +9,13 @@ use syntax::limits::Problem;
 use text::lines::same;
 
 // The place and length of a variable's name in the text.
-#[derive(Drop)]
+#[derive(Clone, Copy)]
 pub struct Letter {
     pub name: usize,
     pub length: usize,
 }
 
-#[derive(Drop)]
+#[derive(Clone, Copy)]
 pub struct Letters {
     pub names: [Letter; Problem::MAX_LETTERS],
     pub count: usize,

@@ -9,7 +9,7 @@ use syntax::limits::Problem;
 use syntax::signature::{Signature, Symbol};
 
 // Functions first, each kind in order of first appearance.
-#[derive(Drop)]
+#[derive(Clone, Copy)]
 pub struct Symbols {
     pub signature: Signature,
     pub functions: usize,

@@ -1,4 +1,5 @@
 // Encoding: all clauses of a problem at a size, in written order.
+#![tactic(auto)]
 ghost use Rattle.std.specs.Prelude.{List, ℕ, ◌≤◌};
 ghost use Rattle.syntax.specs.Signatures.{signature_in};
 ghost use Rattle.clauses.specs.Names.{Limited};

@@ -1,4 +1,5 @@
 // The explainer program: standard input to standard output. What it prints is `explain_input`'s of crate `program`, whose promise is the theory's `explainer`.
+#![tactic(auto)]
 use libc::{STDIN_FILENO, STDOUT_FILENO};
 
 fn main() {

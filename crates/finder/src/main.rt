@@ -1,4 +1,5 @@
 // The finder program: standard input to standard output. What it prints is `program::respond`'s, whose promise is `finder` of `allowance/specs/FinderProgram`.
+#![tactic(auto)]
 use libc::{STDIN_FILENO, STDOUT_FILENO};
 
 fn main() {

@@ -14,7 +14,7 @@ use syntax::limits::Problem;
 use syntax::words::ClauseWords;
 
 // The lifted terms' definitions and the literals, each with as many arguments as the largest arity.
-#[derive(Drop)]
+#[derive(Clone, Copy)]
 pub struct FlatClause {
     pub literals: [Literal; Problem::MAX_FLAT_LITERALS],
     pub arguments: [u8; Problem::MAX_FLAT_ARGUMENTS],

@@ -27,7 +27,7 @@ pub struct Checked {
 }
 
 // The symbols of the statements, how many there are, and the length of their lines; or the number and the place of the first fault, number 0 for none.
-#[derive(Drop)]
+#[derive(Clone, Copy)]
 pub struct Survey {
     pub table: Symbols,
     pub count: usize,

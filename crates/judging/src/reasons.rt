@@ -40,7 +40,7 @@ fn letters_of(variables: Variables) -> [u8; Problem::MAX_LETTERS]
     while x < Problem::MAX_LETTERS {
         let i = variables.place[x] as usize;
         if i < Problem::MAX_LETTERS {
-            letters[i] = b'_a' + x as u8;
+            letters[i] = b'A' + x as u8;
         }
         x += 1;
     }

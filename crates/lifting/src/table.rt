@@ -6,7 +6,7 @@ ghost use Rattle.lifting.specs.Rows.{is_row, row_of, shared, with_row};
 use syntax::limits::Problem;
 
 // A variable is its place: the clause's own in order, then the new ones. Each term has as many arguments as the largest arity, 0 where it has fewer.
-#[derive(Drop)]
+#[derive(Clone, Copy)]
 pub struct Table {
     pub functions: [u8; Problem::MAX_TERMS],
     pub arguments: [u8; Problem::MAX_TERM_ARGUMENTS],

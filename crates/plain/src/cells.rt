@@ -12,7 +12,7 @@ use syntax::signature::Signature;
 use syntax::size::DomainSize;
 
 // The values of the cells, in cell order; 0 in those that are not used.
-#[derive(Drop)]
+#[derive(Clone, Copy)]
 pub struct PlainCells {
     pub values: [u8; PlainCells::MAX],
 }

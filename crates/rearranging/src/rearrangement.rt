@@ -8,7 +8,7 @@ use syntax::limits::Problem;
 use syntax::size::DomainSize;
 
 // The first entries of a rearrangement, and the place of each element among them.
-#[derive(Drop)]
+#[derive(Clone, Copy)]
 pub struct Rearrangement {
     pub entries: [u8; Problem::MAX_SIZE],
     pub places: [u8; Problem::MAX_SIZE],

@@ -6,7 +6,7 @@ ghost use Rattle.rearranging.specs.Keeping.{is_after, kept_value, standing_after
 use indices::Cell;
 
 // A candidate against the cells held, as far as they are compared.
-#[derive(Drop)]
+#[derive(Clone, Copy)]
 pub enum Standing {
     // equal so far
     Same,

@@ -33,7 +33,7 @@ pub enum Marks {
 }
 
 // What a token names: nothing; a variable; or a symbol, a function or not. How many arguments a symbol has is not looked for here.
-#[derive(Drop)]
+#[derive(Clone, Copy)]
 pub enum Named {
     Nothing,
     Variable,

@@ -13,7 +13,7 @@ use syntax::variables::variables_of;
 use syntax::words::ClauseWords;
 
 // The three shallow shapes; a predicate's and a function's arguments stand in an array beside.
-#[derive(Drop)]
+#[derive(Clone, Copy)]
 pub enum Shape {
     Predicate(u8),
     // the function, and the variable of its result
@@ -21,14 +21,14 @@ pub enum Shape {
     VariableEquality(u8, u8),
 }
 
-#[derive(Drop)]
+#[derive(Clone, Copy)]
 pub struct Literal {
     pub sign: bool,
     pub shape: Shape,
 }
 
 // The literals made shallow so far, each with as many arguments as the largest arity, and the lifted terms.
-#[derive(Drop)]
+#[derive(Clone, Copy)]
 pub struct Lifting {
     pub literals: [Literal; Problem::MAX_LITERALS],
     pub arguments: [u8; Problem::MAX_ARGUMENTS],

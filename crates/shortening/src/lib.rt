@@ -1,4 +1,5 @@
 // The fixed terms of clause lines, and clauses with names in their place.
+#![tactic(auto)]
 pub mod helpers;
 pub mod limits;
 pub mod line;

@@ -6,7 +6,7 @@ ghost use Rattle.stream.specs.Consuming.{Consumes, Consumed, state};
 use crate::dimacs::{clause_length, put_clause};
 use loading::{enter, tally};
 
-#[derive(Drop)]
+#[derive(Clone, Copy)]
 pub enum Mode {
     Measure,
     Write,

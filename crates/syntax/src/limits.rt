@@ -3,7 +3,7 @@ use crate::signature::Signature;
 use crate::terms::FixedTerms;
 
 // The sheet's bytes are not held: a name, a clause and a fixed term are places in them.
-#[derive(Drop)]
+#[derive(Clone, Copy)]
 pub struct Problem {
     // the declared symbols, and the helpers behind them
     pub signature: Signature,

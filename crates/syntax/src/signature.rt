@@ -5,7 +5,7 @@ ghost use Rattle.syntax.specs.Signatures.{max_in_all, arities_of, declared_count
 use crate::limits::Problem;
 
 // A function or a predicate, whether it is a helper or declared, and the place and length of its name in the sheet.
-#[derive(Drop)]
+#[derive(Clone, Copy)]
 pub struct Symbol {
     pub function: bool,
     pub helper: bool,
@@ -14,7 +14,7 @@ pub struct Symbol {
     pub length: usize,
 }
 
-#[derive(Drop)]
+#[derive(Clone, Copy)]
 pub struct Signature {
     pub symbols: [Symbol; Problem::MAX_SYMBOLS],
     pub count: usize,

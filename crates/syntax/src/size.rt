@@ -6,7 +6,7 @@ ghost use Rattle.syntax.specs.Sizes.{checked_size, next_size};
 use crate::limits::Problem;
 
 // A domain size, 1 to Problem::MAX_SIZE.
-#[derive(Drop)]
+#[derive(Clone, Copy)]
 pub struct DomainSize(pub usize);
 
 #[derive(Drop)]

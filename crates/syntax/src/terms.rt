@@ -4,13 +4,13 @@ ghost use Rattle.std.specs.Prelude.{◌≡◌, length};
 use crate::limits::Problem;
 
 // Bytes of the sheet: from one place up to another.
-#[derive(Drop)]
+#[derive(Clone, Copy)]
 pub struct Span {
     pub from: usize,
     pub to: usize,
 }
 
-#[derive(Drop)]
+#[derive(Clone, Copy)]
 pub struct FixedTerms {
     pub spans: [Span; Problem::MAX_HELPERS],
     pub count: usize,

@@ -2,7 +2,7 @@
 // the places that symbols may have.
 use crate::limits::Problem;
 
-#[derive(Drop)]
+#[derive(Clone, Copy)]
 pub struct ClauseWords {
     pub words: [u8; Problem::MAX_WORDS],
     pub count: usize,
@@ -19,7 +19,7 @@ impl ClauseWords {
     pub const EQUALS: u8 = Self::MAX_PLACES + b'=';
 
     // the code of the variable letter A; the others follow, up to H
-    pub const LETTER: u8 = Self::MAX_PLACES + b'_a';
+    pub const LETTER: u8 = Self::MAX_PLACES + b'A';
 
     // the code after that of the last letter
     pub const PAST_LETTERS: u8 = Self::LETTER + Problem::MAX_LETTERS as u8;

@@ -11,7 +11,7 @@ use text::lines::same;
 use text::numbers::is_digit;
 
 // What a token is; Foreign: a token of TPTP that this part of it lacks, or a byte that begins no token.
-#[derive(Drop)]
+#[derive(Clone, Copy)]
 pub enum Kind {
     LowerWord,
     UpperWord,

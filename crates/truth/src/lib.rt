@@ -1,2 +1,3 @@
 // The truth of a clause in an interpretation.
+#![tactic(auto)]
 pub mod values;

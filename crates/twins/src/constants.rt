@@ -10,7 +10,7 @@ use syntax::signature::Signature;
 use valuations::numbering::Numbering;
 
 // How many variables come before those of each constant.
-#[derive(Drop)]
+#[derive(Clone, Copy)]
 pub struct Constants {
     pub first: [u32; Problem::MAX_SYMBOLS],
     pub count: usize,

@@ -15,14 +15,14 @@ use text::lines::line_end;
 use text::writing::put_bytes;
 
 // Lines: how many, and their bytes with each LF.
-#[derive(Drop)]
+#[derive(Clone, Copy)]
 pub struct Lines {
     pub count: usize,
     pub bytes: usize,
 }
 
 // Lines of both sheets, and what they are made one.
-#[derive(Drop)]
+#[derive(Clone, Copy)]
 pub struct Join {
     pub first: Run,
     pub second: Run,

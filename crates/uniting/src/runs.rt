@@ -7,7 +7,7 @@ ghost use Rattle.uniting.specs.Runs.{Lined, StartsAt, RunOf, run_lines};
 use text::lines::{line_end, same};
 
 // Lines that stand one after the other: how many stand before them, how many they are, where the first starts and the place after the last one's LF.
-#[derive(Drop)]
+#[derive(Clone, Copy)]
 pub struct Run {
     pub line: usize,
     pub count: usize,

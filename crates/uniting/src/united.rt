@@ -12,7 +12,7 @@ use syntax::limits::Problem;
 use text::writing::put_bytes;
 
 // The functions' lines, the predicates' lines and the clauses' lines of both.
-#[derive(Drop)]
+#[derive(Clone, Copy)]
 pub struct United {
     pub functions: Join,
     pub predicates: Join,

@@ -11,7 +11,7 @@ use syntax::signature::{Signature, Symbol};
 use syntax::size::DomainSize;
 
 // Each symbol's first propositional variable, and how many a cell of it has.
-#[derive(Drop)]
+#[derive(Clone, Copy)]
 pub struct Numbering {
     pub bases: [u32; Problem::MAX_SYMBOLS],
     pub widths: [u32; Problem::MAX_SYMBOLS],

@@ -1,5 +1,6 @@
 // Runs the stored inputs of `data/` through the public calls and prints each answer as a line, with its text below where that is short (a setting is no text); `stdout` has what must come.
 // What is lent is patterned before each call, and the line says whether what follows the answered length still has its pattern, and what is left in the work.
+#![tactic(auto)]
 mod runs;
 
 use runs::Operation;
