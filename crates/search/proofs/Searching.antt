@@ -113,9 +113,9 @@ quiet-push v t ts D c h q =
 abbrev Ground : ℕ → List (List ℕ) → List ℕ → Type 0
 Ground v ds us = (t : ℕ) × (ts : List ℕ) × (us ≡ t ∷ ts) × (t % 2 ≡ 0) × AllQuiet v ds ts × Grounded v ds ts
 
-back-ground : {v : ℕ} {ds : List (List ℕ)} {ts us : List ℕ} → BackTo ts us → Grounded v ds ts → Ground v ds us
-back-ground (flips {ts} t e) g = (2 * negated (t / 2) + 0, ts, refl, omega arith, g.0 e, g.1)
-back-ground (pops t e b) g = back-ground b g.1
+back-ground : (v : ℕ) (ds : List (List ℕ)) {ts us : List ℕ} → BackTo ts us → Grounded v ds ts → Ground v ds us
+back-ground v ds (flips {ts} t e) g = (2 * negated (t / 2) + 0, ts, refl, omega arith, g.0 e, g.1)
+back-ground v ds (pops t e b) g = back-ground v ds b g.1
 
 module _ (v : ℕ) (cs : List PropClause) (first : ℕ → Bool) (w₀ : List ℕ) (head n k : ℕ) (w : List ℕ) (s : Searching v cs first w₀ head n k w)
     (head₁ n₁ : ℕ) (clash : Bool) (w₁ : List ℕ) (p : Propagated v (coded cs) head n w head₁ n₁ clash w₁) where
@@ -160,7 +160,7 @@ module _ (v : ℕ) (cs : List PropClause) (first : ℕ → Bool) (w₀ : List �
       back-falls₁ = omega (arith, back-falls v (r.back b), falls₁)
 
       abbrev g : Ground v ds (trail w₂ v n₂)
-      g = back-ground (r.back b) grounded₁
+      g = back-ground _ _ (r.back b) grounded₁
 
       trail₂ : trail w₂ v n₂ ≡ get_or w₂ (v + head₂) 0 ∷ trail w₂ v head₂
       trail₂ = ap (trail w₂ v) (sym level ∙ add-one head₂)

@@ -38,6 +38,7 @@ member-at (c ∷ cs) zero h = here
 member-at (c ∷ cs) (suc i) h = there (member-at cs i (le_of_suc-le-suc h))
 
 member-place : (c : PropClause) (cs : List PropClause) → Member c cs → (i : ℕ) × (i < length cs) × (get_or cs i [] ≡ c)
+member-place c [] m = elim m [ ]
 member-place c (d ∷ cs) here = (0, omega arith, refl)
 member-place c (d ∷ cs) (there m) = let p = member-place c cs m in (suc p.0, omega (arith, p.1), p.2)
 

@@ -320,7 +320,7 @@ module _ (cs : List NameClause) where
   all-origins : sheet.all_declared g ≡ true
   all-origins =
       let q : Symbol → Bool = λ f. sheet.is_from_sheet f.origin in
-      let one : (o : Occurrence) → all q (declares o) ≡ true = λ o. elim o [ of_variable x ↦ refl | of_symbol f k n ↦ refl ] in
+      let one : (o : Occurrence) → all q (declares o) ≡ true = λ o. elim o as (λ (k : Occurrence). all q (declares k) ≡ true) [ of_variable x ↦ refl | of_symbol f k n ↦ refl ] in
       let inside : (c : NameClause) → all q (concat_map declares (clause_occurrences c)) ≡ true =
       λ c. all-concat_map q declares (clause_occurrences c) ∙ all-every (λ o. all q (declares o)) (clause_occurrences c) one in
       let every : all q (declared cs) ≡ true =

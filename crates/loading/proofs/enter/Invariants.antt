@@ -1,0 +1,17 @@
+
+use mathlib.Core.Path.{◌≡◌, refl, ◌∙◌, subst}
+use Prim.Native.Nat.{◌≤◌}
+use native.Mathlib.Omega.{arith}
+use borrow.Author.Rules.{rules}
+use lib.ListN.{length}
+use Rattle.loading.proofs.ClauseEntering.{EntersFrom, address-fits, entering-start, entering-done, code-enterable, code-turn}
+use Rattle.loading.proofs.enter.Given as goal
+
+-- `enter` meets its contract. The invariant of its loop: the literals from the i-th on are in.
+abbrev pub invariant-loop-i : goal.invariant-loop-i
+invariant-loop-i l =
+    (l.i ≤ length l.clause) × (length l.work ≡ length l.initial.work) × EntersFrom l.v l.clause l.number l.initial.work l.work l.i
+
+abbrev pub decreases-loop-i : goal.decreases-loop-i
+decreases-loop-i l =
+    l.i

@@ -1,0 +1,17 @@
+
+use mathlib.Core.Path.{◌≡◌, refl}
+use Prim.Native.Nat.{ℕ, ◌+◌, ◌-◌, ◌*◌, ◌≤◌, ◌<◌}
+use native.Mathlib.Omega.{arith}
+use borrow.Author.Rules.{rules}
+use lib.ListN.{length, get_or, length-set}
+use Rattle.loading.proofs.Tallying.{Tallying, tallying-start, tallying-turn, tallying-done, count_fits}
+use Rattle.loading.proofs.tally.Given as goal
+
+-- `tally` meets its contract. The invariant of its loop: the first i literals of the clause are counted.
+abbrev pub invariant-loop-i : goal.invariant-loop-i
+invariant-loop-i l =
+    (l.i ≤ l.count) × (l.count ≡ length l.clause) × (7 * l.v ≤ length l.work) × (length l.work ≡ length l.initial.work) × Tallying l.v l.clause l.initial.work l.work l.i
+
+abbrev pub decreases-loop-i : goal.decreases-loop-i
+decreases-loop-i l =
+    l.count - l.i

@@ -1,0 +1,20 @@
+
+use Prim.Native.Nat.{ℕ, ◌≤◌, ◌+◌, ◌-◌}
+use mathlib.Core.Path.{◌≡◌, refl, ap, ◌∙◌}
+use mathlib.Core.List.{List, map}
+use native.Mathlib.Numerals.{add-one}
+use native.Mathlib.Omega.{arith}
+use lib.ListN.{length, get_or, take, length-set}
+use borrow.Author.Rules.{rules}
+use Rattle.merging.specs.Merged.{renamed_code, deleted_at}
+use Rattle.merging.proofs.Deleting.{renamed_to, renamed_step, renamed-all, without_at-first}
+use Rattle.merging.proofs.without.Given as goal
+
+-- `without` meets its contract: the first i codes are renamed.
+abbrev pub invariant-loop-i : goal.invariant-loop-i
+invariant-loop-i l =
+    (l.i ≤ l.w.count) × (l.w.count ≡ l.initial.w.count) × (length l.w.words ≡ 64) × (l.w.words ≡ renamed_to (renamed_code l.x l.y) l.initial.w.words l.i)
+
+abbrev pub decreases-loop-i : goal.decreases-loop-i
+decreases-loop-i l =
+    l.w.count - l.i

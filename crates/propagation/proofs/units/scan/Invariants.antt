@@ -1,0 +1,16 @@
+
+use mathlib.Core.Path.{◌≡◌, refl}
+use Prim.Native.Nat.{◌-◌}
+use native.Mathlib.Omega.{arith}
+use lib.ListN.{length}
+use Rattle.propagation.proofs.Scans.{visitable, Scanning, scanning-length, scanning-turn, scanning-stop, scanning-done}
+use Rattle.propagation.proofs.units.scan.Given as goal
+
+-- `units::scan` meets its contract. The invariant of its loop: the scan of what is left gives what the contract says.
+abbrev pub invariant-loop-place : goal.invariant-loop-place
+invariant-loop-place l =
+    Scanning l.initial.work l.v l.from l.to l.len l.work l.entries l.place
+
+abbrev pub decreases-loop-place : goal.decreases-loop-place
+decreases-loop-place l =
+    l.to - l.place

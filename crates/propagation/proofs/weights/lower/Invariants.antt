@@ -1,0 +1,17 @@
+
+use mathlib.Core.Path.{refl}
+use Prim.Native.Nat.{◌-◌, ◌<◌}
+use native.Mathlib.Omega.{arith}
+use lib.ListN.{length, get_or}
+use Rattle.propagation.specs.Weights.{less, AtLeast}
+use Rattle.propagation.proofs.Addresses.{Changing, first-within, changing-turn, changing-done}
+use Rattle.propagation.proofs.weights.lower.Given as goal
+
+-- `weights::lower` meets its contract. The invariant of its loop: what is left to lower, lowered, is what the contract says.
+abbrev pub invariant-loop-place : goal.invariant-loop-place
+invariant-loop-place l =
+    Changing (AtLeast l.amount) (less l.amount) l.from l.to l.initial.work l.work l.place
+
+abbrev pub decreases-loop-place : goal.decreases-loop-place
+decreases-loop-place l =
+    l.to - l.place

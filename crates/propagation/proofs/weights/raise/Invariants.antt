@@ -1,0 +1,17 @@
+
+use mathlib.Core.Path.{refl}
+use Prim.Native.Nat.{◌-◌, ◌<◌}
+use native.Mathlib.Omega.{arith}
+use lib.ListN.{length, get_or}
+use Rattle.propagation.specs.Weights.{more, RoomFor}
+use Rattle.propagation.proofs.Addresses.{Changing, first-within, changing-turn, changing-done}
+use Rattle.propagation.proofs.weights.raise.Given as goal
+
+-- `weights::raise` meets its contract. The invariant of its loop: what is left to raise, raised, is what the contract says.
+abbrev pub invariant-loop-place : goal.invariant-loop-place
+invariant-loop-place l =
+    Changing (RoomFor l.amount) (more l.amount) l.from l.to l.initial.work l.work l.place
+
+abbrev pub decreases-loop-place : goal.decreases-loop-place
+decreases-loop-place l =
+    l.to - l.place

@@ -1,0 +1,8 @@
+-- `read_reply`: no variable is set before the first line.
+use borrow.Author.Rules.{rules}
+use mathlib.Core.Path.{◌∙◌}
+use Rattle.replies.proofs.LinesHeard.{from-none}
+use Rattle.replies.proofs.read_reply.Goals as goal
+
+pub returns : goal.returns
+returns c = let a = c.args in c.reply_at.ensures ∙ c.hear_lines-stage.ensures ∙ from-none a.text.now a.marks.now _ c.clear.ensures

@@ -1,0 +1,6 @@
+-- `first` meets its contract.
+use borrow.Author.Rules.{rules}
+use Rattle.search.proofs.first.Goals as goal
+
+pub returns : goal.returns
+returns c = c.literal.ensures

@@ -1,0 +1,19 @@
+
+use Prim.Native.Nat.{◌≤◌, ◌-◌}
+use mathlib.Core.Path.{◌≡◌}
+use native.Mathlib.Numerals.{add-one}
+use native.Mathlib.Omega.{arith}
+use lib.ListN.{length, take, length-map, length-set}
+use borrow.Author.Rules.{rules}
+use Rattle.syntax.specs.Signatures.{arities_of}
+use Rattle.syntax.proofs.Signatures.{arities_of-more}
+use Rattle.syntax.proofs.signature.Signature.arities.Given as goal
+
+-- `Signature::arities` meets its contract: the arities of the symbols before i are written.
+abbrev pub invariant-loop-i : goal.invariant-loop-i
+invariant-loop-i l =
+    (l.i ≤ l.self.count) × (length l.arities ≡ 56) × (take l.i l.arities ≡ arities_of (take l.i l.self.symbols))
+
+abbrev pub decreases-loop-i : goal.decreases-loop-i
+decreases-loop-i l =
+    l.self.count - l.i

@@ -1,0 +1,6 @@
+-- `Signature::declared` meets its contract.
+use borrow.Author.Rules.{rules}
+use Rattle.syntax.proofs.signature.Signature.declared.Goals as goal
+
+pub returns : goal.returns
+returns c = rw c.declared_count-count.ensures

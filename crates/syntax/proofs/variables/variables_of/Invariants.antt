@@ -1,0 +1,22 @@
+
+use Prim.Native.Nat.{◌≤◌, ◌-◌}
+use mathlib.Core.Path.{◌≡◌}
+use mathlib.Core.List.{map}
+use native.Mathlib.Numerals.{add-one}
+use native.Mathlib.Omega.{arith}
+use lib.ListN.{length, take}
+use borrow.Author.Rules.{rules}
+use Rattle.theory.specs.Lists.{distinct}
+use Rattle.syntax.specs.Codes.{code_word}
+use Rattle.syntax.specs.Variables.{letters_of, Places, variables_in}
+use Rattle.syntax.proofs.Places.{few, none-placed, letters-below, letters-more}
+use Rattle.syntax.proofs.variables.variables_of.Given as goal
+
+-- `variables_of` meets its contract: the letters of the words before i have their places.
+abbrev pub invariant-loop-i : goal.invariant-loop-i
+invariant-loop-i l =
+    (l.i ≤ l.c.count) × Places (distinct (letters_of (map code_word (take l.i l.c.words)))) l.found
+
+abbrev pub decreases-loop-i : goal.decreases-loop-i
+decreases-loop-i l =
+    l.c.count - l.i

@@ -1,0 +1,17 @@
+
+use borrow.Author.Rules.{rules}
+use Prim.Native.Nat.{◌≤◌, ◌-◌}
+use mathlib.Core.Path.{refl}
+use native.Mathlib.Omega.{arith}
+use lib.ListN.{length}
+use Rattle.text.proofs.Keys.{Met, met-more, met-other, met_all, too_short}
+use Rattle.text.proofs.lines.starts_with.Given as goal
+
+-- `starts_with` meets the key byte by byte.
+abbrev pub invariant-loop-i : goal.invariant-loop-i
+invariant-loop-i l =
+    (l.i ≤ length l.key) × Met l.line l.key l.i
+
+abbrev pub decreases-loop-i : goal.decreases-loop-i
+decreases-loop-i l =
+    length l.key - l.i

@@ -1,0 +1,18 @@
+
+use borrow.Author.Rules.{rules}
+use Prim.Native.Nat.{◌-◌}
+use mathlib.Core.Path.{◌≡◌, refl, sym, ap, ◌∙◌}
+use native.Mathlib.Omega.{arith}
+use lib.ListN.{length}
+use Rattle.tokens.proofs.NextPieces.{Passed, passed_none, passed-gap, gap-size, token-size, found-token, found-open, found-end}
+use Rattle.tokens.specs.Pieces.{piece_in}
+use Rattle.tokens.proofs.next.next_token.Given as goal
+
+-- `next_token` passes gaps up to the first token.
+abbrev pub invariant-loop-i : goal.invariant-loop-i
+invariant-loop-i l =
+    Passed l.text l.at l.i
+
+abbrev pub decreases-loop-i : goal.decreases-loop-i
+decreases-loop-i l =
+    length l.text - l.i

@@ -1,0 +1,12 @@
+-- `equal_piece` looks one byte ahead.
+use borrow.Author.Rules.{rules}
+use mathlib.Core.Path.{◌≡◌, sym, ap, ◌∙◌}
+use mathlib.Core.Bool.{Bool, true, false, cond}
+use Rattle.tptp.specs.Tokens.{token, equal_sign, foreign}
+use Rattle.tokens.proofs.pieces.equal_piece.Goals as goal
+
+pub returns-then-byte_is : goal.returns-then-byte_is
+returns-then-byte_is c = ap (λ (q : Bool). cond q (token foreign 2) (token equal_sign 1)) (sym c.if-byte_is.true ∙ c.byte_is.ensures)
+
+pub returns : goal.returns
+returns c = ap (λ (q : Bool). cond q (token foreign 2) (token equal_sign 1)) (sym c.if-byte_is.false ∙ c.byte_is.ensures)
