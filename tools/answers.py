@@ -225,7 +225,7 @@ class Function:
         text = re.sub(r"simp length-map at (?=[\w.'-]*\.well_formed\.)", "", text)
 
         def field(m):
-            new = self.steps.get(norm(m[2])) or self.steps.get(re.sub("_lem$", "", norm(m[2])[:1].lower() + norm(m[2])[1:]))
+            new = self.steps.get(norm(m[2])) or self.steps.get(re.sub("^is_is_", "is_", norm(m[2]).lower())) or self.steps.get(re.sub("_lem$", "", norm(m[2])[:1].lower() + norm(m[2])[1:]))
             return f"{m[1]}.{new if new else m[2]}"
 
         roots = "|".join(re.escape(v) for v in sorted(context))
@@ -397,7 +397,12 @@ class Function:
             return expr
         lets, last = last_expression(expr)
         shown = tuple_parts(last)
+        if not shown and len(labels) == 2 and not re.match(r"\s*(rw|subst|search|omega|elim|simp|grind|cc|record|absurd|\u03bb|\?)(?![\w-])", last):
+            last = last.strip()
+            return f"{lets} let both = {last} in record {{ {labels[0]} = both.0; {labels[1]} = both.1 }}"
         if not shown:
+            if not re.match(r"\s*record", last):
+                self.hand(f"{goal}: clauses {labels} from {last.strip()[:120]}")
             return expr
         if len(shown) > len(labels):
             self.hand(f"{goal}: {len(shown)} parts for {labels}")

@@ -52,5 +52,4 @@ overflow_add-result c = let l = c.loop-i in
 
 pub returns : goal.returns
 returns c = let l = c.loop-i in
-    let s = c in
-    line-ended s.args.out.now l.out s.args.at l.e s.args.clause.now l.i (omega arith) s.requires l.invariant.2 l.invariant.3
+    let s = c in let both = line-ended s.args.out.now l.out s.args.at l.e s.args.clause.now l.i (omega arith) s.requires l.invariant.2 l.invariant.3 in record { written = both.0; place = both.1 }

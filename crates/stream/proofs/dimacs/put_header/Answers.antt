@@ -47,6 +47,5 @@ pub returns : goal.returns
 returns c = let s = c in
     let a = c.put_bytes-a in
     let b = c.put_spaced-b in
-    let n = c.put_number-c in
-    header-written s.args.variables s.args.clauses s.args.out.now a.new.out b.new.out n.new.out s.args.at a.result b.result n.result s.requires
-    a.ensures.written a.ensures.place b.ensures.written b.ensures.place n.ensures.written n.ensures.place
+    let n = c.put_number-c in let both = header-written s.args.variables s.args.clauses s.args.out.now a.new.out b.new.out n.new.out s.args.at a.result b.result n.result s.requires
+    a.ensures.written a.ensures.place b.ensures.written b.ensures.place n.ensures.written n.ensures.place in record { written = both.0; place = both.1 }

@@ -20,8 +20,7 @@ shape_of-out-then-l-eq1 c = c.put_spaced.auto.out ∙ simp length-set
 
 pub returns-then-l-eq1 : goal.returns-then-l-eq1
 returns-then-l-eq1 c = let s = c in
-    let p = c.put_spaced in
-    no-written s.args.out.now p.new.out s.args.at p.result s.args.l c.if-l-eq1.true (omega (arith, s.requires, ap length (spaced-no s.args.l c.if-l-eq1.true))) s.requires p.ensures.written p.ensures.place
+    let p = c.put_spaced in let both = no-written s.args.out.now p.new.out s.args.at p.result s.args.l c.if-l-eq1.true (omega (arith, s.requires, ap length (spaced-no s.args.l c.if-l-eq1.true))) s.requires p.ensures.written p.ensures.place in record { written = both.0; place = both.1 }
 
 pub put_spaced-requires-2 : goal.put_spaced-requires-2
 put_spaced-requires-2 c = let s = c in omega (arith, s.requires, ap length (spaced-yes s.args.l c.if-l-eq1.false))

@@ -1,0 +1,7 @@
+-- `spot_of` goes by what is due.
+use borrow.Author.Rules.{rules}
+use mathlib.Core.Bool.{true}
+use Rattle.scanning.proofs.entries.spot_of.Goals as goal
+
+pub returns-in-Term : goal.returns-in-Term
+returns-in-Term c = rw c.in-Term.is (c.term_spot.ensures true)

@@ -1,0 +1,23 @@
+
+use Prim.Native.Nat.{ℕ, ◌≤◌, ◌<◌, ◌-◌}
+use mathlib.Core.Path.{◌≡◌, refl, sym, subst}
+use native.Mathlib.Omega.{arith}
+use lib.Dec.{eqb}
+use lib.ListN.{length, get_or}
+use borrow.Author.Rules.{rules}
+use Rattle.theory.specs.Lists.{place_that}
+use Rattle.syntax.specs.Variables.{variables_in, place_or8}
+use Rattle.syntax.proofs.Clauses.{codes_below}
+use Rattle.shallow.specs.Flattenable.{Flattenable}
+use Rattle.shallow.proofs.Progress.{Progress, next-literal, literal-there, further, progress-more, progress_start, merged-flattenable, clause-lifted, own-few}
+use Rattle.shallow.proofs.literals.lift.Given as goal
+
+-- `lift` meets its contract: the literals before the place reached are made shallow.
+abbrev pub invariant-loop-state : goal.invariant-loop-state
+invariant-loop-state l =
+    (l.words ≡ l.m.words) × (length l.m.words ≡ 64) × (length l.place ≡ 8) × ((x : ℕ) → x < 8 → get_or l.place x 0 ≡ place_or8 (place_that (eqb x) (variables_in l.m)))
+    × ((s : Flattenable l.arities l.m) → Progress s l.state)
+
+abbrev pub decreases-loop-state : goal.decreases-loop-state
+decreases-loop-state l =
+    l.m.count - l.state.next
