@@ -1,0 +1,13 @@
+-- `is_named` compares the name with the bytes at the symbol's place.
+use Prim.Native.Nat.{ℕ, ◌+◌, ◌-◌}
+use mathlib.Core.Path.{◌≡◌, ap, ◌∙◌}
+use native.Mathlib.Omega.{arith}
+use lib.ListN.{length, take, drop}
+use Rattle.theory.specs.Lists.{same}
+use borrow.Author.Rules.{rules}
+use Rattle.clauses.proofs.names.is_named.Goals as goal
+
+pub returns : goal.returns
+returns c = let a = c.args in
+    let e : a.symbol.name + a.symbol.length - a.symbol.name ≡ a.symbol.length = omega arith in
+    c.same.ensures ∙ ap (λ (n : ℕ). same a.name.now (take n (drop a.symbol.name a.sheet.now))) e
