@@ -225,7 +225,7 @@ class Function:
         text = re.sub(r"simp length-map at (?=[\w.'-]*\.well_formed\.)", "", text)
 
         def field(m):
-            new = self.steps.get(norm(m[2])) or self.steps.get(re.sub("^is_is_", "is_", norm(m[2]).lower())) or self.steps.get(re.sub("_lem$", "", norm(m[2])[:1].lower() + norm(m[2])[1:]))
+            new = self.steps.get(norm(m[2])) or self.steps.get(re.sub("^is_is_", "is_", norm(m[2]).lower())) or (m[2] == "type_size" and self.steps.get("size_of")) or self.steps.get(re.sub("_lem$", "", norm(m[2])[:1].lower() + norm(m[2])[1:]))
             return f"{m[1]}.{new if new else m[2]}"
 
         roots = "|".join(re.escape(v) for v in sorted(context))
@@ -293,17 +293,22 @@ class Function:
             return None
         use = dict(zip(args, want))
         bound = {v for v in re.findall(IDENT, " ".join(re.findall(r"\u03bb ([^.]*)\.|\(([^():]*) :", body) and [a or b for a, b in re.findall(r"\u03bb ([^.]*)\.|\(([^():]*) :", body)]))}
+        self.parameter = "l"
         shadow = bound & set(use)
         if shadow:
             self.hand(f"{name}: shadowed {sorted(shadow)}")
             return "(λ " + " ".join(args) + ". " + body.strip() + ") " + " ".join("l." + w for w in want)
-        return TOKEN.sub(lambda m: "l." + use[m[0]] if m[0] in use and m[0] != "_" and body[max(0, m.start() - 1) : m.start()] != "." else m[0], body)
+        known = set(TOKEN.findall(body)) - set(use)
+        self.parameter = next(v for v in ("l", "s", "q", "now") if v not in known)
+        label = lambda m: re.match(r" = ", body[m.end() :]) and re.search(r"(record \{|;|\{)\s*$", body[: m.start()])
+        return TOKEN.sub(lambda m: f"{self.parameter}." + use[m[0]] if m[0] in use and m[0] != "_" and body[max(0, m.start() - 1) : m.start()] != "." and not label(m) else m[0], body)
 
     def turn(self, text):
         head, decls = parts(text)
         inv, ans = [], []
         helpers = []
         self.imports = set()
+        self.shared = []
         kept_names = {}
         for d in decls:
             block = "\n".join(d).rstrip()
@@ -354,7 +359,7 @@ class Function:
                 if expr is None:
                     inv.append("-- TODO\n" + block)
                     continue
-                inv.append((comment + "\n" if comment else "") + f"abbrev pub {kind}-{new} : goal.{kind}-{new}\n{kind}-{new} l =\n    {expr.strip()}")
+                inv.append((comment + "\n" if comment else "") + f"abbrev pub {kind}-{new} : goal.{kind}-{new}\n{kind}-{new} {self.parameter} =\n    {expr.strip()}")
                 continue
             # a helper of the file's own
             if re.search(r"tie\.", block):
@@ -374,6 +379,27 @@ class Function:
                     block = self.expression(block)
             helpers.append(block)
             ans.append(block)
+        # what an invariant cites of the file's own stands with the invariants, and the answers take it from there
+        named = {}
+        for h in helpers:
+            k = re.search(r"(?m)^(?:abbrev |pub |unfoldable |record |data )*(" + IDENT + r")(?: |$)", "\n".join(l for l in h.split("\n") if not l.startswith("--")))
+            if k and k[1] not in ("module",):
+                named[k[1]] = h
+        wanted, look = [], "\n".join(inv)
+        grown = True
+        while grown:
+            grown = False
+            for n, h in named.items():
+                if n not in wanted and re.search(r"(?<![\w.'-])" + re.escape(n) + r"(?![\w'-])", look):
+                    wanted.append(n)
+                    look += "\n" + h
+                    grown = True
+        if wanted:
+            ordered = [h for n, h in named.items() if n in wanted]
+            ans[:] = [a for a in ans if a not in ordered]
+            public = lambda h: re.sub(r"(?m)^(abbrev |unfoldable |record )(?!pub )", lambda k: ("pub record " if k[1] == "record " else k[1] + "pub "), re.sub(r"(?m)^  (?!pub )(?=" + IDENT + r" : )", "  pub ", h) if re.search(r"(?m)^(pub )?record ", h) else h, count=1)
+            inv[:0] = [public(h) for h in ordered]
+            self.shared = [n for n in named if n in wanted]
         uses = [l for l in head if not re.search(r"\.(Statement|Tie)(\.|\s|$)", l)]
         module = f"Rattle.{self.crate}.proofs.{self.path.replace('/', '.')}"
         comment = "\n".join(l for l in text.split("\n")[:6] if l.startswith("--") and l not in "\n".join(ans + inv))
@@ -404,6 +430,8 @@ class Function:
             if not re.match(r"\s*record", last):
                 self.hand(f"{goal}: clauses {labels} from {last.strip()[:120]}")
             return expr
+        while len(shown) < len(labels) and tuple_parts(shown[-1]):
+            shown = shown[:-1] + tuple_parts(shown[-1])
         if len(shown) > len(labels):
             self.hand(f"{goal}: {len(shown)} parts for {labels}")
             return expr
@@ -437,7 +465,7 @@ def main(argv):
                 out.write(comment + "\n" + "\n".join([*uses, f"use {module}.Given as goal"]) + "\n\n" + "\n\n".join(inv) + "\n")
         if ans:
             with open(f"{folder}/Answers.antt", "w", encoding="utf-8") as out:
-                out.write((comment + "\n" if comment else "") + "\n".join([*uses, f"use {module}.Goals as goal", *([f"use {module}.Goals.{{{', '.join(sorted(f.imports))}}}"] if f.imports else [])]) + "\n\n" + "\n\n".join(ans) + "\n")
+                out.write((comment + "\n" if comment else "") + "\n".join([*uses, f"use {module}.Goals as goal", *([f"use {module}.Goals.{{{', '.join(sorted(f.imports))}}}"] if f.imports else []), *([f"use {module}.Invariants.{{{', '.join(f.shared)}}}"] if f.shared else [])]) + "\n\n" + "\n\n".join(ans) + "\n")
         os.remove(f"{folder}/Proof.antt")
 
 

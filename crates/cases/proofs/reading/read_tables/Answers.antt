@@ -1,0 +1,110 @@
+use borrow.Author.Rules.{rules}
+use Prim.Native.Nat.{◌-◌, ◌<◌}
+use mathlib.Core.Path.{◌≡◌, refl, ◌∙◌}
+use native.Mathlib.Omega.{arith}
+use lib.ListN.{length, get_or}
+use Rattle.syntax.specs.Signatures.{symbol_in, signature_in}
+use Rattle.clauses.proofs.Held.{blank, arity-at, count-signature_in, symbol_at-signature_in, name-within}
+use Rattle.interpretation.proofs.Ranks.{power-within}
+use Rattle.interpretation.proofs.Tabling.{base-within, limited-small, table-limited}
+use Rattle.cases.proofs.TablesRead.{TablesRead, none_read, table-fault, table-read, bytes_after, case-ends}
+use Rattle.cases.proofs.reading.read_tables.Goals as goal
+
+pub loop-i-init : goal.loop-i-init
+loop-i-init c = let s = c in
+    let a = s.args in
+    (none_read a.size.0 (signature_in a.sheet.now a.signature) a.case.now a.at a.cells.now s.requires.0, refl)
+
+pub bounds-signature-i : goal.bounds-signature-i
+bounds-signature-i c = omega (arith, c.requires.1.0.limited.count, c.loop-i-test.true)
+
+pub read_table-requires : goal.read_table-requires
+read_table-requires c = let s = c in
+    let a = s.args in
+    let l = c.loop-i in
+    let r = s.requires.1.0 in
+    let here : l.i < a.signature.count = c.loop-i-test.true in
+    record {
+      within = l.invariant.0.within;
+      named = name-within a.sheet.now a.signature r l.i here;
+      arity = arity-at a.signature r.limited l.i here;
+      positive = s.requires.1.1.0;
+      size = s.requires.1.1.1.0;
+      room =
+          omega (
+            arith,
+            l.invariant.0.based,
+            table-limited a.sheet.now a.signature r.limited a.size.0 s.requires.1.1.1.0 l.i here,
+            l.invariant.1,
+            s.requires.1.1.1.1,
+          );
+    }
+
+pub overflow_add-result : goal.overflow_add-result
+overflow_add-result c = omega (arith, c.requires.1.0.limited.count, c.loop-i-test.true)
+
+pub shape_of-cells-in_default : goal.shape_of-cells-in_default
+shape_of-cells-in_default c = c.read_table.auto.cells.1.1.1.1.0 ∙ c.loop-i.invariant.1
+
+pub returns-in_default : goal.returns-in_default
+returns-in_default c = let s = c in
+    let a = s.args in
+    let l = c.loop-i in
+    let r = s.requires.1.0 in
+    let here : l.i < a.signature.count = c.loop-i-test.true in
+    table-fault l.invariant.0 (omega (arith, count-signature_in a.signature r.limited a.sheet.now)) _ (symbol_at-signature_in a.signature r.limited a.sheet.now l.i here) (rw c.in_default.is at c.read_table.ensures)
+
+pub overflow_cast-symbol : goal.overflow_cast-symbol
+overflow_cast-symbol c = omega (arith, arity-at c.args.signature c.requires.1.0.limited c.loop-i.i c.loop-i-test.true)
+
+pub power-base-requires : goal.power-base-requires
+power-base-requires c = (c.requires.1.1.1.0, omega (arith, arity-at c.args.signature c.requires.1.0.limited c.loop-i.i c.loop-i-test.true))
+
+pub overflow_add-base : goal.overflow_add-base
+overflow_add-base c = let s = c in
+    let l = c.loop-i in
+    let r = s.requires.1.0 in
+    let g = limited-small s.args.sheet.now s.args.signature r.limited in
+    let here : l.i < s.args.signature.count = c.loop-i-test.true in
+    omega (
+      arith,
+      l.invariant.0.based,
+      base-within (signature_in s.args.sheet.now s.args.signature) s.args.size.0 l.i s.requires.1.1.1.0 g l.invariant.0.counted,
+      r.limited.count,
+      c.power-base.ensures,
+      power-within s.args.size.0 (get_or s.args.signature.symbols l.i blank).arity s.requires.1.1.1.0 (omega (arith, arity-at s.args.signature r.limited l.i here)),
+    )
+
+pub overflow_add-i : goal.overflow_add-i
+overflow_add-i c = omega (arith, c.requires.1.0.limited.count, c.loop-i-test.true)
+
+pub loop-i-smaller : goal.loop-i-smaller
+loop-i-smaller c = omega (arith, c.loop-i-test.true)
+
+pub loop-i-preserved : goal.loop-i-preserved
+loop-i-preserved c = let s = c in
+    let a = s.args in
+    let l = c.loop-i in
+    let r = s.requires.1.0 in
+    let here : l.i < a.signature.count = c.loop-i-test.true in (
+      rw c.power-base.ensures
+          (table-read l.invariant.0 (omega (arith, count-signature_in a.signature r.limited a.sheet.now)) (symbol_in a.sheet.now (get_or a.signature.symbols l.i blank)) (symbol_at-signature_in a.signature r.limited a.sheet.now l.i here)
+          c.in-Next.after (rw c.in-Next.is at c.read_table.ensures)),
+      c.read_table.auto.cells.1.1.1.1.0 ∙ l.invariant.1,
+    )
+
+pub overflow_add-result-then-next-case : goal.overflow_add-result-then-next-case
+overflow_add-result-then-next-case c = omega (arith, c.loop-i.invariant.0.counted, count-signature_in c.args.signature c.requires.1.0.limited c.args.sheet.now, c.requires.1.0.limited.count)
+
+pub shape_of-cells-then-next-case : goal.shape_of-cells-then-next-case
+shape_of-cells-then-next-case c = c.loop-i.invariant.1
+
+pub returns-then-next-case : goal.returns-then-next-case
+returns-then-next-case c = let s = c in
+    let l = c.loop-i in
+    bytes_after l.invariant.0 (omega (arith, l.invariant.0.counted, count-signature_in s.args.signature s.requires.1.0.limited s.args.sheet.now, c.loop-i-test.false)) c.if-next-case.true
+
+pub returns : goal.returns
+returns c = let s = c in
+    let l = c.loop-i in
+    case-ends l.invariant.0 (omega (arith, l.invariant.0.counted, count-signature_in s.args.signature s.requires.1.0.limited s.args.sheet.now, c.loop-i-test.false)) c.if-next-case.false

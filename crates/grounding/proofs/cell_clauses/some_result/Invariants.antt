@@ -1,0 +1,20 @@
+
+use borrow.Author.Rules.{rules}
+use Prim.Native.Nat.{◌+◌, ◌-◌, ◌≤◌}
+use mathlib.Core.Path.{◌≡◌, refl, ◌∙◌}
+use native.Mathlib.Numerals.{add-one}
+use native.Mathlib.Omega.{arith}
+use lib.ListN.{length, take, length-set}
+use Rattle.theory.specs.PropClauses.{some_result}
+use Rattle.stream.specs.Literals.{prop_clause_of}
+use Rattle.grounding.proofs.CellWalk.{result-more}
+use Rattle.grounding.proofs.cell_clauses.some_result.Given as goal
+
+-- `some_result` meets its contract: the first d literals are written.
+abbrev pub invariant-loop-d : goal.invariant-loop-d
+invariant-loop-d l =
+    (l.d ≤ l.size.0) × (length l.some ≡ 8) × (prop_clause_of (take l.d l.some) ≡ some_result l.d (1 + l.x.0))
+
+abbrev pub decreases-loop-d : goal.decreases-loop-d
+decreases-loop-d l =
+    l.size.0 - l.d

@@ -1,0 +1,20 @@
+
+use borrow.Author.Rules.{rules}
+use borrow.Author.Tests.{not-true, not-false}
+use Prim.Native.Nat.{ℕ, ◌-◌, ◌≤◌}
+use mathlib.Core.Path.{◌≡◌, refl, sym, ap, ◌∙◌}
+use mathlib.Core.Bool.{true}
+use native.Mathlib.Omega.{arith}
+use Rattle.theory.specs.Lists.{all, elem, up_to}
+use Rattle.rearranging.specs.Entries.{rearrangement_in}
+use Rattle.rearranging.proofs.Covering.{one-missing, one_more}
+use Rattle.rearranging.proofs.rearrangement.Rearrangement.covers.Given as goal
+
+-- `covers` meets its contract: the elements before d are among the entries.
+abbrev pub invariant-loop-d : goal.invariant-loop-d
+invariant-loop-d l =
+    (l.d ≤ l.size.0) × (all (λ e. elem e (rearrangement_in l.self)) (up_to l.d) ≡ true)
+
+abbrev pub decreases-loop-d : goal.decreases-loop-d
+decreases-loop-d l =
+    l.size.0 - l.d

@@ -1,0 +1,19 @@
+
+use Prim.Native.Nat.{◌+◌, ◌-◌, ◌≤◌}
+use mathlib.Core.Path.{◌≡◌, refl, sym, ◌∙◌}
+use native.Mathlib.Omega.{arith}
+use lib.ListN.{length, length-set}
+use borrow.Author.Rules.{rules}
+use Rattle.syntax.specs.Signatures.{signature_in}
+use Rattle.text.specs.Put.{put, put-none}
+use Rattle.sheet_text.proofs.WordsBefore.{words_before, before-within, before-fits, one-more-written, all-written, writable-at}
+use Rattle.sheet_text.proofs.clause_lines.put_clause_line.Given as goal
+
+-- `put_clause_line` meets its contract: the words before i are written.
+abbrev pub invariant-loop-i : goal.invariant-loop-i
+invariant-loop-i l =
+    (l.i ≤ l.words.count) × (length l.out ≡ length l.initial.out) × (l.out ≡ put l.initial.out l.initial.e (words_before (signature_in l.text l.signature) l.words l.i)) × (l.e ≡ l.initial.e + length (words_before (signature_in l.text l.signature) l.words l.i))
+
+abbrev pub decreases-loop-i : goal.decreases-loop-i
+decreases-loop-i l =
+    l.words.count - l.i

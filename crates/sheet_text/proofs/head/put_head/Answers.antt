@@ -1,0 +1,39 @@
+-- `put_head` meets its contract.
+use native.Mathlib.Omega.{arith}
+use Rattle.sheet_text.proofs.HeadParts.{head-length, head-written}
+use mathlib.Core.Path.{◌∙◌}
+use borrow.Author.Rules.{rules}
+use Rattle.sheet_text.proofs.head.put_head.Goals as goal
+
+pub put_bytes-first-requires : goal.put_bytes-first-requires
+put_bytes-first-requires c = let s = c in
+    let a = s.args in
+    omega (arith, s.requires.clauses_in_bounds, head-length a.text.now a.signature s.requires.readable.0 a.functions a.clauses)
+
+pub put_kind-second-requires : goal.put_kind-second-requires
+put_kind-second-requires c = let s = c in
+    let a = s.args in
+    let p = c.put_bytes-first in record { readable = (s.requires.readable.0, record { ordered = omega arith; within = s.requires.readable.1 }); signature_in_bounds = omega (arith, s.requires.clauses_in_bounds, p.ensures.place, p.auto.out, head-length a.text.now a.signature s.requires.readable.0 a.functions a.clauses) }
+
+pub put_kind-end-requires : goal.put_kind-end-requires
+put_kind-end-requires c = let s = c in
+    let a = s.args in
+    let p = c.put_bytes-first in
+    let q = c.put_kind-second in record { readable = (s.requires.readable.0, record { ordered = omega (arith, s.requires.readable.1); within = omega arith }); signature_in_bounds = omega (arith, s.requires.clauses_in_bounds, p.ensures.place, p.auto.out, q.ensures.place, q.auto.out, head-length a.text.now a.signature s.requires.readable.0 a.functions a.clauses) }
+
+pub put_count_line-requires : goal.put_count_line-requires
+put_count_line-requires c = let s = c in
+    let a = s.args in
+    let p = c.put_bytes-first in
+    let q = c.put_kind-second in
+    let u = c.put_kind-end in
+    omega (arith, s.requires.clauses_in_bounds, p.ensures.place, p.auto.out, q.ensures.place, q.auto.out, u.ensures.place, u.auto.out, head-length a.text.now a.signature s.requires.readable.0 a.functions a.clauses)
+
+pub returns : goal.returns
+returns c = let s = c in
+    let a = s.args in
+    let p = c.put_bytes-first in
+    let q = c.put_kind-second in
+    let u = c.put_kind-end in
+    let v = c.put_count_line in let both = head-written a.text.now a.signature s.requires.readable.0 a.functions a.clauses a.out.now p.new.out q.new.out u.new.out v.new.out a.at p.result q.result u.result v.result s.requires.clauses_in_bounds
+    p.auto.out (q.auto.out ∙ p.auto.out) p.ensures.written p.ensures.place q.ensures.written q.ensures.place u.ensures.written u.ensures.place v.ensures.written v.ensures.place in record { written = both.0; place = both.1 }

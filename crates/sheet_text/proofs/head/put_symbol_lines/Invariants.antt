@@ -1,0 +1,20 @@
+
+use Prim.Native.Nat.{◌+◌, ◌-◌, ◌≤◌}
+use mathlib.Core.Path.{◌≡◌, refl, sym, ap, ◌∙◌}
+use native.Mathlib.Omega.{arith}
+use lib.ListN.{length}
+use borrow.Author.Rules.{rules}
+use Rattle.text.specs.Put.{put, put-none}
+use Rattle.sheet_text.proofs.Symbols.{named-at}
+use Rattle.sheet_text.proofs.LinesWritten.{same_text}
+use Rattle.sheet_text.proofs.SymbolLines.{lines_of, lines_none, lines_fit, line-more-written}
+use Rattle.sheet_text.proofs.head.put_symbol_lines.Given as goal
+
+-- `put_symbol_lines` meets its contract: the lines of the symbols before i are written.
+abbrev pub invariant-loop-i : goal.invariant-loop-i
+invariant-loop-i l =
+    (l.from ≤ l.i) × (l.i ≤ l.to) × (length l.out ≡ length l.initial.out) × (l.out ≡ put l.initial.out l.at (lines_of l.key l.text l.signature l.from l.i)) × (l.e ≡ l.at + length (lines_of l.key l.text l.signature l.from l.i))
+
+abbrev pub decreases-loop-i : goal.decreases-loop-i
+decreases-loop-i l =
+    l.to - l.i

@@ -1,0 +1,17 @@
+
+use Prim.Native.Nat.{◌-◌, ◌≤◌}
+use native.Mathlib.Omega.{arith}
+use mathlib.Core.Path.{◌≡◌}
+use borrow.Author.Rules.{rules}
+use Rattle.sheet_text.proofs.Symbols.{short-at}
+use Rattle.sheet_text.proofs.SymbolLines.{LinesMeasured, no_lines, one_line}
+use Rattle.sheet_text.proofs.head.symbol_lines_length.Given as goal
+
+-- `symbol_lines_length` meets its contract: n is the length of the lines of the symbols before i.
+abbrev pub invariant-loop-i : goal.invariant-loop-i
+invariant-loop-i l =
+    (l.from ≤ l.i) × (l.i ≤ l.to) × LinesMeasured l.key l.signature l.from l.i l.n
+
+abbrev pub decreases-loop-i : goal.decreases-loop-i
+decreases-loop-i l =
+    l.to - l.i

@@ -1,0 +1,42 @@
+use Prim.Native.Nat.{ℕ, ◌-◌, ◌≤◌}
+use mathlib.Core.Path.{sym, ◌∙◌}
+use mathlib.Core.Bool.{true, false}
+use native.Mathlib.Omega.{arith}
+use Rattle.shortening.specs.Tables.{no_span, spans_of}
+use Rattle.shortening.proofs.FirstPlace.{FirstFrom, first-here, first_on, first-nowhere, first_found}
+use Rattle.shortening.proofs.TableWalk.{alike, length-spans, alike_at}
+use borrow.Author.Rules.{rules}
+use Rattle.shortening.proofs.table.place_of.Goals as goal
+
+pub loop-i-init : goal.loop-i-init
+loop-i-init c = (omega arith, λ r z. z)
+
+pub same_bytes-requires : goal.same_bytes-requires
+same_bytes-requires c = let z = c in (z.requires.0.within c.loop-i.i c.loop-i-test.true, z.requires.1)
+
+pub returns-then-same_bytes : goal.returns-then-same_bytes
+returns-then-same_bytes c = let z = c in
+    let a = z.args in
+    let l = c.loop-i in
+    let t = c.loop-i-test.true in
+    let e = length-spans a.sheet.now a.terms z.requires.0 in
+    first_found (alike a.sheet.now a.term) (spans_of a.terms) l.i a.terms.count e
+    (l.invariant.1 l.i (first-here (alike a.sheet.now a.term) (spans_of a.terms) l.i no_span (omega (arith, e)) (alike_at a.sheet.now a.terms z.requires.0 a.term l.i true t (sym c.same_bytes.ensures ∙ c.if-same_bytes.true))))
+
+pub loop-i-preserved : goal.loop-i-preserved
+loop-i-preserved c = let z = c in
+    let a = z.args in
+    let l = c.loop-i in
+    let t = c.loop-i-test.true in (
+      omega arith,
+      λ r k. l.invariant.1 r (first_on (alike a.sheet.now a.term) (spans_of a.terms) l.i no_span r (omega (arith, length-spans a.sheet.now a.terms z.requires.0))
+          (alike_at a.sheet.now a.terms z.requires.0 a.term l.i false t (sym c.same_bytes.ensures ∙ c.if-same_bytes.false)) k),
+    )
+
+pub returns : goal.returns
+returns c = let z = c in
+    let a = z.args in
+    let l = c.loop-i in
+    let e = length-spans a.sheet.now a.terms z.requires.0 in
+    first_found (alike a.sheet.now a.term) (spans_of a.terms) l.i a.terms.count e
+    (l.invariant.1 l.i (first-nowhere (alike a.sheet.now a.term) (spans_of a.terms) l.i (omega (arith, e))))

@@ -1,0 +1,19 @@
+
+use borrow.Author.Rules.{rules}
+use native.Mathlib.Omega.{arith}
+use mathlib.Core.Path.{◌≡◌, refl, ◌∙◌}
+use Prim.Native.Nat.{◌-◌}
+use lib.ListN.{length, get_or, length-set}
+use Rattle.truth.specs.Steps.{TermsLent}
+use Rattle.truth.proofs.InsideOut.{ValuedFrom, tail-valued, word_below, variable-valued, function-declared, arity-small, arguments-within, few-arguments, arguments-below, function-cell, function-valued, all-valued}
+use Rattle.truth.proofs.SymbolCells.{base-small}
+use Rattle.truth.proofs.values.term_values.Given as goal
+
+-- `term_values` meets its contract: the words from place `done` on are valued.
+abbrev pub invariant-loop-done : goal.invariant-loop-done
+invariant-loop-done l =
+    (length l.values ≡ length l.initial.values) × ((t : TermsLent l.words l.from l.tail l.arities l.bases l.cells l.size.0 l.initial.values) → ValuedFrom t l.done l.top l.values)
+
+abbrev pub decreases-loop-done : goal.decreases-loop-done
+decreases-loop-done l =
+    l.done

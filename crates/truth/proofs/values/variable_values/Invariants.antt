@@ -1,0 +1,19 @@
+
+use borrow.Author.Rules.{rules}
+use Prim.Native.Nat.{◌-◌}
+use mathlib.Core.Path.{◌≡◌, refl, ◌∙◌}
+use mathlib.Core.Bool.{true}
+use native.Mathlib.Omega.{arith}
+use lib.ListN.{length, length-set}
+use Rattle.theory.specs.Truth.{Interpretation}
+use Rattle.truth.specs.Steps.{VariablesLent}
+use Rattle.truth.proofs.Variables.{ValuedTo, none-valued, letter-below, letter-placed, letter-occurs, letter-valued, function-passed, sign-ends, clause-ends}
+use Rattle.truth.proofs.values.variable_values.Given as goal
+
+abbrev pub invariant-loop-i : goal.invariant-loop-i
+invariant-loop-i l =
+    (length l.values ≡ length l.initial.values) × ((v : VariablesLent l.words l.from l.place l.choice) → ValuedTo v l.tail l.i l.values)
+
+abbrev pub decreases-loop-i : goal.decreases-loop-i
+decreases-loop-i l =
+    length l.words - l.i
