@@ -73,7 +73,7 @@ def signatures(root):
                     labels = {"requires": [], "ensures": []}
                     at = end + 1
                     while True:
-                        k = re.compile(r"\s*(->[^{;]*?(?=\brequires\b|\bensures\b|\{|\bwhere\b)|where[^{]*?(?=\brequires\b|\bensures\b|\{)|(requires|ensures)\b\s*(\w+)?\s*(?=\{)|ghost[^{]*(?=\{))").match(text, at)
+                        k = re.compile(r"\s*(->(?:[^{;\[]|\[[^\]]*\])*?(?=\brequires\b|\bensures\b|\{|\bwhere\b)|where[^{]*?(?=\brequires\b|\bensures\b|\{)|(requires|ensures)\b\s*(\w+)?\s*(?=\{)|ghost[^{]*(?=\{))").match(text, at)
                         if not k:
                             break
                         if k[2]:
@@ -166,6 +166,38 @@ def last_expression(body):
     return body[:last], body[last:]
 
 
+def plain_cycle(text):
+    """A recursion of one function by itself, its answers as those of a function that is none: each took the measure's value first, and what the callees promise."""
+    text = re.sub(r"(?m)^(" + IDENT + r") : \(t : \u2115\) \u2192 " + IDENT + r"\.(Need-[\w-]+) \((?:[^()]|\n)*\)(?: \([^()]*\))?[^\n]*$", r"\1 : tie.\2", text)
+    text = re.sub(r"(?m)^(abbrev " + IDENT + r") : " + IDENT + r"-lts\.(invariant|decreases)-", r"\1 : tie.\2-", text)
+    text = re.sub(r"\.requires\.1(?!\d)", ".requires", text)
+    text = re.sub(r"[\w.'-]+\.requires\.0, (?=[^\n]*\bmore\b)", "", text)
+    text = re.sub(r"(?m)^abbrev (" + IDENT + r") : \u2115 \u2192 In (?:.|\n)*?\n\n", "", text)
+    return text.replace("close \u03bc-", "tie.spec ")
+
+
+def apart(body, names):
+    """The body with each variable that it binds under one of the names renamed, in its scope: to the end of the parentheses around it."""
+    at = 0
+    binder = re.compile(r"\u03bb (?:[^.\u03bb]*?(?<![\w'.-]))?(" + "|".join(map(re.escape, sorted(names, key=len, reverse=True))) + r")(?![\w'\u2080-\u2089-])[^.]*?\.|\((" + "|".join(map(re.escape, sorted(names, key=len, reverse=True))) + r") : ")
+    while True:
+        m = binder.search(body, at)
+        if not m:
+            return body
+        name = m[1] or m[2]
+        start = m.start(1) if m[1] else m.start(2)
+        depth, end = 0, len(body)
+        for i in range(start, len(body)):
+            depth += body[i] in "([{"
+            depth -= body[i] in ")]}"
+            if depth < (0 if m[1] else -1):
+                end = i
+                break
+        inside = TOKEN.sub(lambda k: k[0] + "'" if k[0] == name else k[0], body[start:end])
+        body = body[:start] + inside + body[end:]
+        at = start + len(name) + 1
+
+
 class Function:
     def __init__(self, crate, path, names, sources):
         self.crate, self.path = crate, path
@@ -216,16 +248,16 @@ class Function:
         return muts[n] if n < len(muts) else None
 
     def expression(self, text, context=("c",), goal=None):
-        text = re.sub(r"\.before(?![\w'-])", "", text)
         context = set(context)
-        for alias, of in re.findall(r"\blet (" + IDENT + r") = (" + IDENT + r")\s+in\b", text):
+        for alias, of in re.findall(r"\blet (" + IDENT + r") = (" + IDENT + r")(?:\.before)*\s+in\b", text):
             if of in context:
                 context.add(alias)
+        text = re.sub(r"(?<![\w.'\u2080-\u2089-])(" + "|".join(map(re.escape, sorted(context))) + r")(?:\.before)+(?![\w'-])", r"\1", text)
         text = re.sub(r"\.well-formed(?![\w'-])", ".well_formed", text)
         text = re.sub(r"simp length-map at (?=[\w.'-]*\.well_formed\.)", "", text)
 
         def field(m):
-            new = self.steps.get(norm(m[2])) or self.steps.get(re.sub("^is_is_", "is_", norm(m[2]).lower())) or (m[2] == "type_size" and self.steps.get("size_of")) or self.steps.get(re.sub("_lem$", "", norm(m[2])[:1].lower() + norm(m[2])[1:]))
+            new = self.steps.get(norm(m[2])) or self.steps.get(re.sub("^is_is_", "is_", norm(m[2]).lower())) or self.steps.get(re.sub(r"\d$", "", norm(m[2]))) or (m[2] == "type_size" and self.steps.get("size_of")) or self.steps.get(re.sub("_lem$", "", norm(m[2])[:1].lower() + norm(m[2])[1:]))
             return f"{m[1]}.{new if new else m[2]}"
 
         roots = "|".join(re.escape(v) for v in sorted(context))
@@ -265,8 +297,17 @@ class Function:
                 if kind == "ensures":
                     labels = self.labels(callee, "ensures")
                 else:
-                    label = self.mutable(callee, path[0])
-                    return f"{step}.{kind}.{label}" + "".join(f".{d}" for d in path[1:]) if label else m[0]
+                    # what a call leaves of its arguments: a pair of the first and the rest, over all of them
+                    s = self.source(callee)
+                    if not s:
+                        return m[0]
+                    over = [p for p, _ in s["params"]]
+                    k = 0
+                    while path and path[0] == 1:
+                        path.pop(0)
+                        k += 1
+                    path = path[1:]
+                    return f"{step}.{kind}.{over[k]}" + "".join(f".{d}" for d in path) if k < len(over) else m[0]
             if not labels or len(labels) < 2 or None in labels:
                 return m[0]
             i = 0
@@ -292,6 +333,7 @@ class Function:
             self.hand(f"{name}: {len(args)} arguments and not {len(want)}: {args} for {want}")
             return None
         use = dict(zip(args, want))
+        body = apart(body, set(use))
         bound = {v for v in re.findall(IDENT, " ".join(re.findall(r"\u03bb ([^.]*)\.|\(([^():]*) :", body) and [a or b for a, b in re.findall(r"\u03bb ([^.]*)\.|\(([^():]*) :", body)]))}
         self.parameter = "l"
         shadow = bound & set(use)
@@ -313,7 +355,7 @@ class Function:
         for d in decls:
             block = "\n".join(d).rstrip()
             m = re.search(r"(?m)^(?:abbrev |pub |unfoldable )*(" + IDENT + r") :\s+tie\.(" + IDENT + r")", block)
-            if re.search(r"tie\.spec\b", block):
+            if re.search(r"tie\.spec\b", block) or re.search(r"(?m)^pub \+", block):
                 continue
             if m and m[2].startswith("Need-"):
                 old = norm(m[2][5:])
@@ -400,7 +442,7 @@ class Function:
             public = lambda h: re.sub(r"(?m)^(abbrev |unfoldable |record )(?!pub )", lambda k: ("pub record " if k[1] == "record " else k[1] + "pub "), re.sub(r"(?m)^  (?!pub )(?=" + IDENT + r" : )", "  pub ", h) if re.search(r"(?m)^(pub )?record ", h) else h, count=1)
             inv[:0] = [public(h) for h in ordered]
             self.shared = [n for n in named if n in wanted]
-        uses = [l for l in head if not re.search(r"\.(Statement|Tie)(\.|\s|$)", l)]
+        uses = [l for l in head if not re.search(r"\.(Statement|Tie|Reads|Kinds)(\.|\s|$)|PlainCycle|\.Lts-|\{statement\}", l)]
         module = f"Rattle.{self.crate}.proofs.{self.path.replace('/', '.')}"
         comment = "\n".join(l for l in text.split("\n")[:6] if l.startswith("--") and l not in "\n".join(ans + inv))
         return uses, comment, inv, ans, module, helpers
@@ -423,6 +465,19 @@ class Function:
             return expr
         lets, last = last_expression(expr)
         shown = tuple_parts(last)
+        if not shown and re.match(r"\s*(rw|simp|subst)(?![\w-])", last) and last.rstrip().endswith(")"):
+            # what is left after a rewriting
+            end = last.rstrip()
+            depth, at = 0, len(end) - 1
+            for at in range(len(end) - 1, -1, -1):
+                depth += (end[at] == ")") - (end[at] == "(")
+                if depth == 0:
+                    break
+            shown = tuple_parts(end[at:])
+            if shown:
+                lets, last = lets + end[:at] + "(", end[at:]
+                inner = self.record(goal, labels, shown)
+                return f"{lets}{inner})" if inner else expr
         if not shown and len(labels) == 2 and not re.match(r"\s*(rw|subst|search|omega|elim|simp|grind|cc|record|absurd|\u03bb|\?)(?![\w-])", last):
             last = last.strip()
             return f"{lets} let both = {last} in record {{ {labels[0]} = both.0; {labels[1]} = both.1 }}"
@@ -430,16 +485,16 @@ class Function:
             if not re.match(r"\s*record", last):
                 self.hand(f"{goal}: clauses {labels} from {last.strip()[:120]}")
             return expr
+        inner = self.record(goal, labels, shown)
+        return f"{lets} {inner}" if inner else expr
+
+    def record(self, goal, labels, shown):
         while len(shown) < len(labels) and tuple_parts(shown[-1]):
             shown = shown[:-1] + tuple_parts(shown[-1])
-        if len(shown) > len(labels):
+        if len(shown) != len(labels):
             self.hand(f"{goal}: {len(shown)} parts for {labels}")
-            return expr
-        if len(shown) < len(labels):
-            self.hand(f"{goal}: {len(shown)} parts for {labels}")
-            return expr
-        fields = "; ".join(f"{l} = {p.strip()}" for l, p in zip(labels, shown))
-        return f"{lets} record {{ {fields} }}" if lets else f"record {{ {fields} }}"
+            return None
+        return "record { " + "; ".join(f"{l} = {p.strip()}" for l, p in zip(labels, shown)) + " }"
 
 
 def main(argv):
@@ -454,11 +509,23 @@ def main(argv):
             continue
         text = open(f"{folder}/Proof.antt", encoding="utf-8").read()
         key = f"Rattle-{crate}-proofs.{path.replace('/', '.')}.Lts"
+        cycle = [k for k in listed if k.startswith(f"Rattle-{crate}-proofs.{path.replace('/', '.')}.Lts-")]
+        measure = None
+        if "/+" in f"/{path}" and len(cycle) == 1:
+            key = cycle[0]
+            measure = re.search(r"(?m)^abbrev \u03bc-" + r"[\w-]+ : Measures (?:.|\n)*?\n\n", text)
+            text = plain_cycle(text)
+            text = re.sub(r"(?m)^abbrev \u03bc-[\w-]+ : Measures (?:.|\n)*?\n\n", "", text)
         if "tie.spec" not in text or key not in listed:
             print(f"hand: {crate}/{path}: " + ("by hand" if key in listed else f"no names {key}"))
             continue
         f = Function(crate, path, listed[key], sources)
         uses, comment, inv, ans, module, helpers = f.turn(text)
+        if measure:
+            name = path.split("/")[-1].lstrip("+")
+            inv.insert(0, f"abbrev pub decreases-{name} : goal.decreases-{name}\ndecreases-{name} l = ? -- {measure[0].strip()}".replace("\n\u03bc", " \u03bc"))
+            ans = [re.sub(r"(?m)^(pub (" + IDENT + r") : goal\.\2\n(?:unfolding .*\n)?\2) (?!t )", r"\1 t ", a) for a in ans]
+            print(f"hand: {crate}/{path}: the measure")
         print("\n".join(f.said)) if f.said else None
         if inv:
             with open(f"{folder}/Invariants.antt", "w", encoding="utf-8") as out:

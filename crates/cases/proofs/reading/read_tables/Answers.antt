@@ -44,7 +44,7 @@ pub overflow_add-result : goal.overflow_add-result
 overflow_add-result c = omega (arith, c.requires.1.0.limited.count, c.loop-i-test.true)
 
 pub shape_of-cells-in_default : goal.shape_of-cells-in_default
-shape_of-cells-in_default c = c.read_table.auto.cells.1.1.1.1.0 ∙ c.loop-i.invariant.1
+shape_of-cells-in_default c = c.read_table.auto.cells ∙ c.loop-i.invariant.1
 
 pub returns-in_default : goal.returns-in_default
 returns-in_default c = let s = c in
@@ -90,7 +90,7 @@ loop-i-preserved c = let s = c in
       rw c.power-base.ensures
           (table-read l.invariant.0 (omega (arith, count-signature_in a.signature r.limited a.sheet.now)) (symbol_in a.sheet.now (get_or a.signature.symbols l.i blank)) (symbol_at-signature_in a.signature r.limited a.sheet.now l.i here)
           c.in-Next.after (rw c.in-Next.is at c.read_table.ensures)),
-      c.read_table.auto.cells.1.1.1.1.0 ∙ l.invariant.1,
+      c.read_table.auto.cells ∙ l.invariant.1,
     )
 
 pub overflow_add-result-then-next-case : goal.overflow_add-result-then-next-case

@@ -37,11 +37,11 @@ loop-i-preserved c = let s = c in
     let l = c.loop-i in
     let y = state l.p l.out l.work in
     let t = c.symbol_cells-p in
-    let z = state t.result t.new.work.1.1.1.1.0 t.new.work.1.1.1.1.1.0 in
+    let z = state t.result t.new.out t.new.work in
     let lt = c.loop-i-test.true in (
       omega arith,
-      t.auto.work.1.1.1.1.0 ∙ l.invariant.1,
-      t.auto.work.1.1.1.1.1.0 ∙ l.invariant.2,
+      t.auto.out ∙ l.invariant.1,
+      t.auto.work ∙ l.invariant.2,
       λ sheet.
           more-consumed a.mode a.n.count (symbol_part a.size.0 (signature_in sheet a.signature)) 0 a.signature.count x l.i (l.i + 1) l.i y z (omega arith) (omega arith) (l.invariant.3 sheet)
           (consumed-same a.mode a.n.count (symbol_clauses a.size.0 (get_or a.n.bases l.i 0) (get_or a.signature.symbols l.i blank)) (symbol_part a.size.0 (signature_in sheet a.signature) l.i) y z (sym (part_at a.signature s.requires.limited.0 a.size.0 a.n s.requires.by_index sheet l.i (omega arith))) t.ensures),

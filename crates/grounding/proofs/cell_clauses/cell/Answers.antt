@@ -35,13 +35,13 @@ not_two-requires c = let s = c in
     let c₁ = prop_clause_of (take a.size.0 c.some_result-some.result) in
     let e = ap (λ (c : PropClause). c ∷ []) c.some_result-some.ensures in
     let t = c.take_clause-p in
-    let z = state t.result t.new.work.1.1.0 t.new.work.1.1.1.0 in record { size_bound = s.requires.size_bound; consumes = rest-consumes a.mode a.v (some ∷ []) two x z s.requires.consumes (consumed-same a.mode a.v (c₁ ∷ []) (some ∷ []) x z e t.ensures) }
+    let z = state t.result t.new.out t.new.work in record { size_bound = s.requires.size_bound; consumes = rest-consumes a.mode a.v (some ∷ []) two x z s.requires.consumes (consumed-same a.mode a.v (c₁ ∷ []) (some ∷ []) x z e t.ensures) }
 
 pub shape_of-out : goal.shape_of-out
-shape_of-out c = c.not_two.auto.work.1.1.1.0 ∙ c.take_clause-p.auto.work.1.1.0
+shape_of-out c = c.not_two.auto.out ∙ c.take_clause-p.auto.out
 
 pub shape_of-work : goal.shape_of-work
-shape_of-work c = c.not_two.auto.work.1.1.1.1.0 ∙ c.take_clause-p.auto.work.1.1.1.0
+shape_of-work c = c.not_two.auto.work ∙ c.take_clause-p.auto.work
 
 pub returns : goal.returns
 returns c = let s = c in
@@ -52,6 +52,6 @@ returns c = let s = c in
     let c₁ = prop_clause_of (take a.size.0 c.some_result-some.result) in
     let e = ap (λ (c : PropClause). c ∷ []) c.some_result-some.ensures in
     let t = c.take_clause-p in
-    let z = state t.result t.new.work.1.1.0 t.new.work.1.1.1.0 in
+    let z = state t.result t.new.out t.new.work in
     let u = c.not_two in
-    both-consumed a.mode a.v (some ∷ []) two x z (state u.result u.new.work.1.1.1.0 u.new.work.1.1.1.1.0) (consumed-same a.mode a.v (c₁ ∷ []) (some ∷ []) x z e t.ensures) u.ensures
+    both-consumed a.mode a.v (some ∷ []) two x z (state u.result u.new.out u.new.work) (consumed-same a.mode a.v (c₁ ∷ []) (some ∷ []) x z e t.ensures) u.ensures

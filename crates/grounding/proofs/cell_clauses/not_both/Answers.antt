@@ -30,4 +30,4 @@ returns c = let s = c in
     let w = q.literal-2.result in
     let e = pair-clause a.x.0 a.d.0 a.e.0 _ _ u w q.result_is.ensures q.result_is-2.ensures q.literal.ensures q.literal-2.ensures in
     let t = c.take_clause in
-    consumed-same a.mode a.v (prop_clause_of (u ∷ w ∷ []) ∷ []) (not_both (1 + a.x.0) a.d.0 a.e.0 ∷ []) x (state t.result t.new.work.1.1.0 t.new.work.1.1.1.0) (ap (λ (c : PropClause). c ∷ []) e) t.ensures
+    consumed-same a.mode a.v (prop_clause_of (u ∷ w ∷ []) ∷ []) (not_both (1 + a.x.0) a.d.0 a.e.0 ∷ []) x (state t.result t.new.out t.new.work) (ap (λ (c : PropClause). c ∷ []) e) t.ensures

@@ -32,10 +32,10 @@ loop-d-preserved c = let s = c in
     let l = c.loop-d in
     let y = state l.p l.out l.work in
     let t = c.not_with-p in
-    let z = state t.result t.new.work.1.1.1.1.0 t.new.work.1.1.1.1.1.0 in (
+    let z = state t.result t.new.out t.new.work in (
       omega arith,
-      t.auto.work.1.1.1.1.0 ∙ l.invariant.1,
-      t.auto.work.1.1.1.1.1.0 ∙ l.invariant.2,
+      t.auto.out ∙ l.invariant.1,
+      t.auto.work ∙ l.invariant.2,
       more-consumed a.mode a.v f 0 a.size.0 x l.d (l.d + 1) l.d y z (omega arith) (omega arith) l.invariant.3 t.ensures,
     )
 

@@ -36,11 +36,11 @@ loop-e-preserved c = let s = c in
     let l = c.loop-e in
     let y = state l.p l.out l.work in
     let t = c.not_both-p in
-    let z = state t.result t.new.work.1.1.1.1.0 t.new.work.1.1.1.1.1.0 in (
+    let z = state t.result t.new.out t.new.work in (
       omega arith,
       omega arith,
-      t.auto.work.1.1.1.1.0 ∙ l.invariant.2,
-      t.auto.work.1.1.1.1.1.0 ∙ l.invariant.3,
+      t.auto.out ∙ l.invariant.2,
+      t.auto.work ∙ l.invariant.3,
       more-consumed a.mode a.v f (suc a.d.0) (a.size.0 - suc a.d.0) x (l.e - suc a.d.0) (l.e + 1 - suc a.d.0) l.e y z (omega arith) (omega arith) l.invariant.4 t.ensures,
     )
 

@@ -17,7 +17,7 @@ use Rattle.grounding.proofs.cell_clauses.not_with.Given as goal
 -- `not_with` meets its contract: the clauses for the results before e are taken.
 abbrev pub invariant-loop-e : goal.invariant-loop-e
 invariant-loop-e l =
-    (λ mode v x d out₀ work₀ n p₀ e₀ out work p e. (suc d.0 ≤ e) × (e ≤ n) × (length out ≡ length out₀) × (length work ≡ length work₀) × Consumed mode v (concat_map (λ e. not_both (1 + x.0) d.0 e ∷ []) (up_from (suc d.0) (e - suc d.0))) (state p₀ out₀ work₀) (state p out work)) l.mode l.v l.x l.d l.initial.out l.initial.work l.n l.initial.p l.initial.e l.out l.work l.p l.e
+    (suc l.d.0 ≤ l.e) × (l.e ≤ l.n) × (length l.out ≡ length l.initial.out) × (length l.work ≡ length l.initial.work) × Consumed l.mode l.v (concat_map (λ e'. not_both (1 + l.x.0) l.d.0 e' ∷ []) (up_from (suc l.d.0) (l.e - suc l.d.0))) (state l.initial.p l.initial.out l.initial.work) (state l.p l.out l.work)
 
 abbrev pub decreases-loop-e : goal.decreases-loop-e
 decreases-loop-e l =

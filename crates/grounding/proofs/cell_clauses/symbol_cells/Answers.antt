@@ -30,5 +30,5 @@ returns c = let s = c in
     let x = state a.start a.out.now a.work.now in
     let e = not-false a.symbol.function c.if-not-symbol.false in
     let t = c.table_cells in
-    let z = state t.result t.new.work.1.1.1.1.0 t.new.work.1.1.1.1.1.0 in
+    let z = state t.result t.new.out t.new.work in
     rw (e, ← c.power-cells.ensures) t.ensures

@@ -45,10 +45,10 @@ loop-r-preserved c = let s = c in
     let l = c.loop-r in
     let y = state l.p l.out l.work in
     let t = c.cell-p in
-    let z = state t.result t.new.work.1.1.1.0 t.new.work.1.1.1.1.0 in (
+    let z = state t.result t.new.out t.new.work in (
       omega arith,
-      t.auto.work.1.1.1.0 ∙ l.invariant.1,
-      t.auto.work.1.1.1.1.0 ∙ l.invariant.2,
+      t.auto.out ∙ l.invariant.1,
+      t.auto.work ∙ l.invariant.2,
       more-consumed a.mode a.v f 0 a.cells x l.r (l.r + 1) l.r y z (omega arith) (omega arith) l.invariant.3 t.ensures,
     )
 

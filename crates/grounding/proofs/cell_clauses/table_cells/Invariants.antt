@@ -16,7 +16,7 @@ use Rattle.grounding.proofs.cell_clauses.table_cells.Given as goal
 -- `table_cells` meets its contract: the clauses of the first r cells are taken.
 abbrev pub invariant-loop-r : goal.invariant-loop-r
 invariant-loop-r l =
-    (λ mode v base cells size out₀ work₀ width p₀ r₀ out work p r. (r ≤ cells) × (length out ≡ length out₀) × (length work ≡ length work₀) × Consumed mode v (concat_map (λ r. cell_clauses size.0 (1 + (base.0 + r * size.0))) (up_to r)) (state p₀ out₀ work₀) (state p out work)) l.mode l.v l.base l.cells l.size l.initial.out l.initial.work l.width l.initial.p l.initial.r l.out l.work l.p l.r
+    (l.r ≤ l.cells) × (length l.out ≡ length l.initial.out) × (length l.work ≡ length l.initial.work) × Consumed l.mode l.v (concat_map (λ r'. cell_clauses l.size.0 (1 + (l.base.0 + r' * l.size.0))) (up_to l.r)) (state l.initial.p l.initial.out l.initial.work) (state l.p l.out l.work)
 
 abbrev pub decreases-loop-r : goal.decreases-loop-r
 decreases-loop-r l =

@@ -39,7 +39,7 @@ loop-i-preserved c = let s = c in
     let t = c.take_part-stands in
     let h = c.loop-i-test.true in (
       omega (arith, h),
-      λ sheet. table_taken a.size.0 a.signature a.cells.now a.held.now a.r s.requires.0 s.requires.1 sheet l.held a.standing l.stands l.base l.i (l.invariant.1 sheet) h t.new.1.1.0 t.result c.power-base.result t.auto.1.1.0 c.power-base.ensures t.ensures,
+      λ sheet. table_taken a.size.0 a.signature a.cells.now a.held.now a.r s.requires.0 s.requires.1 sheet l.held a.standing l.stands l.base l.i (l.invariant.1 sheet) h t.new.held t.result c.power-base.result t.auto.held c.power-base.ensures t.ensures,
     )
 
 pub shape_of-held : goal.shape_of-held

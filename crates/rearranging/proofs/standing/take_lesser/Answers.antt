@@ -10,7 +10,7 @@ use Rattle.rearranging.specs.declared.standing.Standing.TheVariants.{Same, Befor
 use Rattle.rearranging.proofs.standing.take_lesser.Goals as goal
 
 pub returns-then-value-old : goal.returns-then-value-old
-returns-then-value-old c = simp (lt-ltb _ _ c.if-value-old.true) (refl, refl)
+returns-then-value-old c = simp (lt-ltb _ _ c.if-value-old.true) (record { kept = refl; stands = refl })
 
 pub returns-then-old-value : goal.returns-then-old-value
 returns-then-old-value c = let a = c.args in

@@ -62,7 +62,7 @@ returns-then-not-fits c = let z = c in
     let m = helper-measured a.sheet.now a.signature a.all z.requires.behind a.terms z.requires.there l.i t w.result
     (subst (λ (k : ℕ). WordsTo (signature_in a.sheet.now a.all) (clause_words (helper_clause (k + l.i) (term_at g a.sheet.now (get_or a.terms.spans l.i no_span)))) w.result) (sym n) w.ensures) in
     sym (l.invariant.1 ∙ next-helper a.sheet.now a.signature a.all z.requires.behind a.terms z.requires.there l.i t
-    ∙ ap (λ (b : Bool). b && lists.all is_within (helper_clauses (length g + (l.i + 1)) (drop (l.i + 1) (terms_in g a.sheet.now a.terms)))) (sym (c.fits2.ensures m) ∙ c.if-not-fits.true))
+    ∙ ap (λ (b : Bool). b && lists.all is_within (helper_clauses (length g + (l.i + 1)) (drop (l.i + 1) (terms_in g a.sheet.now a.terms)))) (sym (c.fits.ensures m) ∙ c.if-not-fits.true))
 
 pub loop-i-preserved : goal.loop-i-preserved
 loop-i-preserved c = let z = c in
@@ -76,7 +76,7 @@ loop-i-preserved c = let z = c in
     (subst (λ (k : ℕ). WordsTo (signature_in a.sheet.now a.all) (clause_words (helper_clause (k + l.i) (term_at g a.sheet.now (get_or a.terms.spans l.i no_span)))) w.result) (sym n) w.ensures) in (
       omega arith,
       l.invariant.1 ∙ next-helper a.sheet.now a.signature a.all z.requires.behind a.terms z.requires.there l.i t
-          ∙ ap (λ (b : Bool). b && lists.all is_within (helper_clauses (length g + (l.i + 1)) (drop (l.i + 1) (terms_in g a.sheet.now a.terms)))) (sym (c.fits2.ensures m) ∙ c.if-not-fits.false),
+          ∙ ap (λ (b : Bool). b && lists.all is_within (helper_clauses (length g + (l.i + 1)) (drop (l.i + 1) (terms_in g a.sheet.now a.terms)))) (sym (c.fits.ensures m) ∙ c.if-not-fits.false),
     )
 
 pub returns : goal.returns

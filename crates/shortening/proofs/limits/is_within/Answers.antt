@@ -54,7 +54,7 @@ returns-then-not-fits c l = let z = c in
     let r = c.shorten-line in
     let full = c.if-line.false in
     let m = short-measured g a.sheet.now none.result none.ensures.count l.clause a.signature all⁺.result refl all⁺.ensures l.ok r.result full (r.ensures l) in
-    over-short g a.sheet.now none.result none.ensures.count l.clause a.signature all⁺.result refl all⁺.ensures l.ok r.result full (r.ensures l) (sym (c.fits2.ensures m) ∙ c.if-not-fits.true)
+    over-short g a.sheet.now none.result none.ensures.count l.clause a.signature all⁺.result refl all⁺.ensures l.ok r.result full (r.ensures l) (sym (c.fits.ensures m) ∙ c.if-not-fits.true)
 
 pub helpers_fit-requires : goal.helpers_fit-requires
 helpers_fit-requires c = let z = c in
@@ -69,7 +69,7 @@ helpers_fit-requires c = let z = c in
     record {
       declared = z.requires.declared;
       behind = all⁺.ensures;
-      there = terms-there g a.sheet.now none.result none.ensures.count l.clause a.signature all⁺.result refl all⁺.ensures l.ok r.result full (r.ensures l) (sym (c.fits2.ensures m) ∙ c.if-not-fits.false);
+      there = terms-there g a.sheet.now none.result none.ensures.count l.clause a.signature all⁺.result refl all⁺.ensures l.ok r.result full (r.ensures l) (sym (c.fits.ensures m) ∙ c.if-not-fits.false);
     }
 
 pub returns : goal.returns
@@ -82,4 +82,4 @@ returns c l = let z = c in
     let full = c.if-line.false in
     let m = short-measured g a.sheet.now none.result none.ensures.count l.clause a.signature all⁺.result refl all⁺.ensures l.ok r.result full (r.ensures l) in
     helpers-decide g a.sheet.now none.result none.ensures.count l.clause a.signature all⁺.result refl all⁺.ensures l.ok r.result full (r.ensures l)
-    (sym (c.fits2.ensures m) ∙ c.if-not-fits.false) c.helpers_fit.result c.helpers_fit.ensures
+    (sym (c.fits.ensures m) ∙ c.if-not-fits.false) c.helpers_fit.result c.helpers_fit.ensures

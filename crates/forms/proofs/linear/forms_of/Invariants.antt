@@ -1,0 +1,17 @@
+
+use borrow.Author.Rules.{rules}
+use Prim.Native.Nat.{ℕ, suc, ◌+◌, ◌-◌, ◌<◌}
+use mathlib.Core.Path.{◌≡◌, refl, sym, subst}
+use native.Mathlib.Omega.{arith}
+use lib.ListN.{length}
+use Rattle.forms.proofs.Gathering.{literal-over, Gathered, none-gathered, one-gathered, gathered-safe, gathered-linear}
+use Rattle.forms.proofs.linear.forms_of.Given as goal
+
+-- `forms_of` meets its contract: the forms of the first i literals are written.
+abbrev pub invariant-loop-i : goal.invariant-loop-i
+invariant-loop-i l =
+    Gathered l.arities l.flat l.n l.size.0 l.i l.forms
+
+abbrev pub decreases-loop-i : goal.decreases-loop-i
+decreases-loop-i l =
+    l.flat.count - l.i

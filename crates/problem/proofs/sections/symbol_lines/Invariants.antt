@@ -1,0 +1,16 @@
+
+use borrow.Author.Rules.{rules}
+use Prim.Native.Nat.{◌-◌}
+use native.Mathlib.Omega.{arith}
+use Rattle.syntax.specs.Signatures.{kind_of}
+use Rattle.problem.proofs.SectionLines.{Reached, begins, turn, faults, ends}
+use Rattle.problem.proofs.sections.symbol_lines.Given as goal
+
+-- `symbol_lines` reads one symbol line after the other.
+abbrev pub invariant-loop-i : goal.invariant-loop-i
+invariant-loop-i l =
+    Reached l.sheet l.at l.line l.key (kind_of l.function) l.n l.initial.signature l.signature l.next l.i
+
+abbrev pub decreases-loop-i : goal.decreases-loop-i
+decreases-loop-i l =
+    l.n - l.i

@@ -1,0 +1,19 @@
+
+use borrow.Author.Rules.{rules}
+use Prim.Native.Nat.{◌-◌}
+use mathlib.Core.Path.{sym, subst}
+use native.Mathlib.Omega.{arith}
+use lib.ListN.{drop}
+use Rattle.syntax.specs.Signatures.{signature_in}
+use Rattle.problem.specs.Stages.{ProblemRead, clause_lines_from}
+use Rattle.problem.proofs.ClauseTaking.{Taken, begins, turn, faults, bytes_left, all-taken}
+use Rattle.problem.proofs.sheet.lines_from.Given as goal
+
+-- `lines_from` reads one clause line after the other.
+abbrev pub invariant-loop-i : goal.invariant-loop-i
+invariant-loop-i l =
+    Taken l.named l.sheet l.at l.line l.n (signature_in l.sheet l.signature) l.starts l.next l.i
+
+abbrev pub decreases-loop-i : goal.decreases-loop-i
+decreases-loop-i l =
+    l.n - l.i
