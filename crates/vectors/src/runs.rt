@@ -1,4 +1,5 @@
 // Each operation on its stored inputs.
+use std::io;
 use vector_lines::answered::{
     bytes, counted, explained, judged, plain, pointed, search, solved, text,
 };
@@ -7,7 +8,7 @@ use vector_lines::lending::{pattern_bytes, pattern_numbers};
 use vector_lines::lines::{heading, say};
 
 // What a file's inputs are for; the switches are the mode of named terms and the constant clauses.
-#[derive(Drop)]
+#[derive(Clone, Copy)]
 pub enum Operation {
     Read,
     Judge,
@@ -24,27 +25,49 @@ pub enum Operation {
     LeastForm,
 }
 
-fn read(sheet: &[u8]) {
+fn read(rt: &impl Print, sheet: &[u8]) -> io::Result<()> {
     let answer = nesskettle::read(sheet);
-    counted(answer);
+    counted(rt, answer)
 }
 
-fn judge(sheet: &[u8], case: &[u8]) {
+fn judge(rt: &impl Print, sheet: &[u8], case: &[u8]) -> io::Result<()> {
     let answer = nesskettle::judge(sheet, case);
-    judged(answer);
+    judged(rt, answer)
 }
 
-fn write(sheet: &[u8], size: u64, named: bool, symmetry: bool, output: &mut [u8]) {
+fn write(
+    rt: &impl Print,
+    sheet: &[u8],
+    size: u64,
+    named: bool,
+    symmetry: bool,
+    output: &mut [u8],
+) -> io::Result<()> {
     let answer = nesskettle::write(sheet, size, named, symmetry, output);
-    text(answer, output);
+    text(rt, answer, output)
 }
 
-fn read_back(sheet: &[u8], size: u64, named: bool, setting: &[u8], output: &mut [u8]) {
+fn read_back(
+    rt: &impl Print,
+    sheet: &[u8],
+    size: u64,
+    named: bool,
+    setting: &[u8],
+    output: &mut [u8],
+) -> io::Result<()> {
     let answer = nesskettle::read_back(sheet, size, named, setting, output);
-    text(answer, output);
+    text(rt, answer, output)
 }
 
-fn find(sheet: &[u8], x: Input, named: bool, symmetry: bool, work: &mut [u32], output: &mut [u8]) {
+fn find(
+    rt: &impl Print,
+    sheet: &[u8],
+    x: Input,
+    named: bool,
+    symmetry: bool,
+    work: &mut [u32],
+    output: &mut [u8],
+) -> io::Result<()> {
     let answer = nesskettle::find(
         sheet,
         x.low,
@@ -55,121 +78,140 @@ fn find(sheet: &[u8], x: Input, named: bool, symmetry: bool, work: &mut [u32], o
         work,
         output,
     );
-    search(answer, work, output);
+    search(rt, answer, work, output)
 }
 
-fn find_plain(sheet: &[u8], low: u64, high: u64, output: &mut [u8]) {
+fn find_plain(
+    rt: &impl Print,
+    sheet: &[u8],
+    low: u64,
+    high: u64,
+    output: &mut [u8],
+) -> io::Result<()> {
     let answer = nesskettle::find_plain(sheet, low, high, output);
-    plain(answer, output);
+    plain(rt, answer, output)
 }
 
-fn from_tptp(clauses: &[u8], output: &mut [u8]) {
+fn from_tptp(rt: &impl Print, clauses: &[u8], output: &mut [u8]) -> io::Result<()> {
     let answer = nesskettle::from_tptp(clauses, output);
-    text(answer, output);
+    text(rt, answer, output)
 }
 
-fn explain(sheet: &[u8], case: &[u8]) {
+fn explain(rt: &impl Print, sheet: &[u8], case: &[u8]) -> io::Result<()> {
     let answer = nesskettle::explain(sheet, case);
-    explained(answer);
+    explained(rt, answer)
 }
 
-fn setting(sheet: &[u8], case: &[u8], output: &mut [u8]) {
+fn setting(rt: &impl Print, sheet: &[u8], case: &[u8], output: &mut [u8]) -> io::Result<()> {
     let answer = nesskettle::setting(sheet, case, output);
-    bytes(answer, output);
+    bytes(rt, answer, output)
 }
 
-fn from_solver(sheet: &[u8], size: u64, reply: &[u8], output: &mut [u8]) {
+fn from_solver(
+    rt: &impl Print,
+    sheet: &[u8],
+    size: u64,
+    reply: &[u8],
+    output: &mut [u8],
+) -> io::Result<()> {
     let answer = nesskettle::from_solver(sheet, size, reply, output);
-    solved(answer, output);
+    solved(rt, answer, output)
 }
 
-fn merge(first: &[u8], second: &[u8], output: &mut [u8]) {
+fn merge(rt: &impl Print, first: &[u8], second: &[u8], output: &mut [u8]) -> io::Result<()> {
     let answer = nesskettle::merge(first, second, output);
     let said = answer.answer;
-    pointed(answer.sheet);
-    text(said, output);
+    pointed(rt, answer.sheet)?;
+    text(rt, said, output)
 }
 
 // Beside the sheet stand as many bytes of a case as low says, and behind them the list.
-fn renumber(sheet: &[u8], low: u64, beside: &[u8], output: &mut [u8]) {
+fn renumber(
+    rt: &impl Print,
+    sheet: &[u8],
+    low: u64,
+    beside: &[u8],
+    output: &mut [u8],
+) -> io::Result<()> {
     let n = low as usize;
     if beside.len() < n {
-        say(b" broken\n");
-        return;
+        return say(rt, b" broken\n");
     }
     let answer = nesskettle::renumber(sheet, &beside[..n], &beside[n..], output);
-    text(answer, output);
+    text(rt, answer, output)
 }
 
-fn least_form(sheet: &[u8], case: &[u8], output: &mut [u8]) {
+fn least_form(rt: &impl Print, sheet: &[u8], case: &[u8], output: &mut [u8]) -> io::Result<()> {
     let answer = nesskettle::least_form(sheet, case, output);
-    text(answer, output);
+    text(rt, answer, output)
 }
 
 fn answer(
+    rt: &impl Print,
     operation: Operation,
     sheet: &[u8],
     beside: &[u8],
     x: Input,
     work: &mut [u32],
     output: &mut [u8],
-) {
+) -> io::Result<()> {
     pattern_numbers(work);
     pattern_bytes(output);
     match operation {
-        Operation::Read => read(sheet),
-        Operation::Judge => judge(sheet, beside),
-        Operation::Write(named, symmetry) => write(sheet, x.low, named, symmetry, output),
-        Operation::ReadBack(named) => read_back(sheet, x.low, named, beside, output),
-        Operation::Find(named, symmetry) => find(sheet, x, named, symmetry, work, output),
-        Operation::FromTptp => from_tptp(sheet, output),
-        Operation::Explain => explain(sheet, beside),
-        Operation::Setting => setting(sheet, beside, output),
-        Operation::FromSolver => from_solver(sheet, x.low, beside, output),
-        Operation::FindPlain => find_plain(sheet, x.low, x.high, output),
-        Operation::Merge => merge(sheet, beside, output),
-        Operation::Renumber => renumber(sheet, x.low, beside, output),
-        Operation::LeastForm => least_form(sheet, beside, output),
+        Operation::Read => read(rt, sheet),
+        Operation::Judge => judge(rt, sheet, beside),
+        Operation::Write(named, symmetry) => write(rt, sheet, x.low, named, symmetry, output),
+        Operation::ReadBack(named) => read_back(rt, sheet, x.low, named, beside, output),
+        Operation::Find(named, symmetry) => find(rt, sheet, x, named, symmetry, work, output),
+        Operation::FromTptp => from_tptp(rt, sheet, output),
+        Operation::Explain => explain(rt, sheet, beside),
+        Operation::Setting => setting(rt, sheet, beside, output),
+        Operation::FromSolver => from_solver(rt, sheet, x.low, beside, output),
+        Operation::FindPlain => find_plain(rt, sheet, x.low, x.high, output),
+        Operation::Merge => merge(rt, sheet, beside, output),
+        Operation::Renumber => renumber(rt, sheet, x.low, beside, output),
+        Operation::LeastForm => least_form(rt, sheet, beside, output),
     }
 }
 
 // The answer with as much work and output lent as the input says.
 fn lend(
+    rt: &impl Print,
     operation: Operation,
     sheet: &[u8],
     beside: &[u8],
     x: Input,
     work: &mut [u32],
     output: &mut [u8],
-) {
+) -> io::Result<()> {
     let numbers = x.work;
     let bytes = x.output;
     if work.len() < numbers {
-        say(b" broken\n");
-        return;
+        return say(rt, b" broken\n");
     }
     if output.len() < bytes {
-        say(b" broken\n");
-        return;
+        return say(rt, b" broken\n");
     }
     answer(
+        rt,
         operation,
         sheet,
         beside,
         x,
         &mut work[..numbers],
         &mut output[..bytes],
-    );
+    )
 }
 
 // The answers to all inputs of a file, counted from 1.
 pub fn answer_all(
+    rt: &impl Print,
     label: &[u8],
     operation: Operation,
     stored: &[u8],
     work: &mut [u32],
     output: &mut [u8],
-) {
+) -> io::Result<()> {
     let mut at: usize = 0;
     let mut count: u64 = 0;
     while at < stored.len() {
@@ -178,19 +220,20 @@ pub fn answer_all(
         let beside = x.beside;
         let end = x.end;
         if end <= at {
-            say(b"broken\n");
-            return;
+            return say(rt, b"broken\n");
         }
-        count = std::num::wrapping_add_u64(count, 1);
-        heading(label, count);
+        count = count.wrapping_add(1);
+        heading(rt, label, count)?;
         lend(
+            rt,
             operation,
             &stored[sheet..beside],
             &stored[beside..end],
             x,
             work,
             output,
-        );
+        )?;
         at = end;
     }
+    Ok(())
 }
