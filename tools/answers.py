@@ -171,7 +171,7 @@ def plain_cycle(text):
     text = re.sub(r"(?m)^(" + IDENT + r") : \(t : \u2115\) \u2192 " + IDENT + r"\.(Need-[\w-]+) \((?:[^()]|\n)*\)(?: \([^()]*\))?[^\n]*$", r"\1 : tie.\2", text)
     text = re.sub(r"(?m)^(abbrev " + IDENT + r") : " + IDENT + r"-lts\.(invariant|decreases)-", r"\1 : tie.\2-", text)
     text = re.sub(r"\.requires\.1(?!\d)", ".requires", text)
-    text = re.sub(r"[\w.'-]+\.requires\.0, (?=[^\n]*\bmore\b)", "", text)
+    text = re.sub(r"(omega \(arith, )[\w.'-]+\.requires\.0, ", r"\1", text)
     text = re.sub(r"(?m)^abbrev (" + IDENT + r") : \u2115 \u2192 In (?:.|\n)*?\n\n", "", text)
     return text.replace("close \u03bc-", "tie.spec ")
 
@@ -523,9 +523,11 @@ def main(argv):
         uses, comment, inv, ans, module, helpers = f.turn(text)
         if measure:
             name = path.split("/")[-1].lstrip("+")
-            inv.insert(0, f"abbrev pub decreases-{name} : goal.decreases-{name}\ndecreases-{name} l = ? -- {measure[0].strip()}".replace("\n\u03bc", " \u03bc"))
+            of = [p for p, _ in sources[f.own]["params"]]
+            said = re.search(r"(?m)^\u03bc-[\w-]+ \S+ a = ((?:.|\n)*)", measure[0])[1].strip()
+            said = re.sub(r"(?<![\w.])a((?:\.1)*)\.0(?![\d])", lambda m: "l." + of[m[1].count("1")], said)
+            inv.insert(0, f"abbrev pub decreases-{name} : goal.decreases-{name}\ndecreases-{name} l = {said}")
             ans = [re.sub(r"(?m)^(pub (" + IDENT + r") : goal\.\2\n(?:unfolding .*\n)?\2) (?!t )", r"\1 t ", a) for a in ans]
-            print(f"hand: {crate}/{path}: the measure")
         print("\n".join(f.said)) if f.said else None
         if inv:
             with open(f"{folder}/Invariants.antt", "w", encoding="utf-8") as out:

@@ -1,5 +1,6 @@
 // What the operations answer: a result, or a numbered refusal. `specs/Answers` gives document 01's number and values for each of them.
 #![tactic(auto)]
+
 ghost use Rattle.std.specs.Prelude.{◌≡◌};
 ghost use Rattle.theory.specs.Refusals as theory;
 ghost use Rattle.answers.specs.Answers.{refusal_in, unreasoned};

@@ -1,10 +1,9 @@
 -- The lists of a text, noted token by token.
-use Prim.Native.Nat.{ℕ, ◌+◌, ◌≤◌, ◌<◌}
-use mathlib.Core.Path.{◌≡◌, refl, subst}
+use Prim.Native.Nat.{ℕ, ◌+◌, ◌≤◌}
+use mathlib.Core.Path.{◌≡◌, subst}
 use mathlib.Core.List.{List, ◌∷◌}
 use native.Mathlib.Omega.{arith}
 use lib.ListN.{length}
-use Rattle.tptp.specs.Tokens.{left_paren}
 use Rattle.tptp.specs.Trees.{Name}
 use Rattle.tptp.specs.Written.{Item, item_of}
 use Rattle.tokens.specs.Pieces.{kind_in}
@@ -14,7 +13,7 @@ use Rattle.tokens.specs.declared.next.NextToken.{NextToken}
 use Rattle.tokens.specs.declared.next.NextToken.TheVariants.{Is, End}
 use Rattle.scanning.specs.Ahead.{items_at}
 use Rattle.scanning.proofs.Lookahead.{items-next, items-none, next-further}
-use Rattle.argument_lists.specs.Lists.{from_open, Room, Held}
+use Rattle.argument_lists.specs.Lists.{from_open, Held}
 use Rattle.argument_lists.specs.Passing.{Telling}
 use Rattle.argument_lists.specs.declared.pass.Pass.{Pass}
 use Rattle.argument_lists.proofs.Passes.{ended_held, over-held}

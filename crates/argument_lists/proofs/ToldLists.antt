@@ -2,16 +2,16 @@
 use Prim.Native.Nat.{ℕ, suc, ◌+◌, ◌≤◌, ◌<◌}
 use mathlib.Core.Path.{◌≡◌, refl, sym, ap, ◌∙◌, subst}
 use mathlib.Core.Bool.{Bool, true, false, cond}
-use mathlib.Core.List.{List, [], ◌∷◌}
+use mathlib.Core.List.{List, ◌∷◌}
 use native.Mathlib.Omega.{arith}
 use native.Mathlib.Nat.{add-zero}
 use borrow.Author.Tests.{leb-true, leb-false}
 use lib.Dec.{leb}
-use lib.ListN.{length, get_or}
+use lib.ListN.{get_or}
 use Rattle.tptp.specs.Tokens.{TokenKind, left_paren}
 use Rattle.tptp.specs.Trees.{Name}
 use Rattle.tptp.specs.Written.{item_of}
-use Rattle.tptp.specs.Scanning.{same_token_kind, commas, arity_ahead}
+use Rattle.tptp.specs.Scanning.{same_token_kind, commas}
 use Rattle.tokens.specs.Pieces.{kind_in}
 use Rattle.tokens.specs.NextTokens.{NextFound}
 use Rattle.tokens.specs.declared.pieces.Kind.{Kind}

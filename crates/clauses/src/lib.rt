@@ -1,5 +1,6 @@
 // Reading a clause line: names and words, the grammar, the limits.
 #![tactic(auto)]
+
 pub mod clause;
 pub mod grammar;
 pub mod names;

@@ -1,5 +1,6 @@
 // The column of a refusal, told from the text after the fact.
 #![tactic(auto)]
+
 pub mod case;
 mod cells;
 mod due;

@@ -1,4 +1,5 @@
 // What interpretations (document 01: cases) are made of: argument vectors and the tables of symbols.
 #![tactic(auto)]
+
 pub mod tables;
 pub mod vector;

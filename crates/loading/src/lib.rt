@@ -1,5 +1,6 @@
 // Loading clauses into a work area, in two passes: one counts the occurrences of each literal, one enters the clauses.
 #![tactic(auto)]
+
 ghost use Rattle.std.specs.Prelude.{◌≡◌, cond, ◌++◌, ◌^◌, ◌≤◌, ◌<◌, length, replicate, drop};
 ghost use Rattle.propagation.specs.WorkArea.{Regions};
 ghost use Rattle.loading.specs.Filling.{ends_with, enters};

@@ -1,7 +1,7 @@
 -- Codes renamed in place, one after the other, and four of them deleted, those after them moved up.
 use Prim.Native.Nat.{ℕ, suc, ◌+◌, ◌-◌, ◌≤◌, ◌<◌}
-use mathlib.Core.Path.{◌≡◌, refl, sym, ap, ◌∙◌}
-use mathlib.Core.List.{List, [], ◌∷◌, ◌++◌, map, append_assoc}
+use mathlib.Core.Path.{◌≡◌, sym, ap, ◌∙◌}
+use mathlib.Core.List.{List, [], ◌∷◌, ◌++◌, map}
 use native.Mathlib.Omega.{arith}
 use lib.ListN.{length, get_or, take, drop, set, length-map, length-drop}
 use lib.Seq.{length-take-le, take-suc, drop-cons, set_at, append_snoc, get_or-append_seam, get_or-append-add, get_or-take, get_or-drop, take_at, drop_at, take-take, take-add, paste, paste-zero, length_paste_head, paste-suc, take-paste}

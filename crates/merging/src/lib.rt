@@ -1,5 +1,6 @@
 // Step 1 of flattening on clause words: negative equalities of two variables are deleted, the first variable put for the second.
 #![tactic(auto)]
+
 ghost use Rattle.std.specs.Prelude.{◌≡◌, cond, map, ◌+◌, ◌-◌, ◌≤◌, eqb, ltb, get_or, take};
 ghost use Rattle.theory.specs.Syntax.{Signature};
 ghost use Rattle.theory.specs.Problem.{max_words};

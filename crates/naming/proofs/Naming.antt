@@ -25,7 +25,7 @@ use Rattle.theory.proofs.Numbering.{cell_below}
 use Rattle.theory.proofs.Declared.{function_of→, predicate_of→}
 use Rattle.theory.proofs.Truth.{truth}
 use Rattle.theory.specs.Lifted.{among}
-use Rattle.theory.proofs.LiftedTerms.{same_term-true, same_term-of-≡, place}
+use Rattle.theory.proofs.LiftedTerms.{same_term-true, same_term-of-≡}
 use Rattle.theory.proofs.Grammar.{term-read}
 use Rattle.theory.proofs.Flattening.{value-lt, values-lt}
 use Rattle.theory.proofs.Interpretations.{length-interpretation, interpretation-closed}

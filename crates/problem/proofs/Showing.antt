@@ -6,7 +6,7 @@ use mathlib.Core.List.{List, [], ◌∷◌, map}
 use native.Mathlib.Omega.{arith}
 use lib.ListN.{length, get_or, take, drop, length-take}
 use lib.Seq.{take-take}
-use Rattle.theory.specs.Syntax.{declared, helper, is_from_sheet, all_declared, no_symbol, Term}
+use Rattle.theory.specs.Syntax.{helper, is_from_sheet, all_declared, no_symbol, Term}
 use Rattle.theory.specs.Syntax as theory
 use Rattle.theory.proofs.Tests.{and_left, and_right}
 use Rattle.naming.specs.NamedProblem.{shown_symbols}

@@ -6,20 +6,17 @@ use mathlib.Core.Bool.{Bool, true, false, cond}
 use mathlib.Core.Option.{Option, none, some, some-injective}
 use mathlib.Core.List.{List, [], ◌∷◌, ◌++◌}
 use native.Mathlib.Omega.{arith}
-use lib.Dec.{eqb, leb}
+use lib.Dec.{leb}
 use lib.ListN.{length, get_or}
-use borrow.Author.Tests.{eqb-true}
 use Rattle.theory.specs.Lists.{all}
 use Rattle.theory.specs.Syntax.{Signature, Term, variable, Clause, clause_ok}
 use Rattle.theory.specs.Grammar.{Word, clause_words, read_words, read_clause}
 use Rattle.theory.specs.Lines.{words_of}
 use Rattle.theory.specs.Flattening.{add_term, add_terms}
 use Rattle.theory.specs.Lifted.{among}
-use Rattle.theory.specs.Refusals.{answer, refused, at_line, check, or_refuse}
-use Rattle.theory.specs.Problem.{max_words, read_all, within_limits, clause_of}
+use Rattle.theory.specs.Problem.{max_words, read_all, within_limits}
 use Rattle.theory.proofs.Tests.{not-true, true-or-false, leb-true, leb-false, and_left, and_right}
 use Rattle.theory.proofs.Lists.{all-at, map_at}
-use Rattle.theory.proofs.Answers.{answer-inj, answer≢refused, bind-step, check-of-true, or_refuse-of-some}
 use Rattle.theory.proofs.Grammar.{clause-read, read_clause-complete}
 use Rattle.text.specs.Lines.{part, LineEnd}
 use Rattle.syntax.specs.declared.limits.Problem.{Problem}

@@ -1,5 +1,6 @@
 // Reading a problem (document 01: a sheet): signature, where each clause stands, or the refusal of the first faulty line.
 #![tactic(auto)]
+
 pub mod clause_lines;
 pub mod lines;
 pub mod modes;

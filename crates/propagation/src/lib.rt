@@ -1,5 +1,6 @@
 // Unit propagation to the end, over clauses that are held in lent numbers (specs/WorkArea.antt says how).
 #![tactic(auto)]
+
 ghost use Rattle.std.specs.Prelude.{◌≡◌, ◌<◌};
 ghost use Rattle.propagation.specs.Units.{visit_of};
 ghost use Rattle.propagation.specs.Advance.{advanced, Ready, PropagatesFrom};

@@ -1,5 +1,6 @@
 // A solver's reply, read in one pass with a mark for each variable: the claim that there is no model, or the setting that it states.
 #![tactic(auto)]
+
 pub mod lines;
 pub mod numbers;
 pub mod stages;

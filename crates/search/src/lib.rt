@@ -1,5 +1,6 @@
 // The search: unit propagation, a choice for the lowest unset variable, and back to the latest choice whose other value is untried.
 #![tactic(auto)]
+
 ghost use Rattle.std.specs.Prelude.{◌≡◌, ◌+◌, ◌<◌, take};
 ghost use Rattle.propagation.specs.WorkArea.{Regions};
 ghost use Rattle.propagation.specs.Advance.{Ready};

@@ -12,7 +12,7 @@ use lib.Seq.{ext_get_or, length-take-le, take-take, get_or-take, get_or-drop, ge
 use Rattle.theory.specs.Lists.{all, up_from, up_to}
 use Rattle.theory.specs.Syntax.{Signature, no_symbol, symbol_at, Term, Terms, Clause, count}
 use Rattle.theory.specs.Syntax as theory
-use Rattle.theory.specs.Flattening.{turned_atom, turned, to_lift, add_terms, new, variables_for, FlatAtom, flat_predicate, flat_result, flat_equality, FlatLiteral, shallow}
+use Rattle.theory.specs.Flattening.{turned_atom, turned, to_lift, add_terms, new, variables_for, FlatAtom, flat_predicate, flat_result, FlatLiteral, shallow}
 use Rattle.theory.specs.Lifted.{covered_atom}
 use Rattle.theory.proofs.Tests.{ltb-true, ltb-false, and-join}
 use Rattle.theory.proofs.Lists.{all_append, all-imply, map-up_from, map-all, up_from-append}

@@ -10,7 +10,7 @@ use lib.ListN.{length, get_or, length-map}
 use Rattle.theory.specs.Lists.{any, all, same, concat_map}
 use Rattle.theory.specs.Bytes.{bytes}
 use Rattle.theory.specs.Syntax.{Kind, function, predicate, is_function, is_predicate, Origin, declared, is_from_sheet, Symbol, Signature, all_declared, no_symbol, Clause}
-use Rattle.theory.specs.Refusals.{Refusal, Answer, answer, refused, unplaced, needing, ◌>>=◌}
+use Rattle.theory.specs.Refusals.{Refusal, Answer, answer, refused, unplaced, needing}
 use Rattle.theory.specs.Problem.{clause_of, Problem, read_problem}
 use Rattle.theory.specs.Columns.{placed_problem}
 use Rattle.theory.specs.WellFormed.{symbol_ok, NamesDiffer}

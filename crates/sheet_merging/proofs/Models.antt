@@ -11,7 +11,7 @@ use Rattle.theory.specs.Vectors.{vectors, AllBelow}
 use Rattle.theory.specs.Syntax.{function, Signature, Term, variable, apply, Terms, empty, cons, Atom, equal, holds, Clause, count, function_of, predicate_of, term_ok, terms_ok, atom_ok, clause_ok, variables}
 use Rattle.theory.specs.Truth.{Interpretation, Assignment, value, values, atom_true, literal_true, clause_true, assign}
 use Rattle.theory.specs.Cells.{is_interpretation, interpretation}
-use Rattle.theory.specs.Refusals.{Answer, answer, ◌>>=◌}
+use Rattle.theory.specs.Refusals.{Answer, answer}
 use Rattle.theory.specs.Problem.{Problem, read_problem}
 use Rattle.theory.specs.CaseText.{Case, case_text, read_case}
 use Rattle.theory.specs.Operations.{judge_answer}

@@ -1,5 +1,6 @@
 // The fixed terms of clause lines, and clauses with names in their place.
 #![tactic(auto)]
+
 pub mod helpers;
 pub mod limits;
 pub mod line;

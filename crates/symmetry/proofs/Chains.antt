@@ -8,7 +8,7 @@ use lib.ListN.{length}
 use Rattle.theory.specs.Propositional.{prop_count}
 use Rattle.theory.specs.PropClauses.{parts, prop_clauses, instance_count, literal_count, work_needed}
 use Rattle.theory.specs.Dimacs.{dimacs}
-use Rattle.theory.specs.Refusals.{Answer, answer, unplaced, needing, ◌>>=◌, check}
+use Rattle.theory.specs.Refusals.{Answer, answer, unplaced, needing, check, ◌>>=◌}
 use Rattle.theory.specs.Problem.{Problem}
 use Rattle.theory.specs.CaseText.{case_length}
 use Rattle.theory.specs.Least.{smallest_model}

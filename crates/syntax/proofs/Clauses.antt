@@ -6,8 +6,8 @@ use mathlib.Core.Option.{some}
 use mathlib.Core.List.{List, [], ◌∷◌, ◌++◌}
 use lib.ListN.{length}
 use Rattle.theory.specs.Lists.{all, concat_map, distinct}
-use Rattle.theory.specs.Syntax.{Signature, Term, variable, apply, Terms, empty, cons, Atom, equal, holds, Literal, Clause, count, term_variables, terms_variables, atom_variables, variables, clause_ok}
-use Rattle.theory.specs.Grammar.{Word, term_words, terms_words, atom_words, clause_words, Grammar, clause, grammar, read_words, clause_if, read_clause}
+use Rattle.theory.specs.Syntax.{Signature, Term, variable, apply, Terms, empty, cons, Atom, equal, holds, Literal, Clause, term_variables, terms_variables, atom_variables, variables, clause_ok}
+use Rattle.theory.specs.Grammar.{Word, term_words, terms_words, atom_words, clause_words, Grammar, grammar, read_words, clause_if, read_clause}
 use Rattle.theory.proofs.Lists.{concat_map-append}
 use Rattle.theory.specs.Claims.Grammar.{is_declared}
 use Rattle.theory.proofs.Grammar.{clause-passed, clause-read, read_clause-sound}

@@ -1,5 +1,6 @@
 // A problem as the code holds it: its limits, its symbols, its clauses as codes of their words.
 #![tactic(auto)]
+
 pub mod limits;
 pub mod signature;
 pub mod size;

@@ -1,5 +1,6 @@
 // Bytes of a text: lines ended by LF, words parted by one space, numbers in decimal.
 #![tactic(auto)]
+
 pub mod lines;
 pub mod numbers;
 pub mod writing;

@@ -8,7 +8,7 @@ use Rattle.theory.specs.Instances.{instances}
 use Rattle.theory.specs.PropClauses.{function_part, clause_part, parts, prop_clauses, instance_count, literal_count, work_needed}
 use Rattle.theory.specs.Dimacs.{literal_text, clause_text, header, dimacs}
 use Rattle.theory.specs.Valuation.{is_valuation, is_functional, read_back}
-use Rattle.theory.specs.Refusals.{refused, ◌>>=◌}
+use Rattle.theory.specs.Refusals.{◌>>=◌}
 use Rattle.theory.specs.Grammar.{grammar, read_clause}
 use Rattle.theory.specs.Problem.{count_line, is_name, symbol_lines, word_of, within_limits, clause_of, clause_lines, read_problem}
 use Rattle.theory.specs.CaseText.{table_text, tables_text, case_text, case_length, read_table, read_tables, read_case}

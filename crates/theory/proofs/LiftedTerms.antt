@@ -1,12 +1,12 @@
 -- Lifted terms: each function term that stands as an argument or on the right is found among them, and so are the function terms within it.
-use Prim.Native.Nat.{ℕ, zero, suc, ◌<◌}
+use Prim.Native.Nat.{ℕ, ◌<◌}
 use mathlib.Core.Path.{◌≡◌, refl, sym, ap, ◌∙◌}
 use mathlib.Core.Bool.{Bool, true, false, cond, not, ◌&&◌, ◌||◌, false≢true}
 use mathlib.Core.Option.{Option, some}
 use mathlib.Core.List.{List, [], ◌∷◌, ◌++◌, map}
 use lib.Dec.{eqb}
 use lib.ListN.{length, get_or}
-use Rattle.theory.specs.Lists.{any, all, concat_map, place_that}
+use Rattle.theory.specs.Lists.{all, concat_map, place_that}
 use Rattle.theory.specs.Syntax.{Term, variable, apply, Terms, empty, cons, Atom, equal, holds, Literal, Clause}
 use Rattle.theory.specs.Flattening.{turned_atom, turned, function_terms, all_function_terms, to_lift, same_term, same_terms, add_term, add_terms, lifted_terms, new, place_or0, variable_for}
 use Rattle.theory.specs.Lifted.{among, covered, covered_all, covered_atom, is_apply, different}

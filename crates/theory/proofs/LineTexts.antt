@@ -10,7 +10,7 @@ use native.Mathlib.Omega.{arith}
 use lib.Dec.{eqb}
 use lib.ListN.{length, take}
 use lib.Seq.{take-append-le}
-use Rattle.theory.specs.Lists.{all, same}
+use Rattle.theory.specs.Lists.{all}
 use Rattle.theory.specs.Bytes.{LF}
 use Rattle.theory.specs.Lines.{Cut, add_front, cut_line, after_key}
 use Rattle.theory.specs.LineForms.{ValueForm, LineForm, keyed, no_line, value_has_form, line_has_form, is_laid_out, good_value, good_line, good_bytes}

@@ -8,7 +8,7 @@ use native.Mathlib.Omega.{arith}
 use lib.ListN.{length, take, replicate}
 use Rattle.theory.specs.Lists.{prefix}
 use Rattle.theory.specs.Syntax.{Signature, Clause}
-use Rattle.theory.specs.Grammar.{Word, equals, letter, Due, terms, atom, due_after, Grammar, clause, misplaced, unfinished, at_end, grammar_from, grammar, read_words, clause_if, read_clause}
+use Rattle.theory.specs.Grammar.{Word, equals, letter, Due, terms, atom, due_after, Grammar, clause, misplaced, unfinished, grammar_from, grammar, read_words, clause_if, read_clause}
 use Rattle.theory.specs.Problem.{word_of, read_all}
 use Rattle.theory.specs.LineForms.{LineForm, is_some}
 use Rattle.theory.specs.Columns.{line_words, word_column, word_or, or_no_words, misplaced_at, first_misplaced}

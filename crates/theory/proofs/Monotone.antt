@@ -1,7 +1,7 @@
 -- A larger domain needs no less: V, I, L, W and the length of a case grow with the size.
 use Prim.Native.Nat.{ℕ, zero, suc, ◌+◌, ◌*◌, ◌-◌, ◌/◌, ◌^◌, ◌≤◌}
-use mathlib.Core.Path.{◌≡◌, refl, sym, ap, ◌∙◌}
-use mathlib.Core.List.{List, [], ◌∷◌, ◌++◌, map, map-map}
+use mathlib.Core.Path.{ap}
+use mathlib.Core.List.{List, [], ◌∷◌, map, map-map}
 use native.Mathlib.Nat.{mul-le-mul, pow-suc, le_refl, pow-zero}
 use native.Mathlib.Omega.{arith}
 use lib.ListN.{length}

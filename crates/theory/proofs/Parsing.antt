@@ -12,7 +12,7 @@ use lib.Seq.{get_or-append_seam}
 use Rattle.theory.specs.Lists.{all, same, prefix}
 use Rattle.theory.specs.Bytes.{bytes, zero_digit, is_digit}
 use Rattle.theory.specs.Lines.{Cut, words_of}
-use Rattle.theory.specs.Syntax.{Kind, function, predicate, is_function, is_predicate, declared, is_from_sheet, Symbol, Signature, all_declared, no_symbol, symbol_at, Clause, clause_ok, functions}
+use Rattle.theory.specs.Syntax.{Kind, function, predicate, is_function, is_predicate, declared, is_from_sheet, Symbol, Signature, all_declared, no_symbol, symbol_at, Clause, clause_ok}
 use Rattle.theory.specs.Grammar.{Word, sign, equals, symbol, letter, clause_words, read_clause}
 use Rattle.theory.specs.Refusals.{answer, at_line, unplaced}
 use Rattle.theory.specs.Problem.{count_line, is_name_byte, is_name, symbol_of, is_named, symbol_lines, place_of_name, name_word, word_of, read_all, within_limits, clause_of, clause_lines, Problem, read_problem}

@@ -4,7 +4,7 @@ use mathlib.Core.Path.{◌≡◌}
 use mathlib.Core.List.{List}
 use Rattle.theory.specs.Refusals.{answer}
 use Rattle.theory.specs.Problem.{Problem, read_problem}
-use Rattle.theory.specs.Operations.{Search, nothing}
+use Rattle.theory.specs.Operations.{Search}
 use Rattle.theory.specs.PlainSearch.{plain_result}
 use Rattle.theory.specs.Claims.PlainFinds.{PlainFindsHolds}
 use Rattle.theory.proofs.Answers.{unbind}

@@ -9,7 +9,7 @@ use lib.Dec.{eqb, leb}
 use lib.ListN.{length, length-append, length-map}
 use Rattle.theory.specs.Lists.{any, concat_map, distinct}
 use Rattle.theory.specs.Syntax.{Term, variable, apply, Terms, empty, cons, Atom, equal, holds, Literal, Clause, term_variables, terms_variables, atom_variables, variables}
-use Rattle.theory.specs.Grammar.{Word, sign, term_words, terms_words, atom_words, clause_words}
+use Rattle.theory.specs.Grammar.{Word, term_words, terms_words, atom_words, clause_words}
 use Rattle.theory.specs.Flattening.{rename_term, rename_terms, rename_atom, rename_literal, unequal_variables, Unequal, leftmost_at, leftmost, merge_found, merge, merged, turned_atom, turned, function_terms, all_function_terms, to_lift, same_term, same_terms, add_term, add_terms, lifted_terms, flatten, variable_count}
 use Rattle.theory.specs.Problem.{within_limits}
 use Rattle.theory.proofs.Tests.{eqb-true, eqb_same, iff→≡}

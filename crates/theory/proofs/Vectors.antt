@@ -1,14 +1,14 @@
 -- Laws of argument vectors: a test on all of them, and their ranks.
 use Prim.Native.Nat.{ℕ, zero, suc, ◌+◌, ◌*◌, ◌^◌, ◌/◌, ◌%◌, ◌≤◌, ◌<◌}
 use mathlib.Core.Path.{◌≡◌, refl, sym, ap, ◌∙◌, subst}
-use mathlib.Core.Bool.{Bool, true, false, ◌&&◌}
+use mathlib.Core.Bool.{Bool, true}
 use mathlib.Core.List.{List, [], ◌∷◌, ◌++◌, map, map-map}
-use native.Mathlib.Nat.{add-zero, zero-add, suc_inj, pow-zero, pow-succ', pow-suc, zero-lt-suc, zero-mul, mul-one, mul_assoc, add-mul}
+use native.Mathlib.Nat.{add-zero, suc_inj, pow-zero, pow-succ', pow-suc, zero-lt-suc, zero-mul, mul-one, mul_assoc, add-mul}
 use native.Mathlib.Omega.{arith}
 use lib.Dec.{ltb}
 use lib.Arith.{digits_lt, digits_div, digits_mod}
 use lib.ListN.{length, get_or, drop, length-append, length-map}
-use Rattle.theory.specs.Lists.{all, concat_map, up_from, up_to}
+use Rattle.theory.specs.Lists.{all, up_from, up_to}
 use Rattle.theory.specs.Vectors.{vectors, rank, AllBelow}
 use Rattle.theory.proofs.Tests.{and_left, and_right, and-join, ltb-true, ltb-of-<}
 use Rattle.theory.proofs.Lists.{all_map, all-concat_map, all-up_to, up_to-all, map-concat_map, concat_map-cong, map-add-up_from, length-up_from, blocks}

@@ -1,12 +1,12 @@
 -- The text of an interpretation (document 01: a case), and reading it: 12 at the first line that is not exactly as laid out.
-use Rattle.std.specs.Prelude.{ℕ, zero, suc, ◌+◌, ◌*◌, ◌-◌, Bool, true, false, cond, ◌&&◌, List, [], ◌∷◌, ◌++◌, map, eqb, ltb, leb, length, take, drop}
+use Rattle.std.specs.Prelude.{ℕ, suc, ◌+◌, ◌*◌, ◌-◌, Bool, cond, ◌&&◌, List, [], ◌∷◌, ◌++◌, map, eqb, ltb, leb, length, take, drop}
 use Rattle.std.proofs.Math.Option.{Option, none, some}
 use Rattle.theory.specs.Lists.{all, concat_map, same, sum, prefix}
 use Rattle.theory.specs.Bytes.{bytes, LF, space, zero_digit}
-use Rattle.theory.specs.Lines.{Cut, cut_line, after_key}
+use Rattle.theory.specs.Lines.{cut_line, after_key}
 use Rattle.theory.specs.Syntax.{Kind, function, predicate, Symbol, Signature}
 use Rattle.theory.specs.Cells.{table_size, value_count}
-use Rattle.theory.specs.Refusals.{Answer, answer, refused, at_line, ◌>>=◌, check, or_refuse}
+use Rattle.theory.specs.Refusals.{Answer, answer, at_line, ◌>>=◌, check, or_refuse}
 
 -- the byte of a cell's least value: elements are written from 1, truth values from 0
 abbrev pub least_byte : Kind → ℕ

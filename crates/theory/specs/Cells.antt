@@ -1,5 +1,5 @@
 -- Cells: the table entries of all symbols, numbered symbol by symbol, the last argument fastest. An interpretation (document 01: case) is their values.
-use Rattle.std.specs.Prelude.{ℕ, zero, suc, ◌+◌, ◌^◌, Bool, true, false, ◌&&◌, List, [], ◌∷◌, map, length, get_or, take, replicate, eqb, ltb}
+use Rattle.std.specs.Prelude.{ℕ, ◌+◌, ◌^◌, Bool, true, false, ◌&&◌, List, [], ◌∷◌, map, length, get_or, take, replicate, eqb, ltb}
 use Rattle.std.proofs.Math.Option.{Option}
 use Rattle.theory.specs.Lists.{concat_map, up_to, sum}
 use Rattle.theory.specs.Vectors.{vectors, rank}

@@ -1,9 +1,9 @@
 -- The words of a clause, what may follow what, and the clause that they are.
 -- Words are read backwards, so that a symbol finds its terms already read; that this reads exactly the words of clauses is the claim GrammarExact (Claims/Grammar).
-use Rattle.std.specs.Prelude.{ℕ, zero, suc, ◌+◌, Bool, true, false, cond, List, [], ◌∷◌, ◌++◌}
+use Rattle.std.specs.Prelude.{ℕ, zero, suc, ◌+◌, Bool, List, [], ◌∷◌, ◌++◌}
 use Rattle.std.proofs.Math.Option.{Option, none, some}
 use Rattle.theory.specs.Lists.{concat_map}
-use Rattle.theory.specs.Syntax.{Kind, function, predicate, Symbol, Signature, symbol_at, Term, variable, apply, Terms, empty, cons, Atom, equal, holds, Literal, Clause}
+use Rattle.theory.specs.Syntax.{Kind, function, predicate, Signature, symbol_at, Term, variable, apply, Terms, empty, cons, Atom, equal, holds, Literal, Clause}
 
 -- a word: + or -, =, the symbol at a place of the signature, or a variable letter, A being 0
 pub data Word : Type 0 where

@@ -7,7 +7,7 @@ use Rattle.theory.specs.Vectors.{vectors}
 use Rattle.theory.specs.Syntax.{Signature}
 use Rattle.theory.specs.Truth.{assign}
 use Rattle.theory.specs.Flattening.{FlatVariable, own, new, FlatAtom, flat_predicate, flat_result, flat_equality, FlatLiteral, FlatClause, variable_count}
-use Rattle.theory.specs.Propositional.{PropLiteral, PropClause, prop_variable}
+use Rattle.theory.specs.Propositional.{PropClause, prop_variable}
 
 -- the value of a flattened clause's variable under the values v of its own variables and then its new ones.
 abbrev pub flat_value : List ℕ → List ℕ → FlatVariable → ℕ

@@ -6,8 +6,8 @@ use Rattle.theory.specs.Bytes.{bytes, zero_digit, is_digit}
 use Rattle.theory.specs.Lines.{Cut, cut_line, after_key, count_of, words_of}
 use Rattle.theory.specs.Syntax.{Kind, function, predicate, declared, Symbol, Signature, Clause}
 use Rattle.theory.specs.Grammar.{Word, sign, equals, symbol, letter, read_clause}
-use Rattle.theory.specs.Flattening.{FlatClause, flatten, variable_count}
-use Rattle.theory.specs.Refusals.{Refusal, Answer, answer, refused, at_line, unplaced, ◌>>=◌, check, or_refuse}
+use Rattle.theory.specs.Flattening.{flatten, variable_count}
+use Rattle.theory.specs.Refusals.{Answer, answer, at_line, unplaced, ◌>>=◌, check, or_refuse}
 
 -- the largest sheet in bytes
 abbrev pub max_bytes : ℕ

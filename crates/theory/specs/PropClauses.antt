@@ -1,10 +1,10 @@
 -- Step 4 of document 01: the propositional clauses of a problem at size s in written order, and the counts I, L and W.
-use Rattle.std.specs.Prelude.{ℕ, suc, ◌+◌, ◌-◌, ◌*◌, ◌/◌, ◌^◌, Bool, true, false, List, [], ◌∷◌, ◌++◌, map, length}
+use Rattle.std.specs.Prelude.{ℕ, suc, ◌+◌, ◌-◌, ◌*◌, ◌/◌, ◌^◌, true, false, List, [], ◌∷◌, ◌++◌, map, length}
 use Rattle.theory.specs.Lists.{concat_map, up_from, up_to, select, sum}
 use Rattle.theory.specs.Syntax.{is_function, Signature, symbol_at, Clause}
 use Rattle.theory.specs.Cells.{table_size}
-use Rattle.theory.specs.Flattening.{FlatClause, flatten, variable_count}
-use Rattle.theory.specs.Propositional.{PropLiteral, PropClause, prop_base, prop_count}
+use Rattle.theory.specs.Flattening.{flatten, variable_count}
+use Rattle.theory.specs.Propositional.{PropClause, prop_base, prop_count}
 use Rattle.theory.specs.Instances.{instances}
 
 -- some result: n, n + 1, .., for the s variables from n on

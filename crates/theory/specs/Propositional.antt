@@ -1,5 +1,5 @@
 -- Propositional variables and their numbering: in cell order, a function's cell has one for each result, a predicate's cell one.
-use Rattle.std.specs.Prelude.{ℕ, zero, suc, ◌+◌, ◌*◌, Bool, List, map, take}
+use Rattle.std.specs.Prelude.{ℕ, ◌+◌, ◌*◌, Bool, List, map, take}
 use Rattle.theory.specs.Lists.{sum}
 use Rattle.theory.specs.Vectors.{rank}
 use Rattle.theory.specs.Syntax.{Kind, function, predicate, Symbol, Signature, symbol_at}

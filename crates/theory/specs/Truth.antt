@@ -1,6 +1,6 @@
 -- Truth in a finite interpretation, in the order of source 004: variables, terms, atoms, signs, the clause, all assignments.
 -- The elements of a domain of size s are 0 to s - 1; the texts write them as 1 to s.
-use Rattle.std.specs.Prelude.{ℕ, zero, suc, Bool, true, false, cond, not, List, [], ◌∷◌, length, eqb}
+use Rattle.std.specs.Prelude.{ℕ, suc, Bool, true, false, cond, not, List, [], ◌∷◌, length, eqb}
 use Rattle.std.specs.Bool.{beq}
 use Rattle.std.proofs.Math.Option.{Option, none, some}
 use Rattle.theory.specs.Lists.{any, first_that}

@@ -1,8 +1,8 @@
 -- Valuations (document 01: settings): a byte for each propositional variable; which clauses they satisfy, the interpretation that they are read back as, and
 -- the valuation that an interpretation has.
-use Rattle.std.specs.Prelude.{ℕ, zero, suc, ◌+◌, Bool, true, false, cond, ◌&&◌, List, [], ◌∷◌, ◌++◌, map, eqb, ltb, length, get_or, take, drop, replicate}
+use Rattle.std.specs.Prelude.{ℕ, zero, suc, Bool, true, cond, ◌&&◌, List, [], ◌∷◌, ◌++◌, map, eqb, ltb, length, get_or, take, drop, replicate}
 use Rattle.std.specs.Bool.{beq}
-use Rattle.theory.specs.Lists.{any, all, select, up_to}
+use Rattle.theory.specs.Lists.{any, all, select}
 use Rattle.theory.specs.Syntax.{Kind, function, predicate, Signature}
 use Rattle.theory.specs.Cells.{cell_kinds}
 use Rattle.theory.specs.Propositional.{PropLiteral, PropClause, width, prop_count}

@@ -1,5 +1,5 @@
 -- Argument vectors: lists of numbers below s. Document 01: the last argument runs fastest.
-use Rattle.std.specs.Prelude.{ℕ, zero, suc, ◌+◌, ◌*◌, ◌^◌, ◌<◌, Bool, List, [], ◌∷◌, map, length}
+use Rattle.std.specs.Prelude.{ℕ, zero, suc, ◌+◌, ◌*◌, ◌^◌, ◌<◌, List, [], ◌∷◌, map, length}
 use Rattle.theory.specs.Lists.{concat_map, up_to}
 
 -- all lists of k numbers below s, the last place running fastest

@@ -1,9 +1,9 @@
 -- The walk: the search for a valuation by unit propagation and choices, with the number of choices made (document 02, slip 12).
-use Rattle.std.specs.Prelude.{ℕ, zero, suc, pred, ◌+◌, Bool, true, false, cond, not, ◌&&◌, List, [], ◌∷◌, ◌++◌, eqb, get_or, set, length, replicate}
+use Rattle.std.specs.Prelude.{ℕ, zero, suc, pred, ◌+◌, Bool, true, false, cond, not, ◌&&◌, List, [], ◌∷◌, eqb, get_or, set, replicate}
 use Rattle.std.specs.Bool.{beq}
 use Rattle.std.proofs.Math.Option.{Option, none, some}
 use Rattle.theory.specs.Lists.{any, all, select, concat_map, place_that}
-use Rattle.theory.specs.Syntax.{is_function, Kind, Signature}
+use Rattle.theory.specs.Syntax.{is_function, Signature}
 use Rattle.theory.specs.Cells.{cell_kinds}
 use Rattle.theory.specs.Propositional.{PropLiteral, PropClause, width, prop_count}
 use Rattle.theory.specs.PropClauses.{prop_clauses}

@@ -1,5 +1,6 @@
 // The tokens of a TPTP text, found one at a time from a place on, and the line and column of a place.
 #![tactic(auto)]
+
 pub mod classes;
 pub mod comments;
 pub mod next;

@@ -1,16 +1,16 @@
 -- What is written may stand where it stands: the tokens of a statement are followed to the next statement.
 use Prim.Native.Nat.{ℕ, zero, suc}
-use mathlib.Core.Path.{◌≡◌, refl, sym, ap, ◌∙◌, subst}
-use mathlib.Core.Bool.{Bool, true, false, cond, not, ◌&&◌, false≢true}
+use mathlib.Core.Path.{◌≡◌, refl, ap, ◌∙◌}
+use mathlib.Core.Bool.{Bool, true, false, cond, not, false≢true}
 use mathlib.Core.Option.{Option, none, some}
 use mathlib.Core.List.{List, [], ◌∷◌, ◌++◌, map, append_assoc}
-use Rattle.theory.specs.Lists.{same, concat_map, first_that}
+use Rattle.theory.specs.Lists.{concat_map, first_that}
 use Rattle.theory.specs.Bytes.{bytes}
 use Rattle.theory.proofs.Tests.{false_of_not}
 use Rattle.tptp.specs.Tokens.{TokenKind, lower_word, upper_word, digits, falsum, left_paren, right_paren, comma, full_stop, bar, tilde, equal_sign, unequal_sign, foreign, open_comment, TptpToken, is}
-use Rattle.tptp.specs.Grammar.{Side, first, second, DueToken, statement, opening, name, name_comma, role, role_comma, clause, literal, literal_end, term, word_end, term_end, equality, closing, stop, Move, is_cnf, after_term, after_variable, due_after_token, may_end}
-use Rattle.tptp.specs.Trees.{Name, NameTerm, name_variable, name_apply, NameTerms, no_terms, term_and, NameAtom, name_holds, name_equal, NameLiteral, never, plain, tilded, unequal, NameClause}
-use Rattle.tptp.specs.Written.{Item, lower, upper, sign, item_of, item, term_items, list_items, more_items, atom_items, literal_items, Layout, clause_items, statement_items, clause_name}
+use Rattle.tptp.specs.Grammar.{Side, first, second, DueToken, statement, opening, name, name_comma, role, role_comma, clause, literal, literal_end, term, word_end, term_end, equality, closing, stop, Move, is_cnf, after_term, after_variable, due_after_token}
+use Rattle.tptp.specs.Trees.{Name, NameTerm, name_variable, name_apply, NameTerms, no_terms, term_and, NameAtom, name_holds, name_equal, NameLiteral, never, plain, tilded, unequal}
+use Rattle.tptp.specs.Written.{Item, lower, sign, item_of, item, term_items, list_items, more_items, atom_items, literal_items, Layout, clause_items, statement_items, clause_name}
 use Rattle.tptp.specs.Scanning.{token_of}
 use Rattle.tptp.specs.Claims.Places.{due_after_tokens}
 

@@ -1,19 +1,19 @@
 -- The first fault, statement by statement.
-use Prim.Native.Nat.{ℕ, zero, suc}
-use mathlib.Core.Path.{◌≡◌, refl, sym, ap, ◌∙◌, subst}
-use mathlib.Core.Bool.{Bool, true, false, not, ◌&&◌}
-use mathlib.Core.Option.{Option, none, some}
-use mathlib.Core.List.{List, [], ◌∷◌, ◌++◌, map, append_assoc, append-nil}
+use Prim.Native.Nat.{ℕ, suc}
+use mathlib.Core.Path.{◌≡◌, refl, sym, ap, ◌∙◌}
+use mathlib.Core.Bool.{Bool, true, not, ◌&&◌}
+use mathlib.Core.Option.{Option}
+use mathlib.Core.List.{List, [], ◌∷◌, ◌++◌, append_assoc}
 use lib.Dec.{eqb, leb}
 use Rattle.theory.specs.Lists.{all, same, concat_map}
-use Rattle.theory.specs.Syntax.{Kind, function, predicate, is_function, Symbol, Signature, symbol_at}
+use Rattle.theory.specs.Syntax.{function, predicate, is_function, Symbol, Signature, symbol_at}
 use Rattle.theory.specs.Grammar as words
 use Rattle.theory.specs.Least.{or_else}
 use Rattle.theory.specs.Problem.{is_named, within_limits}
 use Rattle.theory.proofs.Tests.{and_left, and_right, and-join, or_right, beq-true}
 use Rattle.theory.proofs.Lists.{all-imply, any_append, concat_map-map}
-use Rattle.tptp.specs.Trees.{Name, NameClause, Statement}
-use Rattle.tptp.specs.Symbols.{Occurrence, of_variable, of_symbol, clause_occurrences, declares, declared, signature_of, variables_of, symbol_of_name, clause_over}
+use Rattle.tptp.specs.Trees.{Statement}
+use Rattle.tptp.specs.Symbols.{Occurrence, of_variable, of_symbol, clause_occurrences, declares, signature_of, variables_of, symbol_of_name, clause_over}
 use Rattle.tptp.specs.Tptp.{Fault, fault_if, same_symbol_kind, occurrence_faults, statement_faults, faults_from}
 use Rattle.tptp.specs.Claims.Order.{first_fault, declared_by, signature_by, first_fault_from}
 use Rattle.tptp.specs.Claims.Order as claims

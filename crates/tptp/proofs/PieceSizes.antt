@@ -13,7 +13,7 @@ use Rattle.theory.specs.Bytes.{bytes, LF, is_digit}
 use Rattle.theory.specs.Problem.{is_lower}
 use Rattle.theory.proofs.Tests.{eqb-true, and_left, and_right}
 use Rattle.theory.proofs.Lists.{same_true}
-use Rattle.tptp.specs.Tokens.{Piece, gap, token, unclosed, digits, falsum, foreign, open_comment, kind_number, run, starts_with, is_word_byte, is_upper, is_blank, to_comment_end, ratio, fraction, sign_length, exponent, number_rest, comment_piece, digits_piece, dollar_piece, sign_piece, piece_of}
+use Rattle.tptp.specs.Tokens.{Piece, gap, token, unclosed, digits, foreign, open_comment, kind_number, run, starts_with, is_word_byte, is_upper, is_blank, to_comment_end, ratio, fraction, sign_length, exponent, number_rest, comment_piece, digits_piece, dollar_piece, sign_piece, piece_of}
 
 pub run-within : (p : ℕ → Bool) (bs : List ℕ) → run p bs ≤ length bs
 run-within p [] = omega arith

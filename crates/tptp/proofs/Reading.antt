@@ -1,11 +1,9 @@
 -- What is written is read: the tokens of a clause are read as that clause.
-use Prim.Native.Nat.{ℕ, zero, suc}
-use mathlib.Core.Path.{◌≡◌, refl, sym, ap, ◌∙◌, subst}
-use mathlib.Core.Bool.{Bool, true, false, cond}
+use mathlib.Core.Path.{◌≡◌, refl, ap, ◌∙◌}
 use mathlib.Core.List.{List, [], ◌∷◌, ◌++◌, map, append_assoc}
 use Rattle.theory.specs.Lists.{concat_map}
 use Rattle.tptp.specs.Tokens.{TokenKind, lower_word, upper_word, digits, falsum, left_paren, right_paren, comma, full_stop, bar, tilde, equal_sign, unequal_sign, foreign, open_comment, TptpToken, is}
-use Rattle.tptp.specs.Trees.{Name, NameTerm, name_variable, name_apply, NameTerms, no_terms, term_and, NameAtom, name_holds, name_equal, NameLiteral, never, plain, tilded, unequal, NameClause, Mark, bare, negative, differing, TreeReading, innermost_list, outer_lists, in_front, atom_of, marked_literal, name_of, closed, read_kind, read_tokens}
+use Rattle.tptp.specs.Trees.{Name, NameTerm, name_variable, name_apply, NameTerms, no_terms, term_and, NameAtom, name_holds, name_equal, NameLiteral, never, plain, tilded, unequal, NameClause, Mark, bare, negative, differing, TreeReading, outer_lists, in_front, marked_literal, name_of, closed, read_kind, read_tokens}
 use Rattle.tptp.specs.Written.{Item, lower, upper, sign, item_of, item, term_items, list_items, more_items, atom_items, literal_items}
 
 -- any name

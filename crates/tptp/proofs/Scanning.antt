@@ -6,8 +6,6 @@ use mathlib.Core.Option.{Option, none, some}
 use mathlib.Core.List.{List, [], ◌∷◌, ◌++◌, map, append_assoc, append-nil, map-append}
 use Rattle.theory.specs.Lists.{concat_map, first_that}
 use Rattle.theory.specs.Syntax.{function, predicate}
-use Rattle.theory.specs.Syntax as sheet
-use Rattle.theory.specs.Grammar as words
 use Rattle.theory.proofs.Tests.{false_of_not}
 use Rattle.tptp.specs.Tokens.{TokenKind, left_paren, right_paren, comma, full_stop, bar, equal_sign, unequal_sign, is}
 use Rattle.tptp.specs.Grammar.{Side, first, second, DueToken, statement, name, clause, literal, literal_end, term, word_end, term_end, Move, after_term, due_after_token}

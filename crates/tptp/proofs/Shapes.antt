@@ -2,11 +2,10 @@
 use Prim.Native.Nat.{ℕ, zero, suc}
 use mathlib.Core.Path.{◌≡◌, refl, sym, ap, ◌∙◌, subst}
 use mathlib.Core.Logic.{◌⊎◌, inl, inr}
-use mathlib.Core.Bool.{Bool, true, false, cond, not, ◌&&◌, false≢true, true≢false}
+use mathlib.Core.Bool.{Bool, true, false, cond, ◌&&◌, false≢true, true≢false}
 use mathlib.Core.Option.{Option, none, some, some-injective}
 use mathlib.Core.List.{List, [], ◌∷◌, ◌++◌, map, append_assoc}
 use native.Mathlib.Omega.{arith}
-use lib.Dec.{eqb}
 use lib.ListN.{length, get_or}
 use Rattle.theory.specs.Lists.{same, concat_map, first_that}
 use Rattle.theory.specs.Bytes.{bytes}
@@ -14,10 +13,10 @@ use Rattle.theory.proofs.Tests.{eqb-true, and_left, and_right}
 use Rattle.theory.proofs.Lists.{same_true}
 use Rattle.tptp.specs.Tokens.{TokenKind, lower_word, upper_word, digits, falsum, left_paren, right_paren, comma, full_stop, bar, tilde, equal_sign, unequal_sign, foreign, open_comment, kind_number, TptpToken, is, tokens}
 use Rattle.tptp.specs.Grammar.{Side, first, second, DueToken, statement, opening, name, name_comma, role, role_comma, clause, literal, literal_end, term, word_end, term_end, equality, closing, stop, Move, is_cnf, after_literal, relations, after_term, after_variable, begins_term, begins_literal, moves, due_after_token, may_end}
-use Rattle.tptp.specs.Trees.{Name, name_of, NameTerm, name_variable, name_apply, NameTerms, no_terms, term_and, NameAtom, name_holds, name_equal, NameLiteral, never, plain, tilded, unequal}
-use Rattle.tptp.specs.Written.{Item, lower, upper, sign, item_of, item, term_items, list_items, more_items, atom_items, literal_items, Layout, clause_name, clause_items, statement_items}
+use Rattle.tptp.specs.Trees.{Name, name_of, NameTerm, name_variable, name_apply, NameTerms, no_terms, term_and, name_holds, name_equal, NameLiteral, never, plain, tilded, unequal}
+use Rattle.tptp.specs.Written.{Item, lower, upper, sign, item_of, item, term_items, list_items, more_items, literal_items, Layout, clause_name, statement_items}
 use Rattle.tptp.specs.Tptp.{read_file}
-use Rattle.tptp.specs.Claims.Places.{due_after_tokens, Misplaced}
+use Rattle.tptp.specs.Claims.Places.{due_after_tokens}
 use Rattle.tptp.specs.Claims.Syntax as claims
 use Rattle.tptp.proofs.Places.{first-misplaced, stays, ends}
 use Rattle.tptp.proofs.Statements.{read}

@@ -3,19 +3,16 @@ use Prim.Native.Nat.{ℕ, zero, suc, ◌+◌}
 use mathlib.Core.Path.{◌≡◌, refl, sym, ap, ◌∙◌}
 use mathlib.Core.Bool.{Bool, true, false, ◌&&◌}
 use mathlib.Core.Option.{Option, none, some}
-use mathlib.Core.List.{List, [], ◌∷◌, ◌++◌, map}
+use mathlib.Core.List.{List, [], ◌∷◌, map}
 use native.Mathlib.Omega.{arith}
 use lib.Dec.{leb}
 use lib.ListN.{length, length-map, length-append}
-use Rattle.theory.specs.Lists.{concat_map, distinct}
-use Rattle.theory.specs.Syntax.{Term, variable, apply, Terms, Atom, equal, holds, Literal, Clause, atom_variables, variables, Signature}
-use Rattle.theory.specs.Grammar.{Word, atom_words, clause_words}
-use Rattle.theory.specs.Grammar as words
+use Rattle.theory.specs.Lists.{distinct}
+use Rattle.theory.specs.Syntax.{Term, Atom, equal, holds, Literal, Clause, atom_variables, variables}
+use Rattle.theory.specs.Grammar.{atom_words, clause_words}
 use Rattle.theory.specs.Flattening.{rename_literal, unequal_variables, Unequal, leftmost_at, leftmost, merge_found, merge, merged, turned_atom, turned, to_lift, add_terms, lifted_terms, flatten, variable_count}
 use Rattle.theory.specs.Problem.{within_limits}
 use Rattle.theory.proofs.Lists.{concat_map-map, concat_map-cong}
-use Rattle.tptp.specs.Trees as tree
-use Rattle.tptp.specs.Symbols.{symbol_of_name, term_over, terms_over, atom_over, literal_as_written, clause_over, variables_of}
 
 -- a literal with the predicate 0 for its own
 abbrev pub blank_atom : Atom → Atom

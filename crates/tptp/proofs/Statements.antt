@@ -1,11 +1,10 @@
 -- Statements that are written are read, one after the other.
-use Prim.Native.Nat.{ℕ, zero, suc}
-use mathlib.Core.Path.{◌≡◌, refl, sym, ap, ◌∙◌, subst}
-use mathlib.Core.Bool.{Bool, true, false, cond, not, ◌&&◌, false≢true}
+use Prim.Native.Nat.{ℕ}
+use mathlib.Core.Path.{◌≡◌, refl, sym, ap, ◌∙◌}
+use mathlib.Core.Bool.{Bool, true, false, cond, not}
 use mathlib.Core.Option.{Option, none, some, some-injective}
 use mathlib.Core.List.{List, [], ◌∷◌, ◌++◌, map, append_assoc, append-nil}
 use native.Mathlib.Omega.{arith}
-use lib.Dec.{eqb}
 use lib.ListN.{length, drop}
 use Rattle.theory.specs.Lists.{all, concat_map}
 use Rattle.theory.specs.Bytes.{bytes}
@@ -13,15 +12,15 @@ use Rattle.theory.proofs.Tests.{and_left, and_right, and-join, false_of_not}
 use Rattle.theory.proofs.Lists.{map-drop}
 use Rattle.theory.proofs.Lists as lists
 use Rattle.tptp.specs.Tokens.{TokenKind, lower_word, upper_word, digits, falsum, left_paren, right_paren, comma, full_stop, bar, tilde, equal_sign, unequal_sign, foreign, open_comment, TptpToken, is, tokens}
-use Rattle.tptp.specs.Grammar.{DueToken, statement, due_after_token, may_end}
-use Rattle.tptp.specs.Trees.{Name, name_of, NameTerm, name_variable, name_apply, NameTerms, no_terms, term_and, NameAtom, name_holds, name_equal, NameLiteral, never, plain, tilded, unequal, NameClause, Statement, TreeReading, closed, read_tokens, inside, statement_of}
-use Rattle.tptp.specs.Written.{Item, lower, upper, sign, item_of, item, term_items, list_items, more_items, atom_items, literal_items, Layout, clause_name, clause_items, written_clause, statement_items}
-use Rattle.tptp.specs.Tptp.{File, foreign_at, with_statement, file_from, read_file, clauses_of_file}
+use Rattle.tptp.specs.Grammar.{DueToken, statement, due_after_token}
+use Rattle.tptp.specs.Trees.{Name, name_of, NameTerm, name_variable, name_apply, NameTerms, no_terms, term_and, NameAtom, name_holds, name_equal, NameLiteral, never, plain, tilded, unequal, NameClause, Statement, closed, inside, statement_of}
+use Rattle.tptp.specs.Written.{Item, lower, sign, item_of, item, term_items, list_items, more_items, atom_items, literal_items, Layout, clause_name, clause_items, written_clause, statement_items}
+use Rattle.tptp.specs.Tptp.{File, with_statement, file_from, read_file, clauses_of_file}
 use Rattle.tptp.specs.Scanning.{token_of}
 use Rattle.tptp.specs.Claims.Places.{due_after_tokens}
-use Rattle.tptp.proofs.Places.{going, places}
-use Rattle.tptp.proofs.Reading.{read_items, tokens-read, ended, clause-read}
-use Rattle.tptp.proofs.Following.{due_items, due-shown, body_items, statement-due, statements-due}
+use Rattle.tptp.proofs.Places.{going}
+use Rattle.tptp.proofs.Reading.{read_items, tokens-read, clause-read}
+use Rattle.tptp.proofs.Following.{due_items, due-shown, statement-due}
 
 -- tokens that show one list after another are one list after another
 pub map-split : (us vs : List Item) (ts : List TptpToken) → map item ts ≡ us ++ vs → (a : List TptpToken) × (b : List TptpToken) × (ts ≡ a ++ b) × (map item a ≡ us) × (map item b ≡ vs)

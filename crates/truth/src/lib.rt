@@ -1,3 +1,4 @@
 // The truth of a clause in an interpretation.
 #![tactic(auto)]
+
 pub mod values;

@@ -1,6 +1,7 @@
 // The words of a line, handed out one at a time: a reader holds the line and a place in it.
 // Each function over the reader takes it apart; the work is `word_at`'s, on a line and a number.
 #![tactic(auto)]
+
 ghost use Rattle.std.specs.Prelude.{◌≡◌, ◌≤◌, leb, length};
 ghost use Rattle.word_reader.specs.WordsLeft.{FirstWord, Handed};
 

@@ -1,10 +1,9 @@
 use mathlib.Core.Path.{◌≡◌, subst}
-use Prim.Native.Nat.{ℕ, ◌+◌, ◌-◌, ◌*◌, ◌≤◌}
+use Prim.Native.Nat.{ℕ, ◌+◌, ◌-◌, ◌*◌}
 use native.Mathlib.Omega.{arith}
-use borrow.Author.Rules.{rules}
 use lib.ListN.{length, length-set}
 use Rattle.loading.specs.Filling.{EmptyBlocks}
-use Rattle.loading.proofs.Bounding.{Bounding, bounding-turn, bounding-done, sum_fits, tallied-sum, bounded-filling}
+use Rattle.loading.proofs.Bounding.{bounding-turn, bounding-done, sum_fits, tallied-sum, bounded-filling}
 use Rattle.loading.proofs.bounds.Goals as goal
 
 pub bounds-work-at-in-loop-literal-2 : goal.bounds-work-at-in-loop-literal-2

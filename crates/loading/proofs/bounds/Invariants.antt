@@ -1,11 +1,7 @@
-
-use mathlib.Core.Path.{◌≡◌, subst}
-use Prim.Native.Nat.{ℕ, ◌+◌, ◌-◌, ◌*◌, ◌≤◌}
-use native.Mathlib.Omega.{arith}
-use borrow.Author.Rules.{rules}
-use lib.ListN.{length, length-set}
-use Rattle.loading.specs.Filling.{EmptyBlocks}
-use Rattle.loading.proofs.Bounding.{Bounding, bounding-turn, bounding-done, sum_fits, tallied-sum, bounded-filling}
+use mathlib.Core.Path.{◌≡◌}
+use Prim.Native.Nat.{◌+◌, ◌-◌, ◌*◌, ◌≤◌}
+use lib.ListN.{length}
+use Rattle.loading.proofs.Bounding.{Bounding}
 use Rattle.loading.proofs.bounds.Given as goal
 
 -- `bounds` meets its contract. The invariant of its loop: the literals before this one have their blocks, the rest is as it was.

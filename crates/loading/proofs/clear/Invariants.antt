@@ -1,10 +1,7 @@
-
-use mathlib.Core.Path.{◌≡◌, ap, ◌∙◌}
+use mathlib.Core.Path.{◌≡◌}
 use Prim.Native.Nat.{◌-◌, ◌≤◌}
-use native.Mathlib.Omega.{arith}
-use borrow.Author.Rules.{rules}
-use lib.ListN.{length, length-set}
-use Rattle.loading.proofs.Clearing.{cleared, cleared-turn}
+use lib.ListN.{length}
+use Rattle.loading.proofs.Clearing.{cleared}
 use Rattle.loading.proofs.clear.Given as goal
 
 -- `clear` meets its contract. The invariant of its loop: the first i numbers are zeros, the rest is as it was.

@@ -1,7 +1,6 @@
 -- `clear_all` meets its contract.
 use mathlib.Core.Path.{◌∙◌}
 use Rattle.loading.proofs.Clearing.{cleared-all}
-use borrow.Author.Rules.{rules}
 use Rattle.loading.proofs.clear_all.Goals as goal
 
 pub returns : goal.returns

@@ -1,7 +1,6 @@
 -- `ends_with` meets its contract.
 use mathlib.Core.Path.{refl}
 use borrow.Author.Tests.{lt-ltb, le-ltb}
-use borrow.Author.Rules.{rules}
 use Rattle.loading.proofs.ends_with.Goals as goal
 
 pub returns-then-from-to : goal.returns-then-from-to

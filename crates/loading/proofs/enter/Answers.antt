@@ -1,8 +1,5 @@
 use mathlib.Core.Path.{◌≡◌, refl, ◌∙◌, subst}
-use Prim.Native.Nat.{◌≤◌}
 use native.Mathlib.Omega.{arith}
-use borrow.Author.Rules.{rules}
-use lib.ListN.{length}
 use Rattle.loading.proofs.ClauseEntering.{EntersFrom, address-fits, entering-start, entering-done, code-enterable, code-turn}
 use Rattle.loading.proofs.enter.Goals as goal
 

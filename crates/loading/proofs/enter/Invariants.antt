@@ -1,10 +1,7 @@
-
-use mathlib.Core.Path.{◌≡◌, refl, ◌∙◌, subst}
+use mathlib.Core.Path.{◌≡◌}
 use Prim.Native.Nat.{◌≤◌}
-use native.Mathlib.Omega.{arith}
-use borrow.Author.Rules.{rules}
 use lib.ListN.{length}
-use Rattle.loading.proofs.ClauseEntering.{EntersFrom, address-fits, entering-start, entering-done, code-enterable, code-turn}
+use Rattle.loading.proofs.ClauseEntering.{EntersFrom}
 use Rattle.loading.proofs.enter.Given as goal
 
 -- `enter` meets its contract. The invariant of its loop: the literals from the i-th on are in.

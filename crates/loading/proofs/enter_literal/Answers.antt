@@ -3,7 +3,6 @@ use mathlib.Core.Path.{sym, ◌∙◌}
 use native.Mathlib.Omega.{arith}
 use lib.ListN.{length-set}
 use Rattle.loading.proofs.LiteralCode.{Read, end-within, end_fits, weight-within, weight-fits, enter-present, end_below, enter-absent}
-use borrow.Author.Rules.{rules}
 use Rattle.loading.proofs.enter_literal.Goals as goal
 use Rattle.loading.proofs.enter_literal.Goals.{After-wide-to}
 

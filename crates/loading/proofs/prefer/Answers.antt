@@ -1,9 +1,8 @@
 use mathlib.Core.Path.{◌≡◌, refl, subst}
 use mathlib.Core.List.{map}
-use Prim.Native.Nat.{◌-◌, ◌*◌, ◌≤◌}
+use Prim.Native.Nat.{◌-◌}
 use native.Mathlib.Omega.{arith}
-use borrow.Author.Rules.{rules}
-use lib.ListN.{length, length-set}
+use lib.ListN.{length-set}
 use Rattle.propagation.specs.Clauses.{once}
 use Rattle.loading.proofs.Preferring.{Telling, telling-start, telling-turn, told-filling}
 use Rattle.loading.proofs.prefer.Goals as goal

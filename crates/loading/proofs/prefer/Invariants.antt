@@ -1,12 +1,7 @@
-
-use mathlib.Core.Path.{◌≡◌, refl, subst}
-use mathlib.Core.List.{map}
+use mathlib.Core.Path.{◌≡◌}
 use Prim.Native.Nat.{◌-◌, ◌*◌, ◌≤◌}
-use native.Mathlib.Omega.{arith}
-use borrow.Author.Rules.{rules}
-use lib.ListN.{length, length-set}
-use Rattle.propagation.specs.Clauses.{once}
-use Rattle.loading.proofs.Preferring.{Telling, telling-start, telling-turn, told-filling}
+use lib.ListN.{length}
+use Rattle.loading.proofs.Preferring.{Telling}
 use Rattle.loading.proofs.prefer.Given as goal
 
 -- `prefer` meets its contract. The invariant of its loop: the variables up to this one are told, and nothing else has changed.

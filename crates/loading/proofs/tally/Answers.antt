@@ -1,9 +1,8 @@
 use mathlib.Core.Path.{◌≡◌, refl}
-use Prim.Native.Nat.{ℕ, ◌+◌, ◌-◌, ◌*◌, ◌≤◌, ◌<◌}
+use Prim.Native.Nat.{ℕ, ◌+◌, ◌-◌, ◌*◌, ◌<◌}
 use native.Mathlib.Omega.{arith}
-use borrow.Author.Rules.{rules}
-use lib.ListN.{length, get_or, length-set}
-use Rattle.loading.proofs.Tallying.{Tallying, tallying-start, tallying-turn, tallying-done, count_fits}
+use lib.ListN.{get_or, length-set}
+use Rattle.loading.proofs.Tallying.{tallying-start, tallying-turn, tallying-done, count_fits}
 use Rattle.loading.proofs.tally.Goals as goal
 use Rattle.loading.proofs.tally.Goals.{After-wide}
 

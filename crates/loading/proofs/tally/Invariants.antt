@@ -1,10 +1,7 @@
-
-use mathlib.Core.Path.{◌≡◌, refl}
-use Prim.Native.Nat.{ℕ, ◌+◌, ◌-◌, ◌*◌, ◌≤◌, ◌<◌}
-use native.Mathlib.Omega.{arith}
-use borrow.Author.Rules.{rules}
-use lib.ListN.{length, get_or, length-set}
-use Rattle.loading.proofs.Tallying.{Tallying, tallying-start, tallying-turn, tallying-done, count_fits}
+use mathlib.Core.Path.{◌≡◌}
+use Prim.Native.Nat.{◌-◌, ◌*◌, ◌≤◌}
+use lib.ListN.{length}
+use Rattle.loading.proofs.Tallying.{Tallying}
 use Rattle.loading.proofs.tally.Given as goal
 
 -- `tally` meets its contract. The invariant of its loop: the first i literals of the clause are counted.

@@ -1,4 +1,4 @@
-use Prim.Native.Nat.{ℕ, ◌≤◌, ◌+◌, ◌-◌}
+use Prim.Native.Nat.{ℕ, ◌+◌, ◌-◌}
 use mathlib.Core.Path.{◌≡◌, refl, ap, ◌∙◌}
 use native.Mathlib.Numerals.{add-one}
 use native.Mathlib.Omega.{arith}
@@ -33,6 +33,9 @@ returns c = let l = c.loop-to in
     let a = s.args in
     let n : length a.w.words ≡ 64 = search rules in
     let e : l.to ≡ l.w.count = omega (arith, l.invariant.1, c.loop-to-test.false) in
-    let k : l.w.count + 4 ≡ a.w.count = omega (arith, l.invariant.2, s.requires) in record { count = l.invariant.2; words = ap (take l.w.count) (l.invariant.4 ∙ ap (moved_to a.w.words a.at) e)
+    let k : l.w.count + 4 ≡ a.w.count = omega (arith, l.invariant.2, s.requires) in record {
+      count = l.invariant.2;
+      words = ap (take l.w.count) (l.invariant.4 ∙ ap (moved_to a.w.words a.at) e)
           ∙ moved_all a.w.words a.at l.w.count (omega (arith, l.invariant.0, e)) (omega (arith, k, s.requires))
-          ∙ ap (λ (j : ℕ). deleted_at (take j a.w.words) a.at) k }
+          ∙ ap (λ (j : ℕ). deleted_at (take j a.w.words) a.at) k;
+    }

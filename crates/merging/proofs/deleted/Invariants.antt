@@ -1,12 +1,7 @@
-
-use Prim.Native.Nat.{ℕ, ◌≤◌, ◌+◌, ◌-◌}
-use mathlib.Core.Path.{◌≡◌, refl, ap, ◌∙◌}
-use native.Mathlib.Numerals.{add-one}
-use native.Mathlib.Omega.{arith}
-use lib.ListN.{length, take, length-set}
-use borrow.Author.Rules.{rules}
-use Rattle.merging.specs.Merged.{deleted_at}
-use Rattle.merging.proofs.Deleting.{moved_to, moved-start, moved-step, moved_all}
+use Prim.Native.Nat.{◌≤◌, ◌-◌}
+use mathlib.Core.Path.{◌≡◌}
+use lib.ListN.{length}
+use Rattle.merging.proofs.Deleting.{moved_to}
 use Rattle.merging.proofs.deleted.Given as goal
 
 -- `deleted` meets its contract: the codes from `at` on are moved up to `to`.

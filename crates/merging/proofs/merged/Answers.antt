@@ -1,11 +1,7 @@
-use Prim.Native.Nat.{◌≤◌}
-use mathlib.Core.Path.{◌≡◌, refl, sym, ◌∙◌}
+use mathlib.Core.Path.{refl, sym, ◌∙◌}
 use native.Mathlib.Omega.{arith}
-use lib.ListN.{length}
 use borrow.Author.Rules.{rules}
-use Rattle.theory.specs.Syntax.{Signature}
-use Rattle.syntax.specs.Codes.{IsClause}
-use Rattle.merging.proofs.Rounds.{Round, place-room, round-end, round-more}
+use Rattle.merging.proofs.Rounds.{place-room, round-end, round-more}
 use Rattle.merging.proofs.merged.Goals as goal
 
 pub loop-w-init : goal.loop-w-init

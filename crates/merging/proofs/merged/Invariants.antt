@@ -1,12 +1,9 @@
-
 use Prim.Native.Nat.{◌≤◌}
-use mathlib.Core.Path.{◌≡◌, refl, sym, ◌∙◌}
-use native.Mathlib.Omega.{arith}
+use mathlib.Core.Path.{◌≡◌}
 use lib.ListN.{length}
-use borrow.Author.Rules.{rules}
 use Rattle.theory.specs.Syntax.{Signature}
 use Rattle.syntax.specs.Codes.{IsClause}
-use Rattle.merging.proofs.Rounds.{Round, place-room, round-end, round-more}
+use Rattle.merging.proofs.Rounds.{Round}
 use Rattle.merging.proofs.merged.Given as goal
 
 -- `merged` meets its contract: each round keeps what the clause is after step 1.

@@ -1,14 +1,8 @@
-
-use Prim.Native.Nat.{◌≤◌, ◌<◌, ◌+◌, ◌-◌}
-use mathlib.Core.Path.{◌≡◌, sym, ◌∙◌}
-use native.Mathlib.Nat.{zero-add}
-use native.Mathlib.Numerals.{add-one}
-use native.Mathlib.Omega.{arith}
-use lib.ListN.{length, drop}
-use borrow.Author.Rules.{rules}
+use Prim.Native.Nat.{◌≤◌, ◌+◌, ◌-◌}
+use mathlib.Core.Path.{◌≡◌}
+use lib.ListN.{drop}
 use Rattle.syntax.specs.Codes.{words_in}
 use Rattle.merging.specs.Unequal.{unequal_place}
-use Rattle.merging.proofs.Rounds.{starts-at, place-hit, place-miss, place_none}
 use Rattle.merging.proofs.unequal_at.Given as goal
 
 -- `unequal_at` meets its contract: no place before `at` is one.

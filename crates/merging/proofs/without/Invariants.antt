@@ -1,13 +1,8 @@
-
-use Prim.Native.Nat.{ℕ, ◌≤◌, ◌+◌, ◌-◌}
-use mathlib.Core.Path.{◌≡◌, refl, ap, ◌∙◌}
-use mathlib.Core.List.{List, map}
-use native.Mathlib.Numerals.{add-one}
-use native.Mathlib.Omega.{arith}
-use lib.ListN.{length, get_or, take, length-set}
-use borrow.Author.Rules.{rules}
-use Rattle.merging.specs.Merged.{renamed_code, deleted_at}
-use Rattle.merging.proofs.Deleting.{renamed_to, renamed_step, renamed-all, without_at-first}
+use Prim.Native.Nat.{◌≤◌, ◌-◌}
+use mathlib.Core.Path.{◌≡◌}
+use lib.ListN.{length}
+use Rattle.merging.specs.Merged.{renamed_code}
+use Rattle.merging.proofs.Deleting.{renamed_to}
 use Rattle.merging.proofs.without.Given as goal
 
 -- `without` meets its contract: the first i codes are renamed.

@@ -5,7 +5,6 @@ use native.Mathlib.Omega.{arith}
 use Rattle.propagation.specs.Advance.{sinking}
 use Rattle.propagation.proofs.Reading.{Read}
 use Rattle.propagation.proofs.Advances.{is, code-lower, code-scan, code-result}
-use borrow.Author.Rules.{rules}
 use Rattle.propagation.proofs.advance.Goals as goal
 use Rattle.propagation.proofs.advance.Goals.{After-wide-to, Start}
 

@@ -1,10 +1,8 @@
-use mathlib.Core.Path.{◌≡◌, refl, ◌∙◌}
-use mathlib.Core.List.{List}
-use Prim.Native.Nat.{ℕ, ◌-◌}
+use mathlib.Core.Path.{refl, ◌∙◌}
+use Prim.Native.Nat.{◌-◌}
 use native.Mathlib.Omega.{arith}
-use lib.ListN.{length}
 use Rattle.propagation.specs.WorkArea.{WorkHeld}
-use Rattle.propagation.proofs.Turns.{Going, going_start, going-turn, going-stop, going_done}
+use Rattle.propagation.proofs.Turns.{going_start, going-turn, going-stop, going_done}
 use Rattle.propagation.proofs.propagate.Goals as goal
 use Rattle.propagation.proofs.propagate.Goals.{In-loop-head}
 

@@ -1,11 +1,9 @@
-
-use mathlib.Core.Path.{◌≡◌, refl, ◌∙◌}
+use mathlib.Core.Path.{◌≡◌}
 use mathlib.Core.List.{List}
 use Prim.Native.Nat.{ℕ, ◌-◌}
-use native.Mathlib.Omega.{arith}
 use lib.ListN.{length}
 use Rattle.propagation.specs.WorkArea.{WorkHeld}
-use Rattle.propagation.proofs.Turns.{Going, going_start, going-turn, going-stop, going_done}
+use Rattle.propagation.proofs.Turns.{Going}
 use Rattle.propagation.proofs.propagate.Given as goal
 
 -- `propagation::propagate` meets its contract. The invariant of its loop: whatever clauses the work area held, it holds them still, and what is new on the trail is forced.

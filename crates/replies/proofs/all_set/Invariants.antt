@@ -1,13 +1,8 @@
-
-use borrow.Author.Rules.{rules}
-use Prim.Native.Nat.{ℕ, ◌-◌, ◌≤◌}
-use mathlib.Core.Path.{◌≡◌, refl, sym, ap, ◌∙◌}
-use native.Mathlib.Omega.{arith}
+use Prim.Native.Nat.{◌-◌, ◌≤◌}
+use mathlib.Core.Path.{◌≡◌}
 use lib.Dec.{ltb}
 use lib.ListN.{length, drop}
-use lib.Seq.{drop-length}
 use Rattle.theory.specs.Lists.{all}
-use Rattle.replies.proofs.Marks.{unset-there, set_there}
 use Rattle.replies.proofs.all_set.Given as goal
 
 -- `all_set-is` looks at each mark: those before i are 0 or 1.

@@ -1,9 +1,8 @@
-use borrow.Author.Rules.{rules}
-use Prim.Native.Nat.{ℕ, ◌+◌, ◌-◌, ◌≤◌}
-use mathlib.Core.Path.{◌≡◌, refl, sym, ◌∙◌}
+use Prim.Native.Nat.{ℕ, ◌+◌, ◌-◌}
+use mathlib.Core.Path.{refl, sym, ◌∙◌}
 use native.Mathlib.Omega.{arith}
-use lib.ListN.{length, replicate, length-set, length-replicate, replicate-append-replicate}
-use Rattle.text.specs.Put.{put, put-none, put-cursor}
+use lib.ListN.{replicate, length-set, length-replicate, replicate-append-replicate}
+use Rattle.text.specs.Put.{put-none, put-cursor}
 use Rattle.replies.proofs.Marks.{cleared}
 use Rattle.replies.proofs.clear.Goals as goal
 

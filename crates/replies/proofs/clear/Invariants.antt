@@ -1,11 +1,7 @@
-
-use borrow.Author.Rules.{rules}
-use Prim.Native.Nat.{ℕ, ◌+◌, ◌-◌, ◌≤◌}
-use mathlib.Core.Path.{◌≡◌, refl, sym, ◌∙◌}
-use native.Mathlib.Omega.{arith}
-use lib.ListN.{length, replicate, length-set, length-replicate, replicate-append-replicate}
-use Rattle.text.specs.Put.{put, put-none, put-cursor}
-use Rattle.replies.proofs.Marks.{cleared}
+use Prim.Native.Nat.{◌-◌, ◌≤◌}
+use mathlib.Core.Path.{◌≡◌}
+use lib.ListN.{length, replicate}
+use Rattle.text.specs.Put.{put}
 use Rattle.replies.proofs.clear.Given as goal
 
 -- `clear` stores byte by byte: the first i marks are unset.

@@ -1,5 +1,4 @@
 -- `read_reply`: no variable is set before the first line.
-use borrow.Author.Rules.{rules}
 use mathlib.Core.Path.{◌∙◌}
 use Rattle.replies.proofs.LinesHeard.{from-none}
 use Rattle.replies.proofs.read_reply.Goals as goal

@@ -1,5 +1,4 @@
 -- `reply_at`: each stage has its reply.
-use borrow.Author.Rules.{rules}
 use mathlib.Core.Path.{◌∙◌}
 use Rattle.solver.specs.OnePass.{on_end}
 use Rattle.replies.proofs.StageMatches.{on-unanswered, on-refuted, on-listing, on-complete, on-fault}

@@ -1,5 +1,4 @@
 -- `stated`: the marks are the setting exactly if all are set.
-use borrow.Author.Rules.{rules}
 use mathlib.Core.Path.{sym, ◌∙◌}
 use Rattle.replies.proofs.Marks.{all-stated, not-all}
 use Rattle.replies.proofs.stated.Goals as goal

@@ -1,12 +1,9 @@
-
-use mathlib.Core.Path.{◌≡◌, refl, ◌∙◌}
+use mathlib.Core.Path.{◌≡◌}
 use mathlib.Core.List.{List}
 use Prim.Native.Nat.{ℕ, ◌-◌}
-use native.Mathlib.Omega.{arith}
 use lib.ListN.{length}
 use Rattle.propagation.specs.WorkArea.{WorkHeld}
-use Rattle.search.specs.Search.{Popped}
-use Rattle.search.proofs.Returning.{Level, level-turn, level-start, Backing, backing-start, backing-turn, back-pushable, backing-stop, backing-done}
+use Rattle.search.proofs.Returning.{Level, Backing}
 use Rattle.search.proofs.backtrack.Given as goal
 
 -- `backtrack` meets its contract.

@@ -1,13 +1,8 @@
-use mathlib.Core.Path.{◌≡◌, refl, ◌∙◌}
-use mathlib.Core.Bool.{Bool}
-use mathlib.Core.List.{List}
-use Prim.Native.Nat.{ℕ, ◌+◌, ◌-◌, ◌*◌, ◌≤◌}
+use mathlib.Core.Path.{refl, ◌∙◌}
+use Prim.Native.Nat.{◌+◌, ◌-◌, ◌*◌}
 use native.Mathlib.Omega.{arith}
-use lib.ListN.{length}
-use Rattle.theory.specs.Propositional.{PropClause}
 use Rattle.propagation.specs.Clauses.{coded}
-use Rattle.propagation.specs.WorkArea.{Loaded}
-use Rattle.search.proofs.Beginning.{Beginning, loaded-room, beginning-start, begun-visitable, begun-turn, begun-stop, begun-done}
+use Rattle.search.proofs.Beginning.{loaded-room, beginning-start, begun-visitable, begun-turn, begun-stop, begun-done}
 use Rattle.search.proofs.begin.Goals as goal
 
 pub overflow_mul-from : goal.overflow_mul-from

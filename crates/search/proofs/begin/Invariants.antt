@@ -1,14 +1,12 @@
-
-use mathlib.Core.Path.{◌≡◌, refl, ◌∙◌}
+use mathlib.Core.Path.{◌≡◌}
 use mathlib.Core.Bool.{Bool}
 use mathlib.Core.List.{List}
-use Prim.Native.Nat.{ℕ, ◌+◌, ◌-◌, ◌*◌, ◌≤◌}
-use native.Mathlib.Omega.{arith}
+use Prim.Native.Nat.{ℕ, ◌-◌, ◌*◌, ◌≤◌}
 use lib.ListN.{length}
 use Rattle.theory.specs.Propositional.{PropClause}
 use Rattle.propagation.specs.Clauses.{coded}
 use Rattle.propagation.specs.WorkArea.{Loaded}
-use Rattle.search.proofs.Beginning.{Beginning, loaded-room, beginning-start, begun-visitable, begun-turn, begun-stop, begun-done}
+use Rattle.search.proofs.Beginning.{Beginning}
 use Rattle.search.proofs.begin.Given as goal
 
 -- `begin` meets its contract. The invariant of its loop: the clauses below the address are quiet, and what is on the trail is forced.

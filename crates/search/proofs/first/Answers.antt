@@ -1,5 +1,4 @@
 -- `first` meets its contract.
-use borrow.Author.Rules.{rules}
 use Rattle.search.proofs.first.Goals as goal
 
 pub returns : goal.returns

@@ -3,7 +3,6 @@ use mathlib.Core.Path.{refl}
 use Prim.Native.Nat.{◌<◌}
 use native.Mathlib.Omega.{arith}
 use Rattle.search.proofs.Popping.{pop-variable, pop-ready, popped-kept, popped-down}
-use borrow.Author.Rules.{rules}
 use Rattle.search.proofs.pop.Goals as goal
 use Rattle.search.proofs.pop.Goals.{After-wide-variable}
 

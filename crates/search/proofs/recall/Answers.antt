@@ -4,7 +4,6 @@ use native.Mathlib.Omega.{arith}
 use Rattle.propagation.specs.Advance.{sinking}
 use Rattle.propagation.proofs.Reading.{Read}
 use Rattle.search.proofs.Unwinding.{literal, code-raise, code-floated}
-use borrow.Author.Rules.{rules}
 use Rattle.search.proofs.recall.Goals as goal
 use Rattle.search.proofs.recall.Goals.{After-wide-to, Start}
 

@@ -1,19 +1,15 @@
-use mathlib.Core.Path.{◌≡◌, refl, sym, ◌∙◌}
+use mathlib.Core.Path.{refl, sym, ◌∙◌}
 use mathlib.Core.Bool.{Bool}
 use mathlib.Core.List.{List}
-use Prim.Native.Nat.{ℕ, ◌≤◌}
+use Prim.Native.Nat.{ℕ}
 use native.Mathlib.Omega.{arith}
-use borrow.Author.Rules.{rules}
 use borrow.Author.Tests.{not-true, not-false}
-use lib.ListN.{length}
 use Rattle.theory.specs.Propositional.{PropClause}
 use Rattle.propagation.specs.Clauses.{coded}
-use Rattle.propagation.specs.WorkArea.{trail}
 use Rattle.propagation.specs.Advance.{Propagated}
 use Rattle.search.specs.Search.{Started}
-use Rattle.search.proofs.Potential.{potential}
 use Rattle.search.proofs.LowestUnset.{all_set, variable-is}
-use Rattle.search.proofs.Searching.{Searching, searching-start, regions, search-none, search-back, back-falls₁, search-found, search-stopped, choice-pushable, inside, search-choice, choice-falls₁, solved-as}
+use Rattle.search.proofs.Searching.{searching-start, regions, search-none, search-back, back-falls₁, search-found, search-stopped, choice-pushable, inside, search-choice, choice-falls₁, solved-as}
 use Rattle.search.proofs.search.Goals as goal
 use Rattle.search.proofs.search.Goals.{After-propagate-front}
 
@@ -124,8 +120,11 @@ first-requires c = let e = c in
     let s = p in
     let cs = s.requires.clauses in
     let first = s.requires.first in
-    let k = s.requires.started in record { regions = regions (gone (goal.at.first-requires c).After-propagate-front cs first k).held; variable_lt_v = inside _ cs first _ _ _ _ _ (l.invariant.0 cs first k) _ _ _ _ (gone (goal.at.first-requires c).After-propagate-front cs first k)
-          t.if-front.false _ (variable-is _ _ (sym u.unset.ensures ∙ e.in-Variable.is)) }
+    let k = s.requires.started in record {
+      regions = regions (gone (goal.at.first-requires c).After-propagate-front cs first k).held;
+      variable_lt_v = inside _ cs first _ _ _ _ _ (l.invariant.0 cs first k) _ _ _ _ (gone (goal.at.first-requires c).After-propagate-front cs first k)
+          t.if-front.false _ (variable-is _ _ (sym u.unset.ensures ∙ e.in-Variable.is));
+    }
 
 pub push-requires : goal.push-requires
 push-requires c = let e = c in

@@ -1,20 +1,13 @@
-
-use mathlib.Core.Path.{◌≡◌, refl, sym, ◌∙◌}
+use mathlib.Core.Path.{◌≡◌}
 use mathlib.Core.Bool.{Bool}
 use mathlib.Core.List.{List}
 use Prim.Native.Nat.{ℕ, ◌≤◌}
-use native.Mathlib.Omega.{arith}
-use borrow.Author.Rules.{rules}
-use borrow.Author.Tests.{not-true, not-false}
 use lib.ListN.{length}
 use Rattle.theory.specs.Propositional.{PropClause}
-use Rattle.propagation.specs.Clauses.{coded}
 use Rattle.propagation.specs.WorkArea.{trail}
-use Rattle.propagation.specs.Advance.{Propagated}
 use Rattle.search.specs.Search.{Started}
 use Rattle.search.proofs.Potential.{potential}
-use Rattle.search.proofs.LowestUnset.{all_set, variable-is}
-use Rattle.search.proofs.Searching.{Searching, searching-start, regions, search-none, search-back, back-falls₁, search-found, search-stopped, choice-pushable, inside, search-choice, choice-falls₁, solved-as}
+use Rattle.search.proofs.Searching.{Searching}
 use Rattle.search.proofs.search.Given as goal
 
 -- `search` meets its contract. The invariant of its loop: the whole walk has made so many choices, which are allowed, and goes on from the trail and its open choices. The measure is the trail's potential.

@@ -2,7 +2,6 @@
 use mathlib.Core.Option.{none}
 use native.Mathlib.Omega.{arith}
 use Rattle.propagation.proofs.Frames.{frame-trans}
-use borrow.Author.Rules.{rules}
 use Rattle.search.proofs.Searching.{ends_so, solved-as}
 use Rattle.search.proofs.solve.Goals as goal
 

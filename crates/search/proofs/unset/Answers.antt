@@ -1,9 +1,8 @@
-use mathlib.Core.Path.{◌≡◌, sym, ap}
-use Prim.Native.Nat.{ℕ, ◌-◌, ◌≤◌, ◌<◌}
+use mathlib.Core.Path.{sym, ap}
+use Prim.Native.Nat.{◌-◌}
 use native.Mathlib.Nat.{not-suc-le-zero}
 use native.Mathlib.Omega.{arith}
 use borrow.Author.Count.{below_more}
-use lib.ListN.{get_or}
 use Rattle.search.specs.Search.{lowest_of}
 use Rattle.search.proofs.LowestUnset.{lowest-found, lowest-missing}
 use Rattle.search.proofs.unset.Goals as goal

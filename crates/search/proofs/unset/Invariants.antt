@@ -1,12 +1,6 @@
-
-use mathlib.Core.Path.{◌≡◌, sym, ap}
+use mathlib.Core.Path.{◌≡◌}
 use Prim.Native.Nat.{ℕ, ◌-◌, ◌≤◌, ◌<◌}
-use native.Mathlib.Nat.{not-suc-le-zero}
-use native.Mathlib.Omega.{arith}
-use borrow.Author.Count.{below_more}
 use lib.ListN.{get_or}
-use Rattle.search.specs.Search.{lowest_of}
-use Rattle.search.proofs.LowestUnset.{lowest-found, lowest-missing}
 use Rattle.search.proofs.unset.Given as goal
 
 -- `unset` meets its contract. The invariant of its loop: the variables below have values.

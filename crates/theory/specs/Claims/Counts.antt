@@ -3,7 +3,7 @@ use Rattle.std.specs.Prelude.{ℕ, zero, ◌≤◌, ◌<◌, ◌≡◌, Bool, tr
 use Rattle.theory.specs.Lists.{all, sum}
 use Rattle.theory.specs.Syntax.{Signature, Clause, clause_ok}
 use Rattle.theory.specs.Cells.{is_interpretation}
-use Rattle.theory.specs.Propositional.{PropLiteral, PropClause, prop_count}
+use Rattle.theory.specs.Propositional.{PropLiteral, prop_count}
 use Rattle.theory.specs.PropClauses.{prop_clauses, instance_count, literal_count}
 use Rattle.theory.specs.Refusals.{answer}
 use Rattle.theory.specs.Problem.{Problem, read_problem}

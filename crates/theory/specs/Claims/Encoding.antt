@@ -1,5 +1,5 @@
 -- Encoding: the valuations that satisfy the clauses are, one to one, the interpretations that are models. Demand 3 on lists.
-use Rattle.std.specs.Prelude.{ℕ, zero, ◌<◌, ◌≡◌, Bool, true, ◌&&◌, List}
+use Rattle.std.specs.Prelude.{ℕ, zero, ◌<◌, ◌≡◌, true, ◌&&◌, List}
 use Rattle.theory.specs.Lists.{all}
 use Rattle.theory.specs.Syntax.{Signature, Clause, clause_ok}
 use Rattle.theory.specs.Cells.{is_interpretation, is_model}

@@ -1,9 +1,9 @@
 -- FindsLeast: demand 2 on bytes. What Find finds is the least model of the sheet at the smallest size that has one; it says none exactly if no case of a searched size is a model.
-use Rattle.std.specs.Prelude.{ℕ, ◌≤◌, ◌<◌, ◌≡◌, ◌⊎◌, Bool, true, false, List}
+use Rattle.std.specs.Prelude.{ℕ, ◌≤◌, ◌<◌, ◌≡◌, ◌⊎◌, Bool, List}
 use Rattle.theory.specs.Refusals.{Answer, answer}
 use Rattle.theory.specs.Problem.{Problem, read_problem}
 use Rattle.theory.specs.CaseText.{Case, read_case}
-use Rattle.theory.specs.Operations.{judge_answer, Search, found, nothing, find_result}
+use Rattle.theory.specs.Operations.{Search, found, nothing, find_result}
 use Rattle.theory.specs.Claims.ReadingBack.{ModelText}
 use Rattle.theory.specs.Claims.Least.{NotAfter}
 

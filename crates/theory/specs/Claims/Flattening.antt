@@ -1,5 +1,5 @@
 -- Flattening: a clause is valid exactly if its flattened clause is.
-use Rattle.std.specs.Prelude.{ℕ, zero, ◌<◌, ◌≡◌, ◌↔◌, Bool, true, List, [], ◌∷◌, map, eqb, length}
+use Rattle.std.specs.Prelude.{ℕ, zero, ◌<◌, ◌≡◌, ◌↔◌, Bool, true, List, map, eqb, length}
 use Rattle.std.specs.Bool.{beq}
 use Rattle.std.proofs.Math.Option.{none}
 use Rattle.theory.specs.Lists.{any}

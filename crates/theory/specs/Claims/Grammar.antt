@@ -1,5 +1,5 @@
 -- GrammarExact: the words that are read as a clause are exactly the words of that clause.
-use Rattle.std.specs.Prelude.{ℕ, ◌≡◌, ◌↔◌, Bool, true, List, ltb, length}
+use Rattle.std.specs.Prelude.{◌≡◌, ◌↔◌, Bool, true, List, ltb, length}
 use Rattle.std.proofs.Math.Option.{some}
 use Rattle.theory.specs.Lists.{all}
 use Rattle.theory.specs.Syntax.{Signature, Clause, clause_ok}

@@ -1,5 +1,5 @@
 -- Least: what is found is the least model at the smallest size; none is said exactly if no case of a searched size is a model. Demand 2 on lists.
-use Rattle.std.specs.Prelude.{ℕ, ◌≤◌, ◌<◌, ◌≡◌, ◌⊎◌, ◌↔◌, Bool, true, false, List, [], ◌∷◌}
+use Rattle.std.specs.Prelude.{ℕ, ◌≤◌, ◌<◌, ◌≡◌, ◌⊎◌, ◌↔◌, true, List, [], ◌∷◌}
 use Rattle.std.proofs.Math.Option.{none, some}
 use Rattle.theory.specs.Cells.{is_interpretation, is_model}
 use Rattle.theory.specs.Problem.{Problem}

@@ -1,7 +1,7 @@
 -- ReadingBack: demand 3 on bytes. The settings that satisfy the text that Write leaves are read back, one to one, to the models of the sheet as handed in.
-use Rattle.std.specs.Prelude.{ℕ, ◌≤◌, ◌≡◌, ◌↔◌, Bool, true, List}
+use Rattle.std.specs.Prelude.{ℕ, ◌≤◌, ◌≡◌, ◌↔◌, true, List}
 use Rattle.theory.specs.Valuation.{is_valuation, satisfies_text}
-use Rattle.theory.specs.Refusals.{Answer, answer}
+use Rattle.theory.specs.Refusals.{answer}
 use Rattle.theory.specs.Problem.{Problem}
 use Rattle.theory.specs.CaseText.{Case, case_length, read_case}
 use Rattle.theory.specs.Operations.{judge_answer, content_of, written_text, read_back_text}

@@ -1,5 +1,5 @@
 -- Truth: the computed test is truth under every assignment, as source 004 lists it; and what a failure says.
-use Rattle.std.specs.Prelude.{ℕ, zero, ◌+◌, ◌<◌, ◌≡◌, ◌↔◌, Bool, true, false, List, [], ◌∷◌, length, get_or}
+use Rattle.std.specs.Prelude.{ℕ, zero, ◌<◌, ◌≡◌, ◌↔◌, true, false, List, [], ◌∷◌, length, get_or}
 use Rattle.std.proofs.Math.Option.{some}
 use Rattle.theory.specs.Syntax.{Signature, Clause, variables}
 use Rattle.theory.specs.Truth.{Interpretation, Assignment, clause_true, assign, Failure}

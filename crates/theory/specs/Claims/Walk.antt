@@ -1,5 +1,5 @@
 -- Walk: the walk finds the valuation of the least model, or nothing exactly if there is no model; and unit propagation ends the same in any order.
-use Rattle.std.specs.Prelude.{ℕ, zero, pred, ◌<◌, ◌≡◌, Bool, true, List, [], ◌∷◌, set}
+use Rattle.std.specs.Prelude.{ℕ, zero, pred, ◌<◌, ◌≡◌, true, List, ◌∷◌, set}
 use Rattle.std.proofs.Math.Option.{Option, none, some}
 use Rattle.theory.specs.Lists.{all}
 use Rattle.theory.specs.Syntax.{clause_ok}
@@ -7,7 +7,7 @@ use Rattle.theory.specs.Propositional.{PropLiteral, PropClause}
 use Rattle.theory.specs.Valuation.{read_back}
 use Rattle.theory.specs.Problem.{Problem}
 use Rattle.theory.specs.Least.{least_model}
-use Rattle.theory.specs.Walk.{Partial, Status, failed, forces, quiet, status, searched}
+use Rattle.theory.specs.Walk.{Partial, failed, forces, quiet, status, searched}
 
 -- the interpretation that a valuation found is read back as
 abbrev pub read_back_found : ℕ → Problem → Option (List ℕ) → Option (List ℕ)

@@ -1,5 +1,4 @@
 -- `word_at` answers the part up to where `word_end` ends the word.
-use borrow.Author.Rules.{rules}
 use Rattle.word_reader.proofs.Cutting.{first_word}
 use Rattle.word_reader.proofs.word_at.Goals as goal
 

@@ -1,16 +1,7 @@
 -- `arity_at` goes by the next token, then by the count that is told.
 use mathlib.Core.Path.{sym, ◌∙◌}
-use borrow.Author.Tests.{not-true, not-false}
 use Rattle.scanning.proofs.Lookahead.{next-further, arity-none, arity-bare}
 use Rattle.argument_lists.proofs.ToldLists.{told-open, told_here, arity-told}
-use borrow.Author.Rules.{rules}
-use native.Mathlib.Omega.{arith}
-use Rattle.argument_lists.proofs.arity.arity_at.Reads as reads
-use Rattle.argument_lists.proofs.arity.arity_at.Lts as lts
-use Rattle.argument_lists.proofs.arity.refreshed.Reads as refreshed-reads
-use Rattle.scanning.proofs.ahead.arity_ahead.Reads as arity-ahead-reads
-use Rattle.statements.proofs.kinds.is.Reads as is-reads
-use Rattle.tokens.proofs.next.next_token.Reads as next-token-reads
 use Rattle.argument_lists.proofs.arity.arity_at.Goals as goal
 
 -- src/arity.rt:75:17

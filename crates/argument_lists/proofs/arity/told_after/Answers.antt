@@ -1,9 +1,5 @@
 use mathlib.Core.Path.{refl}
-use borrow.Author.Tests.{not-true, not-false, le-leb, lt-leb}
-use borrow.Author.Rules.{rules}
-use native.Mathlib.Omega.{arith}
-use Rattle.argument_lists.proofs.arity.told_after.Reads as reads
-use Rattle.argument_lists.proofs.arity.told_after.Lts as lts
+use borrow.Author.Tests.{le-leb, lt-leb}
 use Rattle.argument_lists.proofs.arity.told_after.Goals as goal
 
 -- `told_after` passes one list, if there is one.

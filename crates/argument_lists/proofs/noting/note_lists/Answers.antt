@@ -2,20 +2,12 @@ use Prim.Native.Nat.{◌-◌}
 use mathlib.Core.Path.{refl, sym, ◌∙◌}
 use mathlib.Core.List.{[]}
 use native.Mathlib.Omega.{arith}
-use borrow.Author.Rules.{rules}
-use lib.ListN.{length}
 use Rattle.tptp.specs.Tokens.{left_paren}
 use Rattle.tptp.specs.Trees.{Name}
 use Rattle.scanning.specs.Ahead.{items_at}
 use Rattle.scanning.proofs.Lookahead.{next-further}
 use Rattle.argument_lists.proofs.Passes.{pass-begins}
-use Rattle.argument_lists.proofs.NotedLists.{ListsNoted, noted-ends, noted-next, noted-over}
-use Rattle.argument_lists.proofs.noting.note_lists.Reads as reads
-use Rattle.argument_lists.proofs.noting.note_lists.Lts as lts
-use Rattle.argument_lists.proofs.noting.is_over.Reads as is-over-reads
-use Rattle.argument_lists.proofs.pass.after_token.Reads as after-token-reads
-use Rattle.argument_lists.proofs.pass.opened.Reads as opened-reads
-use Rattle.tokens.proofs.next.next_token.Reads as next-token-reads
+use Rattle.argument_lists.proofs.NotedLists.{noted-ends, noted-next, noted-over}
 use Rattle.argument_lists.proofs.noting.note_lists.Goals as goal
 
 -- `note_lists` takes one token after the other.

@@ -2,14 +2,7 @@
 use mathlib.Core.Path.{sym, ◌∙◌}
 use Rattle.tokens.specs.Pieces.{kind_in}
 use Rattle.argument_lists.proofs.Passes.{other-token}
-use borrow.Author.Rules.{rules}
 use native.Mathlib.Omega.{arith}
-use Rattle.argument_lists.proofs.pass.after_token.Reads as reads
-use Rattle.argument_lists.proofs.pass.after_token.Lts as lts
-use Rattle.argument_lists.proofs.pass.closed.Reads as closed-reads
-use Rattle.argument_lists.proofs.pass.next_argument.Reads as next-argument-reads
-use Rattle.argument_lists.proofs.pass.opened.Reads as opened-reads
-use Rattle.statements.proofs.kinds.is.Reads as is-reads
 use Rattle.argument_lists.proofs.pass.after_token.Goals as goal
 
 -- src/pass.rt:102:9

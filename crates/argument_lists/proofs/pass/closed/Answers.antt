@@ -1,10 +1,6 @@
 -- `closed` counts down, or goes to the list around.
 use Rattle.argument_lists.proofs.Passes.{closed-beyond, closed-outside, closed-noted, innermost-noted}
-use borrow.Author.Rules.{rules}
 use native.Mathlib.Omega.{arith}
-use Rattle.argument_lists.proofs.pass.closed.Reads as reads
-use Rattle.argument_lists.proofs.pass.closed.Lts as lts
-use Rattle.argument_lists.proofs.pass.wide.Reads as wide-reads
 use Rattle.argument_lists.proofs.pass.closed.Goals as goal
 
 -- src/pass.rt:66:9

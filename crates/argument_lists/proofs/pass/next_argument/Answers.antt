@@ -1,8 +1,5 @@
 use Rattle.argument_lists.proofs.Passes.{argument-beyond, argument-outside, argument-one, argument-many, innermost-noted}
-use borrow.Author.Rules.{rules}
 use native.Mathlib.Omega.{arith}
-use Rattle.argument_lists.proofs.pass.next_argument.Reads as reads
-use Rattle.argument_lists.proofs.pass.next_argument.Lts as lts
 use Rattle.argument_lists.proofs.pass.next_argument.Goals as goal
 
 -- `next_argument` counts one argument of the innermost list.

@@ -1,9 +1,6 @@
 -- `opened` notes the list, or counts it where there is no room.
 use Rattle.argument_lists.proofs.Passes.{opened-beyond, opened-noted, innermost-noted}
-use borrow.Author.Rules.{rules}
 use native.Mathlib.Omega.{arith}
-use Rattle.argument_lists.proofs.pass.opened.Reads as reads
-use Rattle.argument_lists.proofs.pass.opened.Lts as lts
 use Rattle.argument_lists.proofs.pass.opened.Goals as goal
 
 -- src/pass.rt:38:9

@@ -2,7 +2,6 @@
 use Prim.Native.Nat.{ℕ, suc, ◌+◌}
 use mathlib.Core.Path.{◌≡◌, sym, ap, ◌∙◌}
 use native.Mathlib.Omega.{arith}
-use borrow.Author.Tests.{not-true, not-false}
 use lib.ListN.{drop}
 use Rattle.theory.specs.Bytes.{bytes}
 use Rattle.theory.specs.Lines.{cut_line, after_key}
@@ -11,7 +10,6 @@ use Rattle.syntax.specs.Signatures.{signature_in}
 use Rattle.cases.specs.Reading.{case_of_tables}
 use Rattle.cases.proofs.Cuts.{unended, ended}
 use Rattle.cases.proofs.Headings.{no-first, other-first, no_second, no_size, tables-left, size-within}
-use borrow.Author.Rules.{rules}
 use Rattle.cases.proofs.reading.read_case.Goals as goal
 
 pub returns-then-first-case : goal.returns-then-first-case

@@ -2,10 +2,7 @@
 use Prim.Native.Nat.{ℕ, ◌-◌, ◌*◌}
 use mathlib.Core.Path.{◌≡◌, sym, ◌∙◌, ap}
 use mathlib.Core.Bool.{true, false}
-use borrow.Author.Tests.{not-true, not-false}
-use lib.ListN.{length}
 use Rattle.cases.proofs.LinesRead.{line-fault, name-fault, from-within, length-fault, values-fault, table-next}
-use borrow.Author.Rules.{rules}
 use Rattle.cases.proofs.reading.read_table.Goals as goal
 
 pub returns-then-end-case : goal.returns-then-end-case

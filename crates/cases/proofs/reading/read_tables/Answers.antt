@@ -1,13 +1,12 @@
-use borrow.Author.Rules.{rules}
 use Prim.Native.Nat.{◌-◌, ◌<◌}
-use mathlib.Core.Path.{◌≡◌, refl, ◌∙◌}
+use mathlib.Core.Path.{refl, ◌∙◌}
 use native.Mathlib.Omega.{arith}
-use lib.ListN.{length, get_or}
+use lib.ListN.{get_or}
 use Rattle.syntax.specs.Signatures.{symbol_in, signature_in}
 use Rattle.clauses.proofs.Held.{blank, arity-at, count-signature_in, symbol_at-signature_in, name-within}
 use Rattle.interpretation.proofs.Ranks.{power-within}
 use Rattle.interpretation.proofs.Tabling.{base-within, limited-small, table-limited}
-use Rattle.cases.proofs.TablesRead.{TablesRead, none_read, table-fault, table-read, bytes_after, case-ends}
+use Rattle.cases.proofs.TablesRead.{none_read, table-fault, table-read, bytes_after, case-ends}
 use Rattle.cases.proofs.reading.read_tables.Goals as goal
 
 pub loop-i-init : goal.loop-i-init

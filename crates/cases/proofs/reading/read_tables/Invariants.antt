@@ -1,14 +1,8 @@
-
-use borrow.Author.Rules.{rules}
-use Prim.Native.Nat.{◌-◌, ◌<◌}
-use mathlib.Core.Path.{◌≡◌, refl, ◌∙◌}
-use native.Mathlib.Omega.{arith}
-use lib.ListN.{length, get_or}
-use Rattle.syntax.specs.Signatures.{symbol_in, signature_in}
-use Rattle.clauses.proofs.Held.{blank, arity-at, count-signature_in, symbol_at-signature_in, name-within}
-use Rattle.interpretation.proofs.Ranks.{power-within}
-use Rattle.interpretation.proofs.Tabling.{base-within, limited-small, table-limited}
-use Rattle.cases.proofs.TablesRead.{TablesRead, none_read, table-fault, table-read, bytes_after, case-ends}
+use Prim.Native.Nat.{◌-◌}
+use mathlib.Core.Path.{◌≡◌}
+use lib.ListN.{length}
+use Rattle.syntax.specs.Signatures.{signature_in}
+use Rattle.cases.proofs.TablesRead.{TablesRead}
 use Rattle.cases.proofs.reading.read_tables.Given as goal
 
 -- `read_tables` meets its contract: the lines of the symbols before i are read.

@@ -1,12 +1,7 @@
-use borrow.Author.Rules.{rules}
-use Prim.Native.Nat.{ℕ, ◌-◌}
-use mathlib.Core.Path.{◌≡◌}
+use Prim.Native.Nat.{◌-◌}
 use native.Mathlib.Omega.{arith}
-use borrow.Author.Tests.{not-true, not-false}
-use Rattle.theory.specs.Cells.{value_count}
-use Rattle.theory.specs.CaseText.{least_byte}
 use Rattle.syntax.specs.Signatures.{kind_of}
-use Rattle.cases.proofs.ValuesAfter.{Stored, none-stored, all-stored, separator-fails, value-fails, value-stored, least-at-most}
+use Rattle.cases.proofs.ValuesAfter.{none-stored, all-stored, separator-fails, value-fails, value-stored, least-at-most}
 use Rattle.cases.proofs.reading.read_values.Goals as goal
 
 pub loop-i-init : goal.loop-i-init

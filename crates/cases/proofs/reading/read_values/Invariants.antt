@@ -1,13 +1,9 @@
-
-use borrow.Author.Rules.{rules}
 use Prim.Native.Nat.{ℕ, ◌-◌}
 use mathlib.Core.Path.{◌≡◌}
-use native.Mathlib.Omega.{arith}
-use borrow.Author.Tests.{not-true, not-false}
 use Rattle.theory.specs.Cells.{value_count}
 use Rattle.theory.specs.CaseText.{least_byte}
 use Rattle.syntax.specs.Signatures.{kind_of}
-use Rattle.cases.proofs.ValuesAfter.{Stored, none-stored, all-stored, separator-fails, value-fails, value-stored, least-at-most}
+use Rattle.cases.proofs.ValuesAfter.{Stored}
 use Rattle.cases.proofs.reading.read_values.Given as goal
 
 -- `read_values` meets its contract: the values before i are in the cells.

@@ -1,10 +1,8 @@
 -- `size_of` meets its contract.
 use mathlib.Core.Path.{◌≡◌, ◌∙◌}
 use mathlib.Core.Bool.{true, false}
-use borrow.Author.Tests.{not-true, not-false}
 use native.Mathlib.Omega.{arith}
 use Rattle.cases.proofs.Headings.{no_key, other_length, no_digit, digit-checked}
-use borrow.Author.Rules.{rules}
 use Rattle.cases.proofs.reading.size_of.Goals as goal
 
 pub returns-then-not-starts_with : goal.returns-then-not-starts_with

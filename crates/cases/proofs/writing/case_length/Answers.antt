@@ -1,9 +1,9 @@
-use Prim.Native.Nat.{◌-◌, ◌≤◌}
+use Prim.Native.Nat.{◌-◌}
 use native.Mathlib.Omega.{arith}
 use lib.ListN.{get_or}
 use Rattle.clauses.proofs.Held.{blank, arity-at, name-within}
 use Rattle.interpretation.proofs.Ranks.{table-within}
-use Rattle.cases.proofs.Lengths.{Measured, none-measured, one-measured, all-measured}
+use Rattle.cases.proofs.Lengths.{none-measured, one-measured, all-measured}
 use Rattle.cases.proofs.writing.case_length.Goals as goal
 
 pub loop-i-init : goal.loop-i-init

@@ -1,10 +1,5 @@
-
 use Prim.Native.Nat.{◌-◌, ◌≤◌}
-use native.Mathlib.Omega.{arith}
-use lib.ListN.{get_or}
-use Rattle.clauses.proofs.Held.{blank, arity-at, name-within}
-use Rattle.interpretation.proofs.Ranks.{table-within}
-use Rattle.cases.proofs.Lengths.{Measured, none-measured, one-measured, all-measured}
+use Rattle.cases.proofs.Lengths.{Measured}
 use Rattle.cases.proofs.writing.case_length.Given as goal
 
 -- `case_length` meets its contract: n is the length with the symbols before i.

@@ -4,7 +4,6 @@ use native.Mathlib.Omega.{arith}
 use lib.ListN.{length-set}
 use Rattle.theory.specs.Bytes.{bytes}
 use Rattle.cases.proofs.TwoMore.{two-more}
-use borrow.Author.Rules.{rules}
 use Rattle.cases.proofs.writing.put_heading.Goals as goal
 
 pub bounds-out-at-2 : goal.bounds-out-at-2

@@ -2,7 +2,6 @@
 use native.Mathlib.Omega.{arith}
 use Rattle.syntax.proofs.NamesLent.{lent_length}
 use Rattle.cases.proofs.TablesWritten.{line-length, least-small, table-written}
-use borrow.Author.Rules.{rules}
 use Rattle.cases.proofs.writing.put_table.Goals as goal
 
 pub put_bytes-from-requires : goal.put_bytes-from-requires
@@ -32,10 +31,13 @@ pub returns : goal.returns
 returns c = let s = c in
     let a = s.args in
     let p = c.put_bytes-from in
-    let q = c.put_values in record { written = table-written a.sheet.now a.symbol s.requires.named a.table.now s.requires.some-value a.out.now p.new.out q.new.out a.at _ _ s.requires.room c.least_byte.ensures p.ensures.written p.ensures.place q.ensures.written; place = omega (
+    let q = c.put_values in record {
+      written = table-written a.sheet.now a.symbol s.requires.named a.table.now s.requires.some-value a.out.now p.new.out q.new.out a.at _ _ s.requires.room c.least_byte.ensures p.ensures.written p.ensures.place q.ensures.written;
+      place = omega (
         arith,
         p.ensures.place,
         q.ensures.place,
         lent_length a.sheet.now a.symbol s.requires.named,
         line-length a.sheet.now a.symbol s.requires.named a.table.now s.requires.some-value,
-      ) }
+      );
+    }

@@ -1,10 +1,9 @@
-use borrow.Author.Rules.{rules}
 use Prim.Native.Nat.{◌-◌}
 use mathlib.Core.Path.{◌≡◌}
 use native.Mathlib.Omega.{arith}
 use lib.ListN.{length, length-set}
 use Rattle.interpretation.proofs.Ranks.{all_below-at}
-use Rattle.cases.proofs.Pairs.{Written, none_written, value_written, all-written}
+use Rattle.cases.proofs.Pairs.{none_written, value_written, all-written}
 use Rattle.cases.proofs.writing.put_values.Goals as goal
 
 pub loop-i-init : goal.loop-i-init

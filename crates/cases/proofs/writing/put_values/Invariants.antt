@@ -1,11 +1,6 @@
-
-use borrow.Author.Rules.{rules}
 use Prim.Native.Nat.{◌-◌}
-use mathlib.Core.Path.{◌≡◌}
-use native.Mathlib.Omega.{arith}
-use lib.ListN.{length, length-set}
-use Rattle.interpretation.proofs.Ranks.{all_below-at}
-use Rattle.cases.proofs.Pairs.{Written, none_written, value_written, all-written}
+use lib.ListN.{length}
+use Rattle.cases.proofs.Pairs.{Written}
 use Rattle.cases.proofs.writing.put_values.Given as goal
 
 -- `put_values` meets its contract: the values before i are written.

@@ -1,9 +1,7 @@
 -- `read_clause` looks for an unknown word, then at the grammar, then at the limits.
 use mathlib.Core.Path.{sym, ◌∙◌}
-use borrow.Author.Tests.{not-true, not-false}
 use Rattle.syntax.specs.Signatures.{signature_in}
 use Rattle.clauses.proofs.Finished.{unknown-word, no-clause, whole-clause, over, within}
-use borrow.Author.Rules.{rules}
 use Rattle.clauses.proofs.clause.read_clause.Goals as goal
 
 pub returns-then-w : goal.returns-then-w

@@ -1,5 +1,4 @@
 -- `read_words` reads no words of an empty line, and those between the spaces of any other.
-use borrow.Author.Rules.{rules}
 use mathlib.Core.Path.{sym, subst}
 use mathlib.Core.List.{List}
 use Prim.Native.Nat.{ℕ}

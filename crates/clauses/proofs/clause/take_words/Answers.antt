@@ -43,7 +43,6 @@ loop-reader-init c = let e = c.new-reader.ensures in
 
 pub with_word-w-requires : goal.with_word-w-requires
 with_word-w-requires c = let z = c.loop-reader.invariant.1 in
-    
     let r = c.loop-reader.reader in
     let le : r.at ≤ length c.args.value.now = leb-true _ _ (sym (within_line _ r _ c.loop-reader.invariant.0 c.has_word.ensures) ∙ c.loop-reader-test.true) in
     (c.requires, passed-bounded _ z.words _ z.passed (omega (arith, z.room, le)))

@@ -4,7 +4,6 @@ use mathlib.Core.Path.{refl, ap}
 use native.Mathlib.Omega.{arith}
 use Rattle.syntax.specs.Signatures.{signature_in}
 use Rattle.clauses.proofs.Passing.{signs-small, passed-more}
-use borrow.Author.Rules.{rules}
 use Rattle.clauses.proofs.clause.with_code.Goals as goal
 
 pub overflow_add-result-2 : goal.overflow_add-result-2

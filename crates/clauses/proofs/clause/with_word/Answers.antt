@@ -7,7 +7,6 @@ use Rattle.clauses.specs.declared.words.Word.TheVariants.{Code, Unknown}
 use Rattle.clauses.specs.Words.{is_coded, WordRead}
 use Rattle.clauses.proofs.Held.{count-signature_in}
 use Rattle.clauses.proofs.Passing.{taken-code, taken-unknown}
-use borrow.Author.Rules.{rules}
 use Rattle.clauses.proofs.clause.with_word.Goals as goal
 
 pub with_code-requires : goal.with_code-requires

@@ -1,7 +1,6 @@
 use Rattle.syntax.specs.Signatures.{signature_in}
 use Rattle.clauses.proofs.Held.{small-signature_in, arities-held}
 use Rattle.clauses.proofs.Finished.{many-words, many-literals, flattenable, by-variables}
-use borrow.Author.Rules.{rules}
 use Rattle.clauses.proofs.clause.within_limits.Goals as goal
 
 -- `within_limits` counts words, literals and variables.

@@ -1,6 +1,5 @@
 -- `after` goes by what is due.
 use native.Mathlib.Omega.{arith}
-use borrow.Author.Rules.{rules}
 use Rattle.clauses.proofs.grammar.after.Goals as goal
 
 pub after_terms-requires : goal.after_terms-requires

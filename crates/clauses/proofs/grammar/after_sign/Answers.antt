@@ -2,7 +2,6 @@ use native.Mathlib.Omega.{arith}
 use Rattle.syntax.specs.Signatures.{signature_in}
 use Rattle.clauses.proofs.Held.{arity-at}
 use Rattle.clauses.proofs.Automaton.{equals-atom, no-atom, symbol-code, function-no-atom, predicate-atom}
-use borrow.Author.Rules.{rules}
 use Rattle.clauses.proofs.grammar.after_sign.Goals as goal
 
 -- `after_sign` takes = or a predicate.

@@ -7,7 +7,6 @@ use Rattle.syntax.specs.Signatures.{signature_in}
 use Rattle.syntax.specs.Codes.{code_word}
 use Rattle.clauses.proofs.Held.{arity-at}
 use Rattle.clauses.proofs.Automaton.{some-due, letter-term, no-term, symbol-code, function-term, predicate-no-term}
-use borrow.Author.Rules.{rules}
 use Rattle.clauses.proofs.grammar.after_terms.Goals as goal
 
 pub returns-then-n-eq0 : goal.returns-then-n-eq0

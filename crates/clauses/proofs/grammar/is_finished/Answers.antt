@@ -1,6 +1,5 @@
 -- `is_finished` asks whether no term is due.
 use Rattle.clauses.proofs.Finished.{finished-terms}
-use borrow.Author.Rules.{rules}
 use Rattle.clauses.proofs.grammar.is_finished.Goals as goal
 
 pub returns-in-Terms : goal.returns-in-Terms

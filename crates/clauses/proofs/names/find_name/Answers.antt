@@ -1,11 +1,10 @@
-use borrow.Author.Rules.{rules}
-use Prim.Native.Nat.{ℕ, ◌≤◌, ◌<◌, ◌-◌}
+use Prim.Native.Nat.{◌<◌, ◌-◌}
 use native.Mathlib.Omega.{arith}
 use Rattle.syntax.specs.Signatures.{signature_in}
 use mathlib.Core.Path.{sym, ◌∙◌}
 use mathlib.Core.Bool.{true, false}
 use Rattle.clauses.proofs.Held.{count-signature_in, name-within}
-use Rattle.clauses.proofs.Naming.{NameFrom, name-here, name-nowhere, name-on, same_at, found}
+use Rattle.clauses.proofs.Naming.{name-here, name-nowhere, name-on, same_at, found}
 use Rattle.clauses.proofs.names.find_name.Goals as goal
 
 pub loop-i-init : goal.loop-i-init

@@ -1,12 +1,6 @@
-
-use borrow.Author.Rules.{rules}
-use Prim.Native.Nat.{ℕ, ◌≤◌, ◌<◌, ◌-◌}
-use native.Mathlib.Omega.{arith}
+use Prim.Native.Nat.{ℕ, ◌≤◌, ◌-◌}
 use Rattle.syntax.specs.Signatures.{signature_in}
-use mathlib.Core.Path.{sym, ◌∙◌}
-use mathlib.Core.Bool.{true, false}
-use Rattle.clauses.proofs.Held.{count-signature_in, name-within}
-use Rattle.clauses.proofs.Naming.{NameFrom, name-here, name-nowhere, name-on, same_at, found}
+use Rattle.clauses.proofs.Naming.{NameFrom}
 use Rattle.clauses.proofs.names.find_name.Given as goal
 
 -- `find_name` finds the name: its place from i on is its place.

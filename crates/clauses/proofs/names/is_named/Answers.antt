@@ -4,7 +4,6 @@ use mathlib.Core.Path.{◌≡◌, ap, ◌∙◌}
 use native.Mathlib.Omega.{arith}
 use lib.ListN.{length, take, drop}
 use Rattle.theory.specs.Lists.{same}
-use borrow.Author.Rules.{rules}
 use Rattle.clauses.proofs.names.is_named.Goals as goal
 
 pub returns : goal.returns

@@ -1,6 +1,5 @@
 use mathlib.Core.Path.{◌∙◌}
 use Rattle.clauses.proofs.Fixed.{fixed-other, fixed-one}
-use borrow.Author.Rules.{rules}
 use Rattle.clauses.proofs.words.is_fixed_word.Goals as goal
 
 -- `is_fixed_word` looks at words of one byte.

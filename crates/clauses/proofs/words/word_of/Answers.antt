@@ -4,7 +4,6 @@ use Rattle.syntax.specs.Signatures.{signature_in}
 use Rattle.clauses.proofs.Held.{count-signature_in}
 use Rattle.clauses.proofs.Fixed.{fixed-below}
 use Rattle.clauses.proofs.OneWord.{word-empty, word-fixed, word-named, word-unknown}
-use borrow.Author.Rules.{rules}
 use Rattle.clauses.proofs.words.word_of.Goals as goal
 
 -- `word_of` looks for a fixed word, then for a name.

@@ -2,7 +2,6 @@
 use mathlib.Core.Path.{◌≡◌, sym, ap, ◌∙◌, subst}
 use Prim.Native.Nat.{◌+◌}
 use native.Mathlib.Omega.{arith}
-use borrow.Author.Rules.{rules}
 use Rattle.flattening.specs.declared.flat.FlatClause.{FlatClause}
 use Rattle.flattening.specs.Assembled.{empty_flat, definition_at, Roomy, LiteralsPut}
 use Rattle.flattening.proofs.Assembling.{empty-roomy, assembled-end}

@@ -1,7 +1,6 @@
 -- `variable_count` meets its contract.
 use mathlib.Core.Path.{◌∙◌}
 use Rattle.flattening.proofs.Definitions.{variables-right}
-use borrow.Author.Rules.{rules}
 use Rattle.flattening.proofs.flat.variable_count.Goals as goal
 
 pub variables-requires : goal.variables-requires

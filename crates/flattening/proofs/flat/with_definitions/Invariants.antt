@@ -1,12 +1,5 @@
-
-use Prim.Native.Nat.{ℕ, suc, ◌≤◌, ◌+◌, ◌-◌}
-use mathlib.Core.Path.{◌≡◌, sym, ap, ◌∙◌, subst}
-use native.Mathlib.Numerals.{add-one}
-use native.Mathlib.Omega.{arith}
-use Rattle.shallow.specs.Literals.{three_at}
-use Rattle.flattening.specs.Assembled.{LiteralsPut, definition_at, with_flat}
-use borrow.Author.Rules.{rules}
-use Rattle.flattening.proofs.Assembling.{put-start, put-more}
+use Prim.Native.Nat.{◌≤◌, ◌-◌}
+use Rattle.flattening.specs.Assembled.{LiteralsPut, definition_at}
 use Rattle.flattening.proofs.flat.with_definitions.Given as goal
 
 -- `with_definitions` meets its contract: the first i are put.

@@ -1,10 +1,9 @@
-use Prim.Native.Nat.{ℕ, suc, ◌≤◌, ◌+◌, ◌-◌}
+use Prim.Native.Nat.{ℕ, suc, ◌+◌, ◌-◌}
 use mathlib.Core.Path.{◌≡◌, sym, ap, ◌∙◌, subst}
 use native.Mathlib.Numerals.{add-one}
 use native.Mathlib.Omega.{arith}
 use Rattle.shallow.specs.Literals.{three_at}
 use Rattle.flattening.specs.Assembled.{LiteralsPut, shallow_at, with_flat}
-use borrow.Author.Rules.{rules}
 use Rattle.flattening.proofs.Assembling.{put-start, put-more}
 use Rattle.flattening.proofs.flat.with_literals.Goals as goal
 

@@ -1,5 +1,4 @@
 -- `code_at` meets its contract.
-use borrow.Author.Rules.{rules}
 use mathlib.Core.Path.{refl}
 use native.Mathlib.Omega.{arith}
 use Rattle.forms.proofs.Evaluating.{field, place-safe, coefficient-safe, code-made}

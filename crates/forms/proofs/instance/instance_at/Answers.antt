@@ -1,4 +1,3 @@
-use borrow.Author.Rules.{rules}
 use Prim.Native.Nat.{ℕ, ◌+◌, ◌-◌, ◌<◌}
 use mathlib.Core.Path.{◌≡◌, refl, sym, ap, subst, ◌∙◌}
 use mathlib.Core.List.{List}
@@ -40,12 +39,12 @@ loop-left-preserved c = let l = c.loop-left in
     let room : l.written < length l.codes = omega (arith, l.invariant.0, l.invariant.1.few, s.requires.count_in_bounds, h) in
     let at : List ℕ → ℕ → Type 0 = λ codes written. Evaluated v n fs codes written (l.at + 10) (l.left - 1) in
     elim c.if-forms-at-eq0.branch [
-      then-forms-at-eq0 w ↦ (
+      | then-forms-at-eq0 w ↦ (
         ap length w.codes-is ∙ length-set l.codes l.written w.code_at.result ∙ l.invariant.0,
         subst (λ (us : List ℕ). at us c.if-forms-at-eq0.written) (sym w.codes-is) (subst (at (set l.codes l.written w.code_at.result)) (sym w.written-is)
             (written_on v n fs l.codes l.written l.at l.left l.invariant.1 h w.code_at.result room w.if-forms-at-eq0.true w.code_at.ensures)),
       )
-    | else-forms-at-eq0+else-is_true_at w ↦ (
+      | else-forms-at-eq0+else-is_true_at w ↦ (
         ap length w.codes-is ∙ l.invariant.0,
         subst (λ (us : List ℕ). at us c.if-forms-at-eq0.written) (sym w.codes-is) (subst (at l.codes) (sym w.written-is)
             (left-out-on v n fs l.codes l.written l.at l.left l.invariant.1 h w.if-forms-at-eq0.false (sym w.is_true_at.ensures ∙ w.if-is_true_at.false))),

@@ -1,12 +1,7 @@
-
-use borrow.Author.Rules.{rules}
-use Prim.Native.Nat.{ℕ, ◌+◌, ◌-◌, ◌<◌}
-use mathlib.Core.Path.{◌≡◌, refl, sym, ap, subst, ◌∙◌}
-use mathlib.Core.Logic.{⊎_elim}
-use mathlib.Core.List.{List}
-use native.Mathlib.Omega.{arith}
-use lib.ListN.{length, set, length-set}
-use Rattle.forms.proofs.Evaluating.{place-safe, Evaluated, none-evaluated, safe-here, written_on, left-out-on, dropped-here, all-evaluated}
+use Prim.Native.Nat.{◌-◌}
+use mathlib.Core.Path.{◌≡◌}
+use lib.ListN.{length}
+use Rattle.forms.proofs.Evaluating.{Evaluated}
 use Rattle.forms.proofs.instance.instance_at.Given as goal
 
 -- `instance_at` meets its contract: the forms before `at` are evaluated.

@@ -1,5 +1,4 @@
 -- `form_of` meets its contract.
-use borrow.Author.Rules.{rules}
 use mathlib.Core.Path.{refl}
 use native.Mathlib.Omega.{arith}
 use Rattle.forms.proofs.Meaning.{predicate-over, function-over, predicate-means, function-means, equality-means, predicate-safe, function-safe, equality-safe}

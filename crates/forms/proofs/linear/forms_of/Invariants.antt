@@ -1,10 +1,5 @@
-
-use borrow.Author.Rules.{rules}
-use Prim.Native.Nat.{ℕ, suc, ◌+◌, ◌-◌, ◌<◌}
-use mathlib.Core.Path.{◌≡◌, refl, sym, subst}
-use native.Mathlib.Omega.{arith}
-use lib.ListN.{length}
-use Rattle.forms.proofs.Gathering.{literal-over, Gathered, none-gathered, one-gathered, gathered-safe, gathered-linear}
+use Prim.Native.Nat.{◌-◌}
+use Rattle.forms.proofs.Gathering.{Gathered}
 use Rattle.forms.proofs.linear.forms_of.Given as goal
 
 -- `forms_of` meets its contract: the forms of the first i literals are written.

@@ -1,5 +1,4 @@
 -- `linear_form` meets its contract.
-use borrow.Author.Rules.{rules}
 use native.Mathlib.Omega.{arith}
 use Rattle.forms.proofs.Weights.{coefficient-small}
 use Rattle.forms.proofs.linear.linear_form.Goals as goal

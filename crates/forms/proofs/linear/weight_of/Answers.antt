@@ -1,5 +1,4 @@
 -- `weight_of` meets its contract.
-use borrow.Author.Rules.{rules}
 use mathlib.Core.Path.{◌≡◌, sym, ◌∙◌}
 use native.Mathlib.Omega.{arith}
 use Rattle.interpretation.proofs.Ranks.{table-within}

@@ -1,11 +1,8 @@
-use borrow.Author.Rules.{rules}
-use Prim.Native.Nat.{ℕ, ◌+◌, ◌-◌, ◌≤◌}
-use mathlib.Core.Path.{◌≡◌, refl, sym, ◌∙◌}
-use mathlib.Core.List.{List}
+use Prim.Native.Nat.{◌+◌, ◌-◌}
+use mathlib.Core.Path.{refl, sym, ◌∙◌}
 use native.Mathlib.Omega.{arith}
-use lib.ListN.{length}
 use Rattle.theory.specs.Lists.{concat_map, up_to}
-use Rattle.stream.specs.Consuming.{state, Consumed}
+use Rattle.stream.specs.Consuming.{state}
 use Rattle.stream.proofs.Streams.{begun-consumed, consumes-same, consumed-same, next-consumes, more-consumed, all-consumed}
 use lib.ListN.{get_or}
 use Rattle.syntax.specs.Signatures.{signature_in}
@@ -26,9 +23,12 @@ symbol_cells-p-requires c = let s = c in
     let x = state a.start a.out.now a.work.now in
     let l = c.loop-i in
     let y = state l.p l.out l.work in
-    let sheet = s.requires.cells_next.0 in record { arity_bound = (arity-at a.signature s.requires.limited.0 l.i (omega arith), s.requires.limited.1, base-small a.signature s.requires.limited.0 a.size.0 a.n s.requires.by_index sheet l.i (omega arith)); consumes = consumes-same a.mode a.n.count (symbol_part a.size.0 (signature_in sheet a.signature) l.i) (symbol_clauses a.size.0 (get_or a.n.bases l.i 0) (get_or a.signature.symbols l.i blank)) y (part_at a.signature s.requires.limited.0 a.size.0 a.n s.requires.by_index sheet l.i (omega arith))
+    let sheet = s.requires.cells_next.0 in record {
+      arity_bound = (arity-at a.signature s.requires.limited.0 l.i (omega arith), s.requires.limited.1, base-small a.signature s.requires.limited.0 a.size.0 a.n s.requires.by_index sheet l.i (omega arith));
+      consumes = consumes-same a.mode a.n.count (symbol_part a.size.0 (signature_in sheet a.signature) l.i) (symbol_clauses a.size.0 (get_or a.n.bases l.i 0) (get_or a.signature.symbols l.i blank)) y (part_at a.signature s.requires.limited.0 a.size.0 a.n s.requires.by_index sheet l.i (omega arith))
           (next-consumes a.mode a.n.count (symbol_part a.size.0 (signature_in sheet a.signature)) 0 a.signature.count x l.i l.i y (omega arith) (omega arith)
-          (consumes-same a.mode a.n.count (cell_part a.size.0 (signature_in sheet a.signature)) (concat_map (symbol_part a.size.0 (signature_in sheet a.signature)) (up_to a.signature.count)) x (whole_part a.signature s.requires.limited.0 a.size.0 a.n s.requires.by_index sheet) s.requires.cells_next.1) (l.invariant.3 sheet)) }
+          (consumes-same a.mode a.n.count (cell_part a.size.0 (signature_in sheet a.signature)) (concat_map (symbol_part a.size.0 (signature_in sheet a.signature)) (up_to a.signature.count)) x (whole_part a.signature s.requires.limited.0 a.size.0 a.n s.requires.by_index sheet) s.requires.cells_next.1) (l.invariant.3 sheet));
+    }
 
 pub loop-i-preserved : goal.loop-i-preserved
 loop-i-preserved c = let s = c in

@@ -1,18 +1,11 @@
-
-use borrow.Author.Rules.{rules}
-use Prim.Native.Nat.{ℕ, ◌+◌, ◌-◌, ◌≤◌}
-use mathlib.Core.Path.{◌≡◌, refl, sym, ◌∙◌}
+use Prim.Native.Nat.{ℕ, ◌-◌, ◌≤◌}
+use mathlib.Core.Path.{◌≡◌}
 use mathlib.Core.List.{List}
-use native.Mathlib.Omega.{arith}
 use lib.ListN.{length}
 use Rattle.theory.specs.Lists.{concat_map, up_to}
 use Rattle.stream.specs.Consuming.{state, Consumed}
-use Rattle.stream.proofs.Streams.{begun-consumed, consumes-same, consumed-same, next-consumes, more-consumed, all-consumed}
-use lib.ListN.{get_or}
 use Rattle.syntax.specs.Signatures.{signature_in}
-use Rattle.clauses.proofs.Held.{blank, arity-at}
-use Rattle.grounding.specs.CellPart.{cell_part, symbol_clauses}
-use Rattle.grounding.proofs.CellWalk.{symbol_part, whole_part, part_at, base-small}
+use Rattle.grounding.proofs.CellWalk.{symbol_part}
 use Rattle.grounding.proofs.cell_clauses.all_cells.Given as goal
 
 -- `all_cells` meets its contract: the clauses of the symbols before i are taken.

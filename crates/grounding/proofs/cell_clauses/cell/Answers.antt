@@ -10,7 +10,6 @@ use Rattle.theory.specs.Propositional.{PropClause}
 use Rattle.theory.specs.PropClauses.{some_result, not_two}
 use Rattle.stream.specs.Literals.{prop_clause_of}
 use Rattle.stream.proofs.Streams.{first-consumes, rest-consumes, both-consumed}
-use borrow.Author.Rules.{rules}
 use Rattle.grounding.proofs.cell_clauses.cell.Goals as goal
 
 pub slice_bounds-take_clause-end : goal.slice_bounds-take_clause-end

@@ -8,7 +8,6 @@ use Rattle.stream.specs.Literals.{prop_clause_of}
 use Rattle.stream.specs.Consuming.{state}
 use Rattle.stream.proofs.Streams.{consumes-same, consumed-same}
 use Rattle.grounding.proofs.CellWalk.{pair-clause}
-use borrow.Author.Rules.{rules}
 use Rattle.grounding.proofs.cell_clauses.not_both.Goals as goal
 
 pub take_clause-requires : goal.take_clause-requires

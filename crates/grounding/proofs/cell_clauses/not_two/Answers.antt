@@ -1,10 +1,7 @@
-use borrow.Author.Rules.{rules}
-use Prim.Native.Nat.{◌+◌, ◌-◌, ◌≤◌}
-use mathlib.Core.Path.{◌≡◌, refl, ◌∙◌}
+use Prim.Native.Nat.{◌+◌, ◌-◌}
+use mathlib.Core.Path.{refl, ◌∙◌}
 use native.Mathlib.Omega.{arith}
-use lib.ListN.{length}
-use Rattle.theory.specs.Lists.{concat_map, up_to}
-use Rattle.stream.specs.Consuming.{state, Consumed}
+use Rattle.stream.specs.Consuming.{state}
 use Rattle.stream.proofs.Streams.{begun-consumed, next-consumes, more-consumed, all-consumed}
 use Rattle.grounding.specs.CellPart.{not_with}
 use Rattle.grounding.proofs.cell_clauses.not_two.Goals as goal

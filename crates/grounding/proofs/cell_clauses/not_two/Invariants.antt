@@ -1,12 +1,8 @@
-
-use borrow.Author.Rules.{rules}
 use Prim.Native.Nat.{◌+◌, ◌-◌, ◌≤◌}
-use mathlib.Core.Path.{◌≡◌, refl, ◌∙◌}
-use native.Mathlib.Omega.{arith}
+use mathlib.Core.Path.{◌≡◌}
 use lib.ListN.{length}
 use Rattle.theory.specs.Lists.{concat_map, up_to}
 use Rattle.stream.specs.Consuming.{state, Consumed}
-use Rattle.stream.proofs.Streams.{begun-consumed, next-consumes, more-consumed, all-consumed}
 use Rattle.grounding.specs.CellPart.{not_with}
 use Rattle.grounding.proofs.cell_clauses.not_two.Given as goal
 

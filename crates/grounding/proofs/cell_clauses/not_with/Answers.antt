@@ -1,12 +1,10 @@
-use borrow.Author.Rules.{rules}
-use Prim.Native.Nat.{ℕ, suc, ◌+◌, ◌-◌, ◌≤◌}
-use mathlib.Core.Path.{◌≡◌, refl, sym, ◌∙◌}
+use Prim.Native.Nat.{ℕ, suc, ◌+◌, ◌-◌}
+use mathlib.Core.Path.{refl, sym, ◌∙◌}
 use mathlib.Core.List.{List, [], ◌∷◌}
 use native.Mathlib.Omega.{arith}
-use lib.ListN.{length}
 use Rattle.theory.specs.Lists.{concat_map, up_from}
 use Rattle.theory.specs.PropClauses.{not_both}
-use Rattle.stream.specs.Consuming.{state, Consumed}
+use Rattle.stream.specs.Consuming.{state}
 use Rattle.stream.proofs.Streams.{consumes-same, consumed-same, next-consumes, more-consumed, begun-consumed, all-consumed}
 use Rattle.theory.specs.Propositional.{PropClause}
 use Rattle.grounding.specs.CellPart.{not_with}

@@ -1,17 +1,10 @@
-
-use borrow.Author.Rules.{rules}
-use Prim.Native.Nat.{ℕ, suc, ◌+◌, ◌-◌, ◌≤◌}
-use mathlib.Core.Path.{◌≡◌, refl, sym, ◌∙◌}
-use mathlib.Core.List.{List, [], ◌∷◌}
-use native.Mathlib.Omega.{arith}
+use Prim.Native.Nat.{suc, ◌+◌, ◌-◌, ◌≤◌}
+use mathlib.Core.Path.{◌≡◌}
+use mathlib.Core.List.{[], ◌∷◌}
 use lib.ListN.{length}
 use Rattle.theory.specs.Lists.{concat_map, up_from}
 use Rattle.theory.specs.PropClauses.{not_both}
 use Rattle.stream.specs.Consuming.{state, Consumed}
-use Rattle.stream.proofs.Streams.{consumes-same, consumed-same, next-consumes, more-consumed, begun-consumed, all-consumed}
-use Rattle.theory.specs.Propositional.{PropClause}
-use Rattle.grounding.specs.CellPart.{not_with}
-use Rattle.grounding.proofs.CellWalk.{one_by_one}
 use Rattle.grounding.proofs.cell_clauses.not_with.Given as goal
 
 -- `not_with` meets its contract: the clauses for the results before e are taken.

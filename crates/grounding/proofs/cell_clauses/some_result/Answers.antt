@@ -1,11 +1,8 @@
-use borrow.Author.Rules.{rules}
-use Prim.Native.Nat.{◌+◌, ◌-◌, ◌≤◌}
+use Prim.Native.Nat.{◌-◌}
 use mathlib.Core.Path.{◌≡◌, refl, ◌∙◌}
 use native.Mathlib.Numerals.{add-one}
 use native.Mathlib.Omega.{arith}
-use lib.ListN.{length, take, length-set}
-use Rattle.theory.specs.PropClauses.{some_result}
-use Rattle.stream.specs.Literals.{prop_clause_of}
+use lib.ListN.{length-set}
 use Rattle.grounding.proofs.CellWalk.{result-more}
 use Rattle.grounding.proofs.cell_clauses.some_result.Goals as goal
 

@@ -1,13 +1,8 @@
-
-use borrow.Author.Rules.{rules}
 use Prim.Native.Nat.{◌+◌, ◌-◌, ◌≤◌}
-use mathlib.Core.Path.{◌≡◌, refl, ◌∙◌}
-use native.Mathlib.Numerals.{add-one}
-use native.Mathlib.Omega.{arith}
-use lib.ListN.{length, take, length-set}
+use mathlib.Core.Path.{◌≡◌}
+use lib.ListN.{length, take}
 use Rattle.theory.specs.PropClauses.{some_result}
 use Rattle.stream.specs.Literals.{prop_clause_of}
-use Rattle.grounding.proofs.CellWalk.{result-more}
 use Rattle.grounding.proofs.cell_clauses.some_result.Given as goal
 
 -- `some_result` meets its contract: the first d literals are written.

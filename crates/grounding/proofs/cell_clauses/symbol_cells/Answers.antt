@@ -3,7 +3,6 @@ use Rattle.stream.specs.Consuming.{state}
 use borrow.Author.Tests.{not-true, not-false}
 use Rattle.stream.proofs.Streams.{none-consumed}
 use Rattle.interpretation.proofs.Ranks.{table-within}
-use borrow.Author.Rules.{rules}
 use Rattle.grounding.proofs.cell_clauses.symbol_cells.Goals as goal
 
 -- `symbol_cells` meets its contract.

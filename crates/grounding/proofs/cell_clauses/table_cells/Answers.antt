@@ -1,11 +1,8 @@
-use borrow.Author.Rules.{rules}
-use Prim.Native.Nat.{ℕ, ◌+◌, ◌-◌, ◌*◌, ◌≤◌}
-use mathlib.Core.Path.{◌≡◌, refl, ◌∙◌}
+use Prim.Native.Nat.{ℕ, ◌+◌, ◌-◌, ◌*◌}
+use mathlib.Core.Path.{refl, ◌∙◌}
 use mathlib.Core.List.{List}
 use native.Mathlib.Omega.{arith}
-use lib.ListN.{length}
-use Rattle.theory.specs.Lists.{concat_map, up_to}
-use Rattle.stream.specs.Consuming.{state, Consumed}
+use Rattle.stream.specs.Consuming.{state}
 use Rattle.stream.proofs.Streams.{begun-consumed, next-consumes, more-consumed, all-consumed}
 use Rattle.theory.specs.Propositional.{PropClause}
 use Rattle.theory.specs.PropClauses.{cell_clauses}

@@ -1,16 +1,9 @@
-
-use borrow.Author.Rules.{rules}
-use Prim.Native.Nat.{ℕ, ◌+◌, ◌-◌, ◌*◌, ◌≤◌}
-use mathlib.Core.Path.{◌≡◌, refl, ◌∙◌}
-use mathlib.Core.List.{List}
-use native.Mathlib.Omega.{arith}
+use Prim.Native.Nat.{◌+◌, ◌-◌, ◌*◌, ◌≤◌}
+use mathlib.Core.Path.{◌≡◌}
 use lib.ListN.{length}
 use Rattle.theory.specs.Lists.{concat_map, up_to}
 use Rattle.stream.specs.Consuming.{state, Consumed}
-use Rattle.stream.proofs.Streams.{begun-consumed, next-consumes, more-consumed, all-consumed}
-use Rattle.theory.specs.Propositional.{PropClause}
 use Rattle.theory.specs.PropClauses.{cell_clauses}
-use Rattle.grounding.proofs.CellWalk.{row_small}
 use Rattle.grounding.proofs.cell_clauses.table_cells.Given as goal
 
 -- `table_cells` meets its contract: the clauses of the first r cells are taken.

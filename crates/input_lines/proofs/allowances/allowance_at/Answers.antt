@@ -1,6 +1,5 @@
 -- `allowance_at` meets its contract: the number that the value is, or none.
 use Rattle.input_lines.proofs.AllowanceLines.{no_value, value}
-use borrow.Author.Rules.{rules}
 use Rattle.input_lines.proofs.allowances.allowance_at.Goals as goal
 
 pub returns-in-Bad : goal.returns-in-Bad

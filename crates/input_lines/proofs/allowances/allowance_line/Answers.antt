@@ -2,12 +2,10 @@
 use native.Mathlib.Omega.{arith}
 use mathlib.Core.Path.{◌≡◌}
 use mathlib.Core.Bool.{true, false}
-use borrow.Author.Tests.{not-true, not-false}
 use Rattle.input_lines.proofs.AllowanceLines.{no_line, no_key, keyed}
 use Rattle.theory.specs.Bytes.{bytes}
 use Rattle.allowance.specs.FinderProgram.{allowance_of}
 use Rattle.input_lines.proofs.KeyedLines.{value-from}
-use borrow.Author.Rules.{rules}
 use Rattle.input_lines.proofs.allowances.allowance_line.Goals as goal
 
 pub returns-then-end-input : goal.returns-then-end-input

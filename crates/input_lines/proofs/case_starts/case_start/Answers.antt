@@ -1,10 +1,8 @@
 use Prim.Native.Nat.{◌-◌}
 use mathlib.Core.Path.{sym, ap, ◌∙◌}
-use lib.ListN.{length}
 use Rattle.theory.specs.Explainer.{case_here}
 use Rattle.input_lines.proofs.LentRest.{rest}
-use Rattle.input_lines.proofs.CaseStarts.{Unstarted, unstarted, starts, goes_on, never}
-use borrow.Author.Rules.{rules}
+use Rattle.input_lines.proofs.CaseStarts.{unstarted, starts, goes_on, never}
 use Rattle.input_lines.proofs.case_starts.case_start.Goals as goal
 
 pub loop-i-init : goal.loop-i-init

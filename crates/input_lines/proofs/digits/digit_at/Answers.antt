@@ -1,7 +1,6 @@
 -- `digit_at` reads the digit that a value is.
 use native.Mathlib.Omega.{arith}
 use Rattle.input_lines.proofs.DigitLines.{other_length, below, above, digit}
-use borrow.Author.Rules.{rules}
 use Rattle.input_lines.proofs.digits.digit_at.Goals as goal
 
 pub returns-then-end-from-ne1 : goal.returns-then-end-from-ne1

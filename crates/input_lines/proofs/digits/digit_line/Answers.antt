@@ -2,11 +2,9 @@
 use native.Mathlib.Omega.{arith}
 use mathlib.Core.Path.{◌≡◌}
 use mathlib.Core.Bool.{true, false}
-use borrow.Author.Tests.{not-true, not-false}
 use Rattle.input_lines.proofs.DigitLines.{no_line, no_key, keyed}
 use Rattle.theory.specs.Program.{digit_of}
 use Rattle.input_lines.proofs.KeyedLines.{value-from}
-use borrow.Author.Rules.{rules}
 use Rattle.input_lines.proofs.digits.digit_line.Goals as goal
 
 pub returns-then-end-input : goal.returns-then-end-input

@@ -1,6 +1,5 @@
 -- `switch_line` meets its contract: one of the two lines stands at the place, or neither.
 use Rattle.input_lines.proofs.SwitchLines.{says-yes, says-no, says-neither}
-use borrow.Author.Rules.{rules}
 use Rattle.input_lines.proofs.switches.switch_line.Goals as goal
 
 pub returns-then-starts_with : goal.returns-then-starts_with

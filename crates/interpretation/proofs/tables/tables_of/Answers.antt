@@ -1,14 +1,13 @@
-use borrow.Author.Rules.{rules}
-use Prim.Native.Nat.{ℕ, ◌-◌, ◌≤◌}
+use Prim.Native.Nat.{◌-◌}
 use mathlib.Core.Path.{◌≡◌}
-use mathlib.Core.List.{List, []}
+use mathlib.Core.List.{[]}
 use native.Mathlib.Numerals.{add-one}
 use native.Mathlib.Omega.{arith}
 use lib.ListN.{length, get_or}
 use Rattle.syntax.specs.Signatures.{signature_in}
 use Rattle.clauses.proofs.Held.{blank, arity-at, count-signature_in, symbol_at-signature_in}
 use Rattle.interpretation.proofs.Ranks.{table-within}
-use Rattle.interpretation.proofs.Tabling.{Tabled, none-tabled, one-tabled, all-tabled}
+use Rattle.interpretation.proofs.Tabling.{none-tabled, one-tabled, all-tabled}
 use Rattle.interpretation.proofs.tables.tables_of.Goals as goal
 
 pub loop-i-init : goal.loop-i-init

@@ -1,15 +1,7 @@
-
-use borrow.Author.Rules.{rules}
 use Prim.Native.Nat.{ℕ, ◌-◌, ◌≤◌}
-use mathlib.Core.Path.{◌≡◌}
-use mathlib.Core.List.{List, []}
-use native.Mathlib.Numerals.{add-one}
-use native.Mathlib.Omega.{arith}
-use lib.ListN.{length, get_or}
+use mathlib.Core.List.{List}
 use Rattle.syntax.specs.Signatures.{signature_in}
-use Rattle.clauses.proofs.Held.{blank, arity-at, count-signature_in, symbol_at-signature_in}
-use Rattle.interpretation.proofs.Ranks.{table-within}
-use Rattle.interpretation.proofs.Tabling.{Tabled, none-tabled, one-tabled, all-tabled}
+use Rattle.interpretation.proofs.Tabling.{Tabled}
 use Rattle.interpretation.proofs.tables.tables_of.Given as goal
 
 -- `tables_of` meets its contract: the tables of the symbols before i are written.

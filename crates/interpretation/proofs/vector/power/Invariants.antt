@@ -1,11 +1,5 @@
-
-use borrow.Author.Rules.{rules}
-use Prim.Native.Nat.{ℕ, suc, ◌*◌, ◌-◌, ◌^◌, ◌≤◌}
-use mathlib.Core.Path.{◌≡◌, sym, ap, ◌∙◌}
-use native.Mathlib.Nat.{pow-zero, pow-suc}
-use native.Mathlib.Numerals.{add-one}
-use native.Mathlib.Omega.{arith}
-use Rattle.interpretation.proofs.Ranks.{power-within}
+use Prim.Native.Nat.{◌-◌, ◌^◌, ◌≤◌}
+use mathlib.Core.Path.{◌≡◌}
 use Rattle.interpretation.proofs.vector.power.Given as goal
 
 -- `power` meets its contract: n is the power of the places counted so far.

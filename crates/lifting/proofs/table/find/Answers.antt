@@ -1,10 +1,9 @@
-use Prim.Native.Nat.{ℕ, ◌≤◌, ◌-◌}
+use Prim.Native.Nat.{ℕ, ◌-◌}
 use mathlib.Core.Bool.{Bool}
 use mathlib.Core.Path.{◌≡◌, sym, ap, ◌∙◌}
 use native.Mathlib.Numerals.{add-one}
 use native.Mathlib.Omega.{arith}
-use borrow.Author.Rules.{rules}
-use Rattle.lifting.specs.Rows.{is_row, first_from, row_of}
+use Rattle.lifting.specs.Rows.{is_row, first_from}
 use Rattle.lifting.proofs.Rows.{first_on, first-hit, first-end}
 use Rattle.lifting.proofs.table.find.Goals as goal
 

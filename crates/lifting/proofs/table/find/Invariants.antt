@@ -1,12 +1,6 @@
-
-use Prim.Native.Nat.{ℕ, ◌≤◌, ◌-◌}
-use mathlib.Core.Bool.{Bool}
-use mathlib.Core.Path.{◌≡◌, sym, ap, ◌∙◌}
-use native.Mathlib.Numerals.{add-one}
-use native.Mathlib.Omega.{arith}
-use borrow.Author.Rules.{rules}
+use Prim.Native.Nat.{◌≤◌, ◌-◌}
+use mathlib.Core.Path.{◌≡◌}
 use Rattle.lifting.specs.Rows.{is_row, first_from, row_of}
-use Rattle.lifting.proofs.Rows.{first_on, first-hit, first-end}
 use Rattle.lifting.proofs.table.find.Given as goal
 
 -- `find` meets its contract: no row before i is the one.

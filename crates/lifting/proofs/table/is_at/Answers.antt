@@ -1,7 +1,6 @@
 -- `is_at` meets its contract, test by test.
 use borrow.Author.Tests.{eq-eqb, ne_eqb}
 use Rattle.lifting.proofs.Rows.{first-decides, second-decides, third-decides, fourth-decides}
-use borrow.Author.Rules.{rules}
 use Rattle.lifting.proofs.table.is_at.Goals as goal
 
 pub returns-then-table-i : goal.returns-then-table-i

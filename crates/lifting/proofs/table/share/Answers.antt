@@ -1,6 +1,5 @@
 -- `share` meets its contract.
 use Rattle.lifting.proofs.Rows.{shared-old, shared_new}
-use borrow.Author.Rules.{rules}
 use Rattle.lifting.proofs.table.share.Goals as goal
 
 pub returns-then-i-table : goal.returns-then-i-table

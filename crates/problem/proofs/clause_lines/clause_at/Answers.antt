@@ -1,7 +1,6 @@
 -- `clause_at` looks for a fault of the value.
 use Rattle.syntax.specs.Signatures.{signature_in}
 use Rattle.problem.proofs.ClausePlaces.{clause-refused, clause-read}
-use borrow.Author.Rules.{rules}
 use Rattle.problem.proofs.clause_lines.clause_at.Goals as goal
 
 pub returns-then-fault-ne0 : goal.returns-then-fault-ne0

@@ -3,7 +3,6 @@ use Rattle.syntax.specs.Signatures.{signature_in}
 use Rattle.problem.specs.declared.lines.KeyLine.TheVariants.{Value}
 use Rattle.problem.specs.Lines.{ValueWithin}
 use Rattle.problem.proofs.ClausePlaces.{clause-unkeyed, clause-keyed}
-use borrow.Author.Rules.{rules}
 use Rattle.problem.proofs.clause_lines.clause_line.Goals as goal
 
 pub clause_at-requires : goal.clause_at-requires

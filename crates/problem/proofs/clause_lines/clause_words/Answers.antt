@@ -1,7 +1,6 @@
 -- `clause_words` reads the clause at its place again, or gives its words in the mode.
 use native.Mathlib.Omega.{arith}
 use Rattle.problem.proofs.WordsAgain.{words-again}
-use borrow.Author.Rules.{rules}
 use Rattle.problem.proofs.clause_lines.clause_words.Goals as goal
 
 pub line_end-end-requires : goal.line_end-end-requires

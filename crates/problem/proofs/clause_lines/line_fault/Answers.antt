@@ -5,7 +5,6 @@ use Rattle.text.specs.Lines.{part}
 use Rattle.syntax.specs.Signatures.{signature_in}
 use Rattle.problem.specs.ClausePlaces.{LineFault}
 use Rattle.problem.proofs.ClausePlaces.{plain-fault}
-use borrow.Author.Rules.{rules}
 use Rattle.problem.proofs.clause_lines.line_fault.Goals as goal
 
 pub returns-then-named : goal.returns-then-named

@@ -4,7 +4,6 @@ use mathlib.Core.Option.{none, some}
 use Rattle.theory.specs.Lines.{count_of}
 use Rattle.text.specs.Lines.{part}
 use Rattle.problem.proofs.KeyLines.{no-count, count-over, count-read}
-use borrow.Author.Rules.{rules}
 use Rattle.problem.proofs.lines.count_at.Goals as goal
 
 pub returns-then-limit-n : goal.returns-then-limit-n

@@ -2,7 +2,6 @@
 use Rattle.problem.specs.declared.lines.KeyLine.TheVariants.{Value}
 use Rattle.problem.specs.Lines.{ValueWithin}
 use Rattle.problem.proofs.KeyLines.{count-unkeyed, count-keyed}
-use borrow.Author.Rules.{rules}
 use Rattle.problem.proofs.lines.count_line.Goals as goal
 
 pub count_at-requires : goal.count_at-requires

@@ -1,9 +1,7 @@
 -- `key_line` finds the line's end, then its key.
 use mathlib.Core.Path.{◌≡◌}
 use mathlib.Core.Bool.{true, false}
-use borrow.Author.Tests.{not-true, not-false}
 use Rattle.problem.proofs.KeyLines.{no_line, no_key, key-value}
-use borrow.Author.Rules.{rules}
 use Rattle.problem.proofs.lines.key_line.Goals as goal
 
 pub returns-then-end-sheet : goal.returns-then-end-sheet

@@ -1,7 +1,6 @@
 -- `read_in` chooses the reader.
 use mathlib.Core.Path.{sym, ap, ◌∙◌}
 use mathlib.Core.Bool.{Bool}
-use borrow.Author.Rules.{rules}
 use Rattle.problem.specs.Modes.{read_in}
 use Rattle.problem.proofs.ModeRead.{plain_in}
 use Rattle.problem.proofs.modes.read_in.Goals as goal

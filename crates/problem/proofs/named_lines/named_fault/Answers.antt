@@ -1,12 +1,10 @@
 -- `named_fault` looks for an unknown word, then at the grammar, then at the limits of the mode.
 use mathlib.Core.Path.{sym, ◌∙◌}
-use borrow.Author.Tests.{not-true, not-false}
 use Rattle.theory.specs.Grammar.{read_words}
 use Rattle.syntax.specs.Signatures.{signature_in}
 use Rattle.text.specs.Lines.{part}
 use Rattle.clauses.proofs.Finished.{clause-read}
 use Rattle.problem.proofs.NamedLines.{unknown-words, no-clause, over, within, clause-line, between}
-use borrow.Author.Rules.{rules}
 use Rattle.problem.proofs.named_lines.named_fault.Goals as goal
 
 pub returns-then-w : goal.returns-then-w

@@ -14,8 +14,7 @@ use Rattle.problem.specs.Problems.{handed_in}
 use Rattle.problem.proofs.NamedLines.{between}
 use Rattle.problem.proofs.LinesThere.{line-there, line_of, named-within}
 use Rattle.problem.proofs.Handed.{handed-count, handed-at}
-use Rattle.problem.proofs.NamedWalk.{TermsTo, begins, overflows, goes_on, all_named, too_many}
-use borrow.Author.Rules.{rules}
+use Rattle.problem.proofs.NamedWalk.{begins, overflows, goes_on, all_named, too_many}
 use Rattle.problem.proofs.named_lines.named_terms.Goals as goal
 
 pub with_helpers-all-requires : goal.with_helpers-all-requires

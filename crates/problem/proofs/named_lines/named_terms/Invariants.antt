@@ -1,22 +1,7 @@
-
-use Prim.Native.Nat.{◌-◌, ◌<◌}
-use mathlib.Core.Path.{sym, ap, ◌∙◌, subst}
-use mathlib.Core.Bool.{true}
-use native.Mathlib.Omega.{arith}
-use lib.ListN.{length, get_or}
-use Rattle.theory.specs.Syntax.{Clause}
+use Prim.Native.Nat.{◌-◌}
 use Rattle.syntax.specs.Signatures.{signature_in}
-use Rattle.clauses.proofs.Held.{count-signature_in}
-use Rattle.naming.specs.NamedReading.{max_helpers, is_within_named}
-use Rattle.shortening.specs.ShortLines.{Shortened}
-use Rattle.shortening.proofs.NamedTable.{none-there}
-use Rattle.shortening.proofs.HelperSymbols.{limited-behind}
 use Rattle.problem.specs.Problems.{handed_in}
-use Rattle.problem.proofs.NamedLines.{between}
-use Rattle.problem.proofs.LinesThere.{line-there, line_of, named-within}
-use Rattle.problem.proofs.Handed.{handed-count, handed-at}
-use Rattle.problem.proofs.NamedWalk.{TermsTo, begins, overflows, goes_on, all_named, too_many}
-use borrow.Author.Rules.{rules}
+use Rattle.problem.proofs.NamedWalk.{TermsTo}
 use Rattle.problem.proofs.named_lines.named_terms.Given as goal
 
 -- `named_terms` collects the terms of one clause line after the other.

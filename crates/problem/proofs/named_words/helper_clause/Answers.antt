@@ -3,7 +3,6 @@ use mathlib.Core.Path.{sym, subst}
 use native.Mathlib.Omega.{arith}
 use Rattle.problem.specs.Problems.{WordsOf}
 use Rattle.problem.proofs.WordsAgain.{helper-asks, helper-told}
-use borrow.Author.Rules.{rules}
 use Rattle.problem.proofs.named_words.helper_clause.Goals as goal
 
 pub overflow_add-declared : goal.overflow_add-declared

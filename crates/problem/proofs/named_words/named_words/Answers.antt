@@ -3,7 +3,6 @@ use Prim.Native.Nat.{ℕ, ◌+◌, ◌-◌}
 use mathlib.Core.Path.{◌≡◌, subst}
 use native.Mathlib.Omega.{arith}
 use Rattle.problem.specs.Problems.{WordsOf}
-use borrow.Author.Rules.{rules}
 use Rattle.problem.proofs.named_words.named_words.Goals as goal
 
 pub returns : goal.returns

@@ -3,7 +3,6 @@ use Prim.Native.Nat.{◌+◌}
 use mathlib.Core.Path.{sym, subst}
 use Rattle.problem.specs.Problems.{WordsOf}
 use Rattle.problem.proofs.WordsAgain.{short-asks, short-told}
-use borrow.Author.Rules.{rules}
 use Rattle.problem.proofs.named_words.short_clause.Goals as goal
 
 pub line_end-end-requires : goal.line_end-end-requires

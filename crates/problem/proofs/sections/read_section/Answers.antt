@@ -5,7 +5,6 @@ use Rattle.syntax.specs.Signatures.{kind_of}
 use Rattle.problem.specs.declared.lines.CountLine.TheVariants.{Read}
 use Rattle.problem.specs.Lines.{CountWithin}
 use Rattle.problem.proofs.SectionLines.{uncounted, counted}
-use borrow.Author.Rules.{rules}
 use Rattle.problem.proofs.sections.read_section.Goals as goal
 
 pub symbol_lines-requires : goal.symbol_lines-requires

@@ -1,8 +1,7 @@
-use borrow.Author.Rules.{rules}
 use Prim.Native.Nat.{◌-◌}
 use native.Mathlib.Omega.{arith}
 use Rattle.syntax.specs.Signatures.{kind_of}
-use Rattle.problem.proofs.SectionLines.{Reached, begins, turn, faults, ends}
+use Rattle.problem.proofs.SectionLines.{begins, turn, faults, ends}
 use Rattle.problem.proofs.sections.symbol_lines.Goals as goal
 
 pub loop-i-init : goal.loop-i-init

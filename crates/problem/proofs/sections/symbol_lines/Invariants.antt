@@ -1,9 +1,6 @@
-
-use borrow.Author.Rules.{rules}
 use Prim.Native.Nat.{◌-◌}
-use native.Mathlib.Omega.{arith}
 use Rattle.syntax.specs.Signatures.{kind_of}
-use Rattle.problem.proofs.SectionLines.{Reached, begins, turn, faults, ends}
+use Rattle.problem.proofs.SectionLines.{Reached}
 use Rattle.problem.proofs.sections.symbol_lines.Given as goal
 
 -- `symbol_lines` reads one symbol line after the other.

@@ -5,7 +5,6 @@ use Rattle.syntax.specs.Signatures.{signature_in}
 use Rattle.problem.specs.declared.lines.CountLine.TheVariants.{Read}
 use Rattle.problem.specs.Lines.{CountWithin}
 use Rattle.problem.proofs.Stages.{clauses-uncounted, clauses-counted}
-use borrow.Author.Rules.{rules}
 use Rattle.problem.proofs.sheet.clauses_from.Goals as goal
 
 pub count_line-requires : goal.count_line-requires

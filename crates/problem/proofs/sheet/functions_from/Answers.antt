@@ -11,7 +11,6 @@ use Rattle.problem.specs.Sections.{section_from, SectionRead}
 use Rattle.problem.specs.Stages.{functions_from}
 use Rattle.problem.proofs.SectionLines.{signature_in-none, readable-none}
 use Rattle.problem.proofs.Stages.{section-refused, section-answer, section-read, functions-added}
-use borrow.Author.Rules.{rules}
 use Rattle.problem.proofs.sheet.functions_from.Goals as goal
 
 pub read_section-f-requires : goal.read_section-f-requires

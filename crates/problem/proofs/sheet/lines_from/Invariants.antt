@@ -1,12 +1,6 @@
-
-use borrow.Author.Rules.{rules}
 use Prim.Native.Nat.{◌-◌}
-use mathlib.Core.Path.{sym, subst}
-use native.Mathlib.Omega.{arith}
-use lib.ListN.{drop}
 use Rattle.syntax.specs.Signatures.{signature_in}
-use Rattle.problem.specs.Stages.{ProblemRead, clause_lines_from}
-use Rattle.problem.proofs.ClauseTaking.{Taken, begins, turn, faults, bytes_left, all-taken}
+use Rattle.problem.proofs.ClauseTaking.{Taken}
 use Rattle.problem.proofs.sheet.lines_from.Given as goal
 
 -- `lines_from` reads one clause line after the other.

@@ -8,7 +8,6 @@ use Rattle.syntax.specs.Signatures.{signature_in}
 use Rattle.problem.specs.Sections.{section_from}
 use Rattle.problem.specs.Stages.{predicates_from}
 use Rattle.problem.proofs.Stages.{section-refused, section-answer, section-read, predicates-added}
-use borrow.Author.Rules.{rules}
 use Rattle.problem.proofs.sheet.predicates_from.Goals as goal
 
 pub read_section-p-requires : goal.read_section-p-requires

@@ -6,7 +6,6 @@ use Rattle.text.proofs.Part.{length_part}
 use Rattle.problem.specs.Lines.{KeyRead}
 use Rattle.problem.proofs.ClauseTaking.{reading-refused}
 use Rattle.problem.proofs.WholeSheet.{sheet-long, sheet-unkeyed, sheet-longer, sheet-begun, begun}
-use borrow.Author.Rules.{rules}
 use Rattle.problem.proofs.sheet.read_lines.Goals as goal
 
 pub returns-then-sheet-gt-MAX_BYTES : goal.returns-then-sheet-gt-MAX_BYTES

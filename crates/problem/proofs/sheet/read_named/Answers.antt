@@ -1,7 +1,6 @@
 -- `read_named` reads the lines with the limits of the mode, then finds the terms to name.
 use Rattle.problem.proofs.WholeSheet.{lines-named}
 use Rattle.problem.proofs.ModeProblem.{lines-refused, lines-taken}
-use borrow.Author.Rules.{rules}
 use Rattle.problem.proofs.sheet.read_named.Goals as goal
 
 pub returns-then-r-ne0 : goal.returns-then-r-ne0

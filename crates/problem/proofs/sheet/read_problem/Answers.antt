@@ -2,7 +2,6 @@
 use mathlib.Core.Path.{◌∙◌}
 use Rattle.problem.proofs.WholeSheet.{lines-plain}
 use Rattle.problem.proofs.PlainProblem.{plain-read}
-use borrow.Author.Rules.{rules}
 use Rattle.problem.proofs.sheet.read_problem.Goals as goal
 
 pub returns : goal.returns

@@ -5,7 +5,6 @@ use Rattle.problem.specs.declared.sheet.Reading.{Reading}
 use Rattle.problem.specs.Problems.{reading_of, Accepted}
 use Rattle.problem.proofs.ModeProblem.{mode-accepted, mode-read, mode-refused, functions-few}
 use mathlib.Core.Bool.{true}
-use borrow.Author.Rules.{rules}
 use Rattle.problem.proofs.sheet.with_names.Goals as goal
 
 pub returns-then-named : goal.returns-then-named

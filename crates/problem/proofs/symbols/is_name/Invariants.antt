@@ -1,12 +1,8 @@
-
-use borrow.Author.Rules.{rules}
 use Prim.Native.Nat.{◌≤◌, ◌-◌}
-use mathlib.Core.Path.{◌≡◌, sym, ◌∙◌}
+use mathlib.Core.Path.{◌≡◌}
 use lib.ListN.{length, drop}
-use borrow.Author.Tests.{not-true, not-false}
 use Rattle.theory.specs.Lists.{all}
 use Rattle.theory.specs.Problem.{is_name_byte, is_name}
-use Rattle.problem.proofs.NameBytes.{name-empty, name-long, name-begins-otherwise, name-begins, name-on, name-other, name-whole}
 use Rattle.problem.proofs.symbols.is_name.Given as goal
 
 -- `is_name` looks at one byte after the other.

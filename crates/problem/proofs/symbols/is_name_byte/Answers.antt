@@ -3,7 +3,6 @@ use mathlib.Core.Path.{◌≡◌, sym, ◌∙◌}
 use mathlib.Core.Bool.{true, false}
 use Rattle.theory.specs.Bytes.{is_digit}
 use Rattle.theory.specs.Problem.{is_lower}
-use borrow.Author.Rules.{rules}
 use Rattle.problem.proofs.symbols.is_name_byte.Goals as goal
 
 pub returns-then-is_lower : goal.returns-then-is_lower

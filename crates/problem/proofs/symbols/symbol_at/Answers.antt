@@ -1,14 +1,12 @@
 -- `symbol_at` looks at the last two bytes, the arity, the name.
 use mathlib.Core.Path.{sym, ◌∙◌}
 use native.Mathlib.Omega.{arith}
-use borrow.Author.Tests.{not-true, not-false}
 use Rattle.syntax.specs.Signatures.{signature_in}
 use Prim.Native.Nat.{◌+◌, ◌-◌}
 use lib.ListN.{get_or}
 use Rattle.text.specs.Lines.{part}
 use Rattle.text.proofs.Counts.{digit-from}
 use Rattle.problem.proofs.Declaring.{digit-below, value-short, value-unslashed, value-undigited, arity-over, name-bad, name-repeated, symbol-declared, name-found, name-not-found}
-use borrow.Author.Rules.{rules}
 use Rattle.problem.proofs.symbols.symbol_at.Goals as goal
 
 pub returns-then-end-from-lt2 : goal.returns-then-end-from-lt2

@@ -3,7 +3,6 @@ use Rattle.syntax.specs.Signatures.{kind_of, signature_in}
 use Rattle.problem.specs.declared.lines.KeyLine.TheVariants.{Value}
 use Rattle.problem.specs.Lines.{ValueWithin}
 use Rattle.problem.proofs.SymbolLines.{symbol-unkeyed, symbol-keyed}
-use borrow.Author.Rules.{rules}
 use Rattle.problem.proofs.symbols.symbol_line.Goals as goal
 
 pub symbol_at-requires : goal.symbol_at-requires

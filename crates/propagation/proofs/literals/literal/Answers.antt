@@ -1,5 +1,4 @@
 -- `literals::literal` meets its contract.
-use borrow.Author.Rules.{rules}
 use native.Mathlib.Omega.{arith}
 use Rattle.propagation.proofs.literals.literal.Goals as goal
 

@@ -1,7 +1,6 @@
 -- `literals::negated` meets its contract.
 use mathlib.Core.Path.{refl}
 use borrow.Author.Tests.{eq-eqb, ne_eqb}
-use borrow.Author.Rules.{rules}
 use Rattle.propagation.proofs.literals.negated.Goals as goal
 
 pub returns-then-literal-eq0 : goal.returns-then-literal-eq0

@@ -2,7 +2,6 @@
 use mathlib.Core.Path.{refl}
 use native.Mathlib.Omega.{arith}
 use lib.ListN.{length-set}
-use borrow.Author.Rules.{rules}
 use Rattle.propagation.proofs.units.push.Goals as goal
 
 pub bounds-work-v : goal.bounds-work-v

@@ -2,7 +2,7 @@ use mathlib.Core.Path.{◌≡◌, refl}
 use Prim.Native.Nat.{◌-◌}
 use native.Mathlib.Omega.{arith}
 use lib.ListN.{length}
-use Rattle.propagation.proofs.Scans.{visitable, Scanning, scanning-length, scanning-turn, scanning-stop, scanning-done}
+use Rattle.propagation.proofs.Scans.{visitable, scanning-length, scanning-turn, scanning-stop, scanning-done}
 use Rattle.propagation.proofs.units.scan.Goals as goal
 use Rattle.propagation.proofs.units.scan.Goals.{After-visit-seen}
 

@@ -1,9 +1,5 @@
-
-use mathlib.Core.Path.{◌≡◌, refl}
 use Prim.Native.Nat.{◌-◌}
-use native.Mathlib.Omega.{arith}
-use lib.ListN.{length}
-use Rattle.propagation.proofs.Scans.{visitable, Scanning, scanning-length, scanning-turn, scanning-stop, scanning-done}
+use Rattle.propagation.proofs.Scans.{Scanning}
 use Rattle.propagation.proofs.units.scan.Given as goal
 
 -- `units::scan` meets its contract. The invariant of its loop: the scan of what is left gives what the contract says.

@@ -1,10 +1,6 @@
-
-use mathlib.Core.Path.{refl}
-use Prim.Native.Nat.{◌-◌, ◌<◌}
-use native.Mathlib.Omega.{arith}
-use lib.ListN.{length, get_or}
+use Prim.Native.Nat.{◌-◌}
 use Rattle.propagation.specs.Weights.{less, AtLeast}
-use Rattle.propagation.proofs.Addresses.{Changing, first-within, changing-turn, changing-done}
+use Rattle.propagation.proofs.Addresses.{Changing}
 use Rattle.propagation.proofs.weights.lower.Given as goal
 
 -- `weights::lower` meets its contract. The invariant of its loop: what is left to lower, lowered, is what the contract says.

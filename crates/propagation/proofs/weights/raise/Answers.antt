@@ -3,7 +3,7 @@ use Prim.Native.Nat.{◌-◌, ◌<◌}
 use native.Mathlib.Omega.{arith}
 use lib.ListN.{length, get_or}
 use Rattle.propagation.specs.Weights.{more, RoomFor}
-use Rattle.propagation.proofs.Addresses.{Changing, first-within, changing-turn, changing-done}
+use Rattle.propagation.proofs.Addresses.{first-within, changing-turn, changing-done}
 use Rattle.propagation.proofs.weights.raise.Goals as goal
 use Rattle.propagation.proofs.weights.raise.Goals.{In-loop-place}
 

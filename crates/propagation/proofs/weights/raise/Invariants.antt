@@ -1,10 +1,6 @@
-
-use mathlib.Core.Path.{refl}
-use Prim.Native.Nat.{◌-◌, ◌<◌}
-use native.Mathlib.Omega.{arith}
-use lib.ListN.{length, get_or}
+use Prim.Native.Nat.{◌-◌}
 use Rattle.propagation.specs.Weights.{more, RoomFor}
-use Rattle.propagation.proofs.Addresses.{Changing, first-within, changing-turn, changing-done}
+use Rattle.propagation.proofs.Addresses.{Changing}
 use Rattle.propagation.proofs.weights.raise.Given as goal
 
 -- `weights::raise` meets its contract. The invariant of its loop: what is left to raise, raised, is what the contract says.

@@ -1,12 +1,11 @@
-use borrow.Author.Rules.{rules}
-use Prim.Native.Nat.{ℕ, ◌+◌, ◌-◌, ◌<◌}
+use Prim.Native.Nat.{◌+◌, ◌-◌}
 use mathlib.Core.Path.{sym, ◌∙◌}
-use mathlib.Core.List.{List, []}
+use mathlib.Core.List.{[]}
 use native.Mathlib.Omega.{arith}
 use Rattle.renumbering.specs.Renumbering.{renumbered}
 use Rattle.syntax.specs.Signatures.{signature_in}
 use Rattle.rearranging.specs.Entries.{rearrangement_in}
-use Rattle.rearranging.proofs.Walking.{Walked, none-walked, passed_over, gone-through, all-walked, still-lent, whole-rearrangement, one-candidate, all-continued, next-count, begun-on, gone-on}
+use Rattle.rearranging.proofs.Walking.{none-walked, passed_over, gone-through, all-walked, still-lent, whole-rearrangement, one-candidate, all-continued, next-count, begun-on, gone-on}
 use Rattle.rearranging.proofs.all.+take_all.Goals as goal
 
 pub take_renumbered-requires : goal.take_renumbered-requires

@@ -1,13 +1,9 @@
-
-use borrow.Author.Rules.{rules}
-use Prim.Native.Nat.{ℕ, ◌+◌, ◌-◌, ◌<◌}
-use mathlib.Core.Path.{sym, ◌∙◌}
-use mathlib.Core.List.{List, []}
-use native.Mathlib.Omega.{arith}
+use Prim.Native.Nat.{ℕ, ◌+◌, ◌-◌}
+use mathlib.Core.List.{List}
 use Rattle.renumbering.specs.Renumbering.{renumbered}
 use Rattle.syntax.specs.Signatures.{signature_in}
 use Rattle.rearranging.specs.Entries.{rearrangement_in}
-use Rattle.rearranging.proofs.Walking.{Walked, none-walked, passed_over, gone-through, all-walked, still-lent, whole-rearrangement, one-candidate, all-continued, next-count, begun-on, gone-on}
+use Rattle.rearranging.proofs.Walking.{Walked}
 use Rattle.rearranging.proofs.all.+take_all.Given as goal
 
 abbrev pub decreases-take_all : goal.decreases-take_all

@@ -1,16 +1,7 @@
-
-use borrow.Author.Rules.{rules}
-use mathlib.Core.Path.{◌≡◌, sym, ◌∙◌, subst}
-use native.Mathlib.Omega.{arith}
-use Rattle.rearranging.specs.declared.standing.Standing.{Standing}
-use Rattle.rearranging.specs.declared.standing.Standing.TheVariants.{After}
-use Rattle.rearranging.specs.Keeping.{CandidateTaken}
-use Rattle.rearranging.specs.Candidates.{part_of}
-use Rattle.rearranging.proofs.Keeping.{after-only, after-taken}
-use Prim.Native.Nat.{ℕ, ◌-◌, ◌<◌}
+use Prim.Native.Nat.{◌-◌}
 use Rattle.syntax.specs.Signatures.{kind_of}
 use Rattle.rearranging.specs.Entries.{rearrangement_in}
-use Rattle.rearranging.proofs.Parts.{PartsTaken, length_part, none-parts, one_cell, source-last, target-last, value-below, source_fits, next-room, next-lent, next-taken, all-next}
+use Rattle.rearranging.proofs.Parts.{PartsTaken}
 use Rattle.rearranging.proofs.candidates.+take_part.Given as goal
 
 abbrev pub decreases-take_part : goal.decreases-take_part

@@ -1,5 +1,4 @@
 -- `renamed` meets its contract.
-use borrow.Author.Rules.{rules}
 use mathlib.Core.Path.{sym, ap, ◌∙◌}
 use mathlib.Core.Bool.{Bool}
 use Rattle.renumbering.specs.Renumbering.{new_value}

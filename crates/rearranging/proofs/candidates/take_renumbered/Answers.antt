@@ -1,11 +1,10 @@
-use borrow.Author.Rules.{rules}
-use Prim.Native.Nat.{ℕ, ◌-◌, ◌≤◌}
-use mathlib.Core.List.{List, []}
+use Prim.Native.Nat.{◌-◌}
+use mathlib.Core.List.{[]}
 use native.Mathlib.Omega.{arith}
 use Rattle.syntax.specs.Signatures.{signature_in}
 use Rattle.clauses.proofs.Held.{arity-at}
 use Rattle.rearranging.specs.Entries.{rearrangement_in}
-use Rattle.rearranging.proofs.Symbols.{SymbolsTaken, no-symbols, table-lent, table_taken, whole-taken}
+use Rattle.rearranging.proofs.Symbols.{no-symbols, table-lent, table_taken, whole-taken}
 use Rattle.rearranging.proofs.candidates.take_renumbered.Goals as goal
 
 pub loop-i-init : goal.loop-i-init

@@ -1,12 +1,8 @@
-
-use borrow.Author.Rules.{rules}
 use Prim.Native.Nat.{ℕ, ◌-◌, ◌≤◌}
-use mathlib.Core.List.{List, []}
-use native.Mathlib.Omega.{arith}
+use mathlib.Core.List.{List}
 use Rattle.syntax.specs.Signatures.{signature_in}
-use Rattle.clauses.proofs.Held.{arity-at}
 use Rattle.rearranging.specs.Entries.{rearrangement_in}
-use Rattle.rearranging.proofs.Symbols.{SymbolsTaken, no-symbols, table-lent, table_taken, whole-taken}
+use Rattle.rearranging.proofs.Symbols.{SymbolsTaken}
 use Rattle.rearranging.proofs.candidates.take_renumbered.Given as goal
 
 -- `take_renumbered` meets its contract: the tables of the symbols before i are taken.

@@ -1,10 +1,8 @@
-use borrow.Author.Rules.{rules}
 use Prim.Native.Nat.{◌-◌}
-use mathlib.Core.Path.{◌≡◌, sym, ◌∙◌}
+use mathlib.Core.Path.{sym, ◌∙◌}
 use native.Mathlib.Omega.{arith}
-use lib.ListN.{length}
 use Rattle.theory.proofs.Tests.{both_false}
-use Rattle.rearranging.proofs.Listing.{ListedTo, none-listed, other_length, byte-zero, too_large, counted, one-listed, entries-listed, decided}
+use Rattle.rearranging.proofs.Listing.{none-listed, other_length, byte-zero, too_large, counted, one-listed, entries-listed, decided}
 use Rattle.rearranging.proofs.lists.read_list.Goals as goal
 
 pub returns-then-list-size : goal.returns-then-list-size

@@ -1,11 +1,7 @@
-
-use borrow.Author.Rules.{rules}
 use Prim.Native.Nat.{◌-◌}
-use mathlib.Core.Path.{◌≡◌, sym, ◌∙◌}
-use native.Mathlib.Omega.{arith}
+use mathlib.Core.Path.{◌≡◌}
 use lib.ListN.{length}
-use Rattle.theory.proofs.Tests.{both_false}
-use Rattle.rearranging.proofs.Listing.{ListedTo, none-listed, other_length, byte-zero, too_large, counted, one-listed, entries-listed, decided}
+use Rattle.rearranging.proofs.Listing.{ListedTo}
 use Rattle.rearranging.proofs.lists.read_list.Given as goal
 
 -- `read_list` meets its contract: the bytes before i are read.

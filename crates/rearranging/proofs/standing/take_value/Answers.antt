@@ -1,5 +1,4 @@
 -- `take_value` meets its contract.
-use borrow.Author.Rules.{rules}
 use mathlib.Core.Path.{◌≡◌, sym, ap, ◌∙◌}
 use lib.ListN.{get_or, set}
 use lib.Seq.{set-get_or}

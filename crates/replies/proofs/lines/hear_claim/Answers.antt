@@ -1,5 +1,4 @@
 -- `hear_claim`: the three cases of an s line.
-use borrow.Author.Rules.{rules}
 use Rattle.replies.proofs.LinesHeard.{says-model, says_none, says_nothing}
 use mathlib.Core.Path.{sym, ◌∙◌}
 use Rattle.replies.proofs.lines.hear_claim.Goals as goal

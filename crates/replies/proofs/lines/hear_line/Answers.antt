@@ -1,5 +1,4 @@
 -- `hear_line`: a comment changes nothing.
-use borrow.Author.Rules.{rules}
 use mathlib.Core.Path.{◌∙◌}
 use Rattle.replies.proofs.LinesHeard.{ignored, not-ignored}
 use Rattle.replies.proofs.lines.hear_line.Goals as goal

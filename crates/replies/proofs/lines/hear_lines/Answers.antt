@@ -1,9 +1,7 @@
 use borrow.Author.Rules.{rules}
 use Prim.Native.Nat.{◌-◌}
-use mathlib.Core.Path.{◌≡◌, refl}
-use lib.ListN.{length}
-use Rattle.replies.specs.Hearing.{values_in}
-use Rattle.replies.proofs.LinesHeard.{LinesTo, begins, unended, one_more, ends}
+use mathlib.Core.Path.{refl}
+use Rattle.replies.proofs.LinesHeard.{begins, unended, one_more, ends}
 use Rattle.replies.proofs.lines.hear_lines.Goals as goal
 
 pub loop-at-init : goal.loop-at-init

@@ -1,10 +1,8 @@
-
-use borrow.Author.Rules.{rules}
 use Prim.Native.Nat.{◌-◌}
-use mathlib.Core.Path.{◌≡◌, refl}
+use mathlib.Core.Path.{◌≡◌}
 use lib.ListN.{length}
 use Rattle.replies.specs.Hearing.{values_in}
-use Rattle.replies.proofs.LinesHeard.{LinesTo, begins, unended, one_more, ends}
+use Rattle.replies.proofs.LinesHeard.{LinesTo}
 use Rattle.replies.proofs.lines.hear_lines.Given as goal
 
 -- `hear_lines`: line after line up to the text's end.

@@ -1,5 +1,4 @@
 -- `hear_said`: an s line is due first, then v lines.
-use borrow.Author.Rules.{rules}
 use mathlib.Core.Path.{◌∙◌}
 use Rattle.solver.specs.OnePass.{on_said}
 use Rattle.replies.proofs.StageMatches.{on-unanswered, on-refuted, on-listing, on-complete, on-fault}

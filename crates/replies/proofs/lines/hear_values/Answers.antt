@@ -1,5 +1,4 @@
 -- `hear_values`: the words behind `v `.
-use borrow.Author.Rules.{rules}
 use mathlib.Core.Path.{◌∙◌}
 use Rattle.theory.proofs.Tests.{false_of_not, true_of_not}
 use Rattle.replies.proofs.LinesHeard.{no-values, some-values}

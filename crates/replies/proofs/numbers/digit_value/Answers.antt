@@ -1,4 +1,3 @@
-use borrow.Author.Rules.{rules}
 use Rattle.solver.proofs.Decimals.{digit-is}
 use Rattle.replies.proofs.numbers.digit_value.Goals as goal
 

@@ -1,9 +1,7 @@
-use borrow.Author.Rules.{rules}
 use Prim.Native.Nat.{◌-◌}
 use mathlib.Core.Path.{sym, ◌∙◌}
 use native.Mathlib.Omega.{arith}
-use lib.ListN.{length}
-use Rattle.replies.proofs.Digits.{Read, no_word, leading-zero, begins, no_digit, above, goes_on, small-digit, ends}
+use Rattle.replies.proofs.Digits.{no_word, leading-zero, begins, no_digit, above, goes_on, small-digit, ends}
 use Rattle.theory.proofs.Tests.{false_of_not, true_of_not}
 use Rattle.replies.proofs.numbers.number_within.Goals as goal
 

@@ -1,4 +1,3 @@
-use borrow.Author.Rules.{rules}
 use mathlib.Core.Path.{◌∙◌}
 use Rattle.replies.proofs.Marks.{no_number, some_number}
 use Rattle.replies.proofs.words.hear_literal.Goals as goal

@@ -1,5 +1,4 @@
 -- `hear_number`: the 0, or a number after its sign.
-use borrow.Author.Rules.{rules}
 use mathlib.Core.Path.{sym, ◌∙◌}
 use Rattle.replies.proofs.NumbersHeard.{within-most, last-number, negative-number, positive-number}
 use Rattle.replies.proofs.words.hear_number.Goals as goal

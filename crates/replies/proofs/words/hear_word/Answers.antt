@@ -1,5 +1,4 @@
 -- `hear_word`: a word is due among the numbers only.
-use borrow.Author.Rules.{rules}
 use mathlib.Core.Path.{◌∙◌}
 use Rattle.solver.specs.OnePass.{on_word}
 use Rattle.replies.proofs.StageMatches.{on-unanswered, on-refuted, on-listing, on-complete, on-fault}

@@ -1,9 +1,7 @@
 use borrow.Author.Rules.{rules}
-use Prim.Native.Nat.{◌+◌, ◌-◌}
-use mathlib.Core.Path.{◌≡◌, refl}
-use lib.ListN.{length}
-use Rattle.replies.specs.Hearing.{values_in}
-use Rattle.replies.proofs.WordsHeard.{HeardTo, begins, one_more, ends}
+use Prim.Native.Nat.{◌-◌}
+use mathlib.Core.Path.{refl}
+use Rattle.replies.proofs.WordsHeard.{begins, one_more, ends}
 use Rattle.replies.proofs.words.hear_words.Goals as goal
 
 pub loop-at-init : goal.loop-at-init

@@ -1,10 +1,8 @@
-
-use borrow.Author.Rules.{rules}
 use Prim.Native.Nat.{◌+◌, ◌-◌}
-use mathlib.Core.Path.{◌≡◌, refl}
+use mathlib.Core.Path.{◌≡◌}
 use lib.ListN.{length}
 use Rattle.replies.specs.Hearing.{values_in}
-use Rattle.replies.proofs.WordsHeard.{HeardTo, begins, one_more, ends}
+use Rattle.replies.proofs.WordsHeard.{HeardTo}
 use Rattle.replies.proofs.words.hear_words.Given as goal
 
 -- `hear_words`: word after word up to the line's end.

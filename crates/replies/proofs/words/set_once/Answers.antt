@@ -1,5 +1,4 @@
 -- `set_once`: a mark below 2 is of a variable that is set.
-use borrow.Author.Rules.{rules}
 use mathlib.Core.Path.{◌∙◌}
 use Rattle.replies.proofs.Marks.{set_before, set-now}
 use Prim.Native.Nat.{ℕ}

@@ -1,7 +1,6 @@
 -- `arity_ahead` goes by the first token.
 use mathlib.Core.Path.{sym, ◌∙◌}
 use Rattle.scanning.proofs.Lookahead.{next-further, arity-none, arity-listed, arity-bare}
-use borrow.Author.Rules.{rules}
 use Rattle.scanning.proofs.ahead.arity_ahead.Goals as goal
 
 pub commas_ahead-requires : goal.commas_ahead-requires

@@ -1,9 +1,7 @@
-use borrow.Author.Rules.{rules}
 use Prim.Native.Nat.{◌-◌}
 use mathlib.Core.Path.{sym, ◌∙◌}
 use native.Mathlib.Omega.{arith}
-use lib.ListN.{length}
-use Rattle.scanning.proofs.Lookahead.{Counting, some-open, next-further, counting-begins, counting-ends, counting-open, counting-stop, counting-close, counting-inner, counting-comma, counting-other}
+use Rattle.scanning.proofs.Lookahead.{some-open, next-further, counting-begins, counting-ends, counting-open, counting-stop, counting-close, counting-inner, counting-comma, counting-other}
 use Rattle.scanning.proofs.ahead.commas_ahead.Goals as goal
 
 pub loop-kind-init : goal.loop-kind-init

@@ -1,9 +1,7 @@
-use borrow.Author.Rules.{rules}
 use Prim.Native.Nat.{◌-◌}
 use mathlib.Core.Path.{sym, ◌∙◌}
 use native.Mathlib.Omega.{arith}
-use lib.ListN.{length}
-use Rattle.scanning.proofs.Lookahead.{Relating, some-open, next-further, relating-begins, relating-ends, relating-open, relating-here, relating-close, relating-on}
+use Rattle.scanning.proofs.Lookahead.{some-open, next-further, relating-begins, relating-ends, relating-open, relating-here, relating-close, relating-on}
 use Rattle.scanning.proofs.ahead.relation_ahead.Goals as goal
 
 pub loop-kind-init : goal.loop-kind-init

@@ -1,10 +1,6 @@
-
-use borrow.Author.Rules.{rules}
 use Prim.Native.Nat.{◌-◌}
-use mathlib.Core.Path.{sym, ◌∙◌}
-use native.Mathlib.Omega.{arith}
 use lib.ListN.{length}
-use Rattle.scanning.proofs.Lookahead.{Relating, some-open, next-further, relating-begins, relating-ends, relating-open, relating-here, relating-close, relating-on}
+use Rattle.scanning.proofs.Lookahead.{Relating}
 use Rattle.scanning.proofs.ahead.relation_ahead.Given as goal
 
 -- `relation_ahead` looks at one token after the other, and counts the lists open before it.

@@ -1,5 +1,4 @@
 -- `relation_of` compares with = and with !=.
-use borrow.Author.Rules.{rules}
 use mathlib.Core.Path.{sym, ◌∙◌}
 use Rattle.tokens.specs.Pieces.{kind_in}
 use Rattle.scanning.proofs.Lookahead.{relation-equal, relation-unequal, relation-neither}

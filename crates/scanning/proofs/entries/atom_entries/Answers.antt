@@ -1,7 +1,6 @@
 -- `atom_entries` goes by the relation that follows.
 use mathlib.Core.Path.{sym, ap, ◌∙◌}
 use Rattle.scanning.specs.Ahead.{relation_in}
-use borrow.Author.Rules.{rules}
 use Rattle.scanning.proofs.entries.atom_entries.Goals as goal
 
 pub returns-in-Unrelated : goal.returns-in-Unrelated

@@ -1,5 +1,4 @@
 -- `entries_at` goes by the kind of the token, then by where it stands.
-use borrow.Author.Tests.{not-true, not-false}
 use mathlib.Core.Path.{sym, ap, ◌∙◌}
 use Rattle.tptp.specs.Scanning.{spot}
 use Rattle.tokens.specs.Pieces.{kind_in}
@@ -7,7 +6,6 @@ use Rattle.statements.specs.Dues.{due_token_in}
 use Rattle.scanning.specs.Ahead.{items_at}
 use Rattle.scanning.specs.Entries.{spot_in}
 use Rattle.scanning.proofs.Entering.{no-word-adds, elsewhere-adds, term-adds, atom-adds}
-use borrow.Author.Rules.{rules}
 use Rattle.scanning.proofs.entries.entries_at.Goals as goal
 
 pub returns-then-not-is_word : goal.returns-then-not-is_word

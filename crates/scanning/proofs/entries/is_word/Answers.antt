@@ -4,7 +4,6 @@ use mathlib.Core.Bool.{Bool, ◌||◌}
 use Rattle.tptp.specs.Tokens.{upper_word}
 use Rattle.tptp.specs.Scanning.{same_token_kind}
 use Rattle.tokens.specs.Pieces.{kind_in}
-use borrow.Author.Rules.{rules}
 use Rattle.scanning.proofs.entries.is_word.Goals as goal
 
 pub returns-then-is : goal.returns-then-is

@@ -1,6 +1,5 @@
 -- `named_word` goes by the kind.
 use mathlib.Core.Path.{sym, ◌∙◌}
-use borrow.Author.Rules.{rules}
 use Rattle.scanning.proofs.entries.named_word.Goals as goal
 
 pub returns-then-is : goal.returns-then-is

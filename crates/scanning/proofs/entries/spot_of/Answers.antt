@@ -1,5 +1,4 @@
 -- `spot_of` goes by what is due.
-use borrow.Author.Rules.{rules}
 use mathlib.Core.Bool.{true}
 use Rattle.scanning.proofs.entries.spot_of.Goals as goal
 

@@ -1,5 +1,4 @@
 use Rattle.scanning.proofs.Entering.{inner-spot, first-spot, second-spot}
-use borrow.Author.Rules.{rules}
 use Rattle.std.proofs.Common.{sym, ap, ◌∙◌}
 use Rattle.statements.specs.declared.due.Side.{Side}
 use Rattle.statements.specs.Dues.{side_in}

@@ -2,7 +2,6 @@
 use mathlib.Core.Path.{sym, ap, ◌∙◌}
 use Rattle.statements.specs.Dues.{due_token_in, after_in}
 use Rattle.scanning.proofs.NextTaken.{not-ended, stop-taken, not-misplaced, token-taken}
-use borrow.Author.Rules.{rules}
 use Rattle.scanning.proofs.taking.take_token.Goals as goal
 
 pub returns-then-is : goal.returns-then-is

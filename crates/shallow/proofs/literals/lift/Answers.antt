@@ -1,11 +1,8 @@
-use Prim.Native.Nat.{ℕ, ◌≤◌, ◌<◌, ◌-◌}
+use Prim.Native.Nat.{◌≤◌, ◌-◌}
 use mathlib.Core.Path.{◌≡◌, refl, sym, subst}
 use native.Mathlib.Omega.{arith}
-use lib.Dec.{eqb}
-use lib.ListN.{length, get_or}
+use lib.ListN.{length}
 use borrow.Author.Rules.{rules}
-use Rattle.theory.specs.Lists.{place_that}
-use Rattle.syntax.specs.Variables.{variables_in, place_or8}
 use Rattle.syntax.proofs.Clauses.{codes_below}
 use Rattle.shallow.specs.Flattenable.{Flattenable}
 use Rattle.shallow.proofs.Progress.{Progress, next-literal, literal-there, further, progress-more, progress_start, merged-flattenable, clause-lifted, own-few}
@@ -33,12 +30,12 @@ start-state-requires c = tt
 
 pub loop-state-init : goal.loop-state-init
 loop-state-init c = let v = c.variables_of-l in (
-      refl,
-      search rules,
-      search rules,
-      v.ensures.places,
-      λ s. subst (Progress s) (sym c.start-state.ensures) (progress_start s v.result.count v.ensures.count),
-    )
+  refl,
+  search rules,
+  search rules,
+  v.ensures.places,
+  λ s. subst (Progress s) (sym c.start-state.ensures) (progress_start s v.result.count v.ensures.count),
+)
 
 pub slice_bounds-lift_literal-end : goal.slice_bounds-lift_literal-end
 slice_bounds-lift_literal-end c = sym c.loop-state.invariant.1

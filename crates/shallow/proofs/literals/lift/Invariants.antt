@@ -1,15 +1,11 @@
-
-use Prim.Native.Nat.{ℕ, ◌≤◌, ◌<◌, ◌-◌}
-use mathlib.Core.Path.{◌≡◌, refl, sym, subst}
-use native.Mathlib.Omega.{arith}
+use Prim.Native.Nat.{ℕ, ◌<◌, ◌-◌}
+use mathlib.Core.Path.{◌≡◌}
 use lib.Dec.{eqb}
 use lib.ListN.{length, get_or}
-use borrow.Author.Rules.{rules}
 use Rattle.theory.specs.Lists.{place_that}
 use Rattle.syntax.specs.Variables.{variables_in, place_or8}
-use Rattle.syntax.proofs.Clauses.{codes_below}
 use Rattle.shallow.specs.Flattenable.{Flattenable}
-use Rattle.shallow.proofs.Progress.{Progress, next-literal, literal-there, further, progress-more, progress_start, merged-flattenable, clause-lifted, own-few}
+use Rattle.shallow.proofs.Progress.{Progress}
 use Rattle.shallow.proofs.literals.lift.Given as goal
 
 -- `lift` meets its contract: the literals before the place reached are made shallow.

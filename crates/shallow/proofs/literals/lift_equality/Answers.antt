@@ -4,7 +4,6 @@ use native.Mathlib.Omega.{arith}
 use Rattle.lifting.proofs.Steps.{before-end, inside, variable-term, letter-inside, function-inside, function-term, arguments-there}
 use Rattle.shallow.specs.Shallow.{EqualityMade}
 use Rattle.shallow.proofs.Equalities.{left_there, right_there, variables-made, turned-made}
-use borrow.Author.Rules.{rules}
 use Rattle.shallow.proofs.literals.lift_equality.Goals as goal
 
 -- `lift_equality` meets its contract.

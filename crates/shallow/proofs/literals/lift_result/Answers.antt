@@ -3,7 +3,6 @@ use native.Mathlib.Omega.{arith}
 use Rattle.lifting.proofs.Steps.{inside, function-inside, function-term, arguments-there}
 use Rattle.shallow.specs.Shallow.{EqualityMade}
 use Rattle.shallow.proofs.Equalities.{left_there, second-there, result-made}
-use borrow.Author.Rules.{rules}
 use Rattle.shallow.proofs.literals.lift_result.Goals as goal
 
 -- `lift_result` meets its contract.

@@ -1,9 +1,9 @@
-use Prim.Native.Nat.{◌-◌, ◌≤◌}
+use Prim.Native.Nat.{◌-◌}
 use native.Mathlib.Omega.{arith}
 use mathlib.Core.Path.{◌≡◌}
 use lib.ListN.{length}
 use borrow.Author.Rules.{rules}
-use Rattle.sheet_text.proofs.WordsBefore.{WordsMeasured, no_words, one_word, all_words}
+use Rattle.sheet_text.proofs.WordsBefore.{no_words, one_word, all_words}
 use Rattle.sheet_text.proofs.clause_lines.clause_line_length.Goals as goal
 
 pub loop-i-init : goal.loop-i-init

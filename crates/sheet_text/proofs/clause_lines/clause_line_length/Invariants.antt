@@ -1,10 +1,5 @@
-
 use Prim.Native.Nat.{◌-◌, ◌≤◌}
-use native.Mathlib.Omega.{arith}
-use mathlib.Core.Path.{◌≡◌}
-use lib.ListN.{length}
-use borrow.Author.Rules.{rules}
-use Rattle.sheet_text.proofs.WordsBefore.{WordsMeasured, no_words, one_word, all_words}
+use Rattle.sheet_text.proofs.WordsBefore.{WordsMeasured}
 use Rattle.sheet_text.proofs.clause_lines.clause_line_length.Given as goal
 
 -- `clause_line_length` meets its contract: n is the length of the line with the words before i.

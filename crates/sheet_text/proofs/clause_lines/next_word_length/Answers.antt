@@ -6,7 +6,6 @@ use Rattle.theory.specs.SheetText.{word_text}
 use Rattle.syntax.specs.Signatures.{signature_in}
 use Rattle.syntax.specs.Codes.{code_word}
 use Rattle.sheet_text.proofs.WordTexts.{spaced-first, spaced-other}
-use borrow.Author.Rules.{rules}
 use Rattle.sheet_text.proofs.clause_lines.next_word_length.Goals as goal
 
 pub returns-then-i-eq0 : goal.returns-then-i-eq0

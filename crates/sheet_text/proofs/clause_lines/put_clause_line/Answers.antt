@@ -1,11 +1,11 @@
-use Prim.Native.Nat.{◌+◌, ◌-◌, ◌≤◌}
+use Prim.Native.Nat.{◌-◌}
 use mathlib.Core.Path.{◌≡◌, refl, sym, ◌∙◌}
 use native.Mathlib.Omega.{arith}
 use lib.ListN.{length, length-set}
 use borrow.Author.Rules.{rules}
 use Rattle.syntax.specs.Signatures.{signature_in}
-use Rattle.text.specs.Put.{put, put-none}
-use Rattle.sheet_text.proofs.WordsBefore.{words_before, before-within, before-fits, one-more-written, all-written, writable-at}
+use Rattle.text.specs.Put.{put-none}
+use Rattle.sheet_text.proofs.WordsBefore.{before-within, before-fits, one-more-written, all-written, writable-at}
 use Rattle.sheet_text.proofs.clause_lines.put_clause_line.Goals as goal
 
 pub put_bytes-e-requires : goal.put_bytes-e-requires

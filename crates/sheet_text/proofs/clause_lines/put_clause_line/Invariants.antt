@@ -1,12 +1,9 @@
-
 use Prim.Native.Nat.{◌+◌, ◌-◌, ◌≤◌}
-use mathlib.Core.Path.{◌≡◌, refl, sym, ◌∙◌}
-use native.Mathlib.Omega.{arith}
-use lib.ListN.{length, length-set}
-use borrow.Author.Rules.{rules}
+use mathlib.Core.Path.{◌≡◌}
+use lib.ListN.{length}
 use Rattle.syntax.specs.Signatures.{signature_in}
-use Rattle.text.specs.Put.{put, put-none}
-use Rattle.sheet_text.proofs.WordsBefore.{words_before, before-within, before-fits, one-more-written, all-written, writable-at}
+use Rattle.text.specs.Put.{put}
+use Rattle.sheet_text.proofs.WordsBefore.{words_before}
 use Rattle.sheet_text.proofs.clause_lines.put_clause_line.Given as goal
 
 -- `put_clause_line` meets its contract: the words before i are written.

@@ -7,7 +7,6 @@ use Rattle.syntax.specs.Codes.{code_word}
 use Rattle.sheet_text.specs.Parts.{spaced}
 use Rattle.sheet_text.proofs.LinesWritten.{same_text}
 use Rattle.sheet_text.proofs.WordTexts.{spaced-first, spaced-other, spaced-written}
-use borrow.Author.Rules.{rules}
 use Rattle.sheet_text.proofs.clause_lines.put_next_word.Goals as goal
 
 -- `put_next_word` meets its contract.

@@ -10,7 +10,6 @@ use Rattle.clauses.proofs.Held.{blank}
 use Rattle.sheet_text.proofs.LinesWritten.{same_text}
 use Rattle.sheet_text.proofs.Symbols.{named-at}
 use Rattle.sheet_text.proofs.WordTexts.{name-word, byte-code, byte_word, byte-written}
-use borrow.Author.Rules.{rules}
 use Rattle.sheet_text.proofs.clause_lines.put_word.Goals as goal
 
 pub put_name-requires : goal.put_name-requires

@@ -2,7 +2,6 @@
 use Rattle.sheet_text.proofs.Symbols.{short-at}
 use Rattle.sheet_text.proofs.WordTexts.{name-word-length, byte-word-length}
 use native.Mathlib.Omega.{arith}
-use borrow.Author.Rules.{rules}
 use Rattle.sheet_text.proofs.clause_lines.word_length.Goals as goal
 
 pub returns-then-place-signature : goal.returns-then-place-signature

@@ -2,7 +2,6 @@
 use native.Mathlib.Omega.{arith}
 use Rattle.theory.specs.Bytes.{bytes}
 use Rattle.sheet_text.proofs.HeadParts.{count-line-short, head-length}
-use borrow.Author.Rules.{rules}
 use Rattle.sheet_text.proofs.head.head_length.Goals as goal
 
 pub count_line_length-requires : goal.count_line_length-requires

@@ -2,7 +2,6 @@
 use Prim.Native.Nat.{◌-◌}
 use native.Mathlib.Omega.{arith}
 use Rattle.sheet_text.proofs.HeadParts.{count-line-short, kind-length}
-use borrow.Author.Rules.{rules}
 use Rattle.sheet_text.proofs.head.kind_length.Goals as goal
 
 pub count_line_length-requires : goal.count_line_length-requires

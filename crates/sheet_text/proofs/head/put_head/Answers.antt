@@ -2,7 +2,6 @@
 use native.Mathlib.Omega.{arith}
 use Rattle.sheet_text.proofs.HeadParts.{head-length, head-written}
 use mathlib.Core.Path.{◌∙◌}
-use borrow.Author.Rules.{rules}
 use Rattle.sheet_text.proofs.head.put_head.Goals as goal
 
 pub put_bytes-first-requires : goal.put_bytes-first-requires

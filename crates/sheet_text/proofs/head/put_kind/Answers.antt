@@ -1,7 +1,6 @@
 -- `put_kind` meets its contract.
 use native.Mathlib.Omega.{arith}
 use Rattle.sheet_text.proofs.HeadParts.{kind-length, kind-written}
-use borrow.Author.Rules.{rules}
 use Rattle.sheet_text.proofs.head.put_kind.Goals as goal
 
 pub put_count_line-first-requires : goal.put_count_line-first-requires

@@ -1,13 +1,8 @@
-
 use Prim.Native.Nat.{◌+◌, ◌-◌, ◌≤◌}
-use mathlib.Core.Path.{◌≡◌, refl, sym, ap, ◌∙◌}
-use native.Mathlib.Omega.{arith}
+use mathlib.Core.Path.{◌≡◌}
 use lib.ListN.{length}
-use borrow.Author.Rules.{rules}
-use Rattle.text.specs.Put.{put, put-none}
-use Rattle.sheet_text.proofs.Symbols.{named-at}
-use Rattle.sheet_text.proofs.LinesWritten.{same_text}
-use Rattle.sheet_text.proofs.SymbolLines.{lines_of, lines_none, lines_fit, line-more-written}
+use Rattle.text.specs.Put.{put}
+use Rattle.sheet_text.proofs.SymbolLines.{lines_of}
 use Rattle.sheet_text.proofs.head.put_symbol_lines.Given as goal
 
 -- `put_symbol_lines` meets its contract: the lines of the symbols before i are written.

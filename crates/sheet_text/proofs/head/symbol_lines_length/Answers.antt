@@ -1,9 +1,8 @@
-use Prim.Native.Nat.{◌-◌, ◌≤◌}
+use Prim.Native.Nat.{◌-◌}
 use native.Mathlib.Omega.{arith}
 use mathlib.Core.Path.{◌≡◌}
-use borrow.Author.Rules.{rules}
 use Rattle.sheet_text.proofs.Symbols.{short-at}
-use Rattle.sheet_text.proofs.SymbolLines.{LinesMeasured, no_lines, one_line}
+use Rattle.sheet_text.proofs.SymbolLines.{no_lines, one_line}
 use Rattle.sheet_text.proofs.head.symbol_lines_length.Goals as goal
 
 pub loop-i-init : goal.loop-i-init

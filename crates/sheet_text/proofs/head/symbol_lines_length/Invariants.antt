@@ -1,10 +1,5 @@
-
 use Prim.Native.Nat.{◌-◌, ◌≤◌}
-use native.Mathlib.Omega.{arith}
-use mathlib.Core.Path.{◌≡◌}
-use borrow.Author.Rules.{rules}
-use Rattle.sheet_text.proofs.Symbols.{short-at}
-use Rattle.sheet_text.proofs.SymbolLines.{LinesMeasured, no_lines, one_line}
+use Rattle.sheet_text.proofs.SymbolLines.{LinesMeasured}
 use Rattle.sheet_text.proofs.head.symbol_lines_length.Given as goal
 
 -- `symbol_lines_length` meets its contract: n is the length of the lines of the symbols before i.

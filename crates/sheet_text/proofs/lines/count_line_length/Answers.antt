@@ -2,7 +2,6 @@
 use native.Mathlib.Omega.{arith}
 use Rattle.theory.specs.Bytes.{decimal}
 use Rattle.sheet_text.proofs.LinesWritten.{line-length}
-use borrow.Author.Rules.{rules}
 use Rattle.sheet_text.proofs.lines.count_line_length.Goals as goal
 
 pub overflow_add-result : goal.overflow_add-result

@@ -6,7 +6,6 @@ use lib.ListN.{length, take, drop}
 use Rattle.syntax.specs.Signatures.{symbol_in}
 use Rattle.syntax.proofs.NamesLent.{name-lent}
 use Rattle.sheet_text.proofs.LinesWritten.{same_text}
-use borrow.Author.Rules.{rules}
 use Rattle.sheet_text.proofs.lines.put_name.Goals as goal
 
 pub put_bytes-requires : goal.put_bytes-requires

@@ -1,7 +1,6 @@
 use native.Mathlib.Omega.{arith}
 use lib.ListN.{length-set}
 use Rattle.sheet_text.proofs.LinesWritten.{symbol-length, symbol-written}
-use borrow.Author.Rules.{rules}
 use Rattle.sheet_text.proofs.lines.put_symbol.Goals as goal
 
 -- `put_symbol` meets its contract.

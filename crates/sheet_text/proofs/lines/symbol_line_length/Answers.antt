@@ -4,7 +4,6 @@ use Rattle.theory.specs.SheetText.{symbol_text}
 use Rattle.syntax.specs.Signatures.{symbol_in}
 use Rattle.syntax.proofs.NamesLent.{name-length}
 use Rattle.sheet_text.proofs.LinesWritten.{line-length, symbol-length}
-use borrow.Author.Rules.{rules}
 use Rattle.sheet_text.proofs.lines.symbol_line_length.Goals as goal
 
 pub returns : goal.returns

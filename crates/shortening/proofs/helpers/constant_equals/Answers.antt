@@ -13,7 +13,6 @@ use Rattle.clauses.specs.Words.{is_fixed_code}
 use Rattle.clauses.specs.Clauses.{Passed}
 use Rattle.clauses.proofs.Passing.{passed-bounded}
 use Rattle.clauses.proofs.Going.{passed_none}
-use borrow.Author.Rules.{rules}
 use Rattle.shortening.proofs.helpers.constant_equals.Goals as goal
 
 pub with_code-plus-requires : goal.with_code-plus-requires

@@ -1,12 +1,11 @@
-use Prim.Native.Nat.{◌+◌, ◌-◌}
+use Prim.Native.Nat.{◌-◌}
 use native.Mathlib.Omega.{arith}
 use Rattle.theory.specs.Grammar.{clause_words}
 use Rattle.syntax.specs.Signatures.{signature_in}
 use Rattle.clauses.proofs.Held.{count-signature_in}
 use Rattle.naming.specs.FixedTerms.{helper_clause}
 use Rattle.shortening.specs.Tables.{term_at}
-use Rattle.shortening.proofs.HelperWalk.{ReadTo, begins, words-bounded, ends, code-there, goes_on, overlong}
-use borrow.Author.Rules.{rules}
+use Rattle.shortening.proofs.HelperWalk.{begins, words-bounded, ends, code-there, goes_on, overlong}
 use Rattle.shortening.proofs.helpers.helper_words.Goals as goal
 
 pub loop-at-init : goal.loop-at-init

@@ -1,9 +1,8 @@
-use Prim.Native.Nat.{ℕ, ◌-◌, ◌≤◌}
+use Prim.Native.Nat.{ℕ, ◌-◌}
 use mathlib.Core.Path.{◌≡◌, subst}
 use native.Mathlib.Omega.{arith}
 use Rattle.shortening.specs.HelperWords.{HelpersBehind}
 use Rattle.shortening.proofs.HelperSymbols.{none-behind, one-behind}
-use borrow.Author.Rules.{rules}
 use Rattle.shortening.proofs.helpers.with_helpers.Goals as goal
 
 pub loop-i-init : goal.loop-i-init

@@ -1,10 +1,5 @@
-
-use Prim.Native.Nat.{ℕ, ◌-◌, ◌≤◌}
-use mathlib.Core.Path.{◌≡◌, subst}
-use native.Mathlib.Omega.{arith}
+use Prim.Native.Nat.{◌-◌, ◌≤◌}
 use Rattle.shortening.specs.HelperWords.{HelpersBehind}
-use Rattle.shortening.proofs.HelperSymbols.{none-behind, one-behind}
-use borrow.Author.Rules.{rules}
 use Rattle.shortening.proofs.helpers.with_helpers.Given as goal
 
 -- `with_helpers` puts one helper after the other behind the symbols.

@@ -1,9 +1,8 @@
-use Prim.Native.Nat.{ℕ, ◌+◌, ◌-◌, ◌≤◌}
-use mathlib.Core.Path.{◌≡◌, sym, ap, ◌∙◌, subst}
+use Prim.Native.Nat.{ℕ, ◌+◌, ◌-◌}
+use mathlib.Core.Path.{sym, ap, ◌∙◌, subst}
 use mathlib.Core.Bool.{Bool, ◌&&◌}
 use native.Mathlib.Omega.{arith}
 use lib.ListN.{length, get_or, drop}
-use borrow.Author.Tests.{not-true, not-false}
 use Rattle.theory.specs.Lists as lists
 use Rattle.theory.specs.Grammar.{clause_words}
 use Rattle.syntax.specs.Signatures.{signature_in}
@@ -14,7 +13,6 @@ use Rattle.shortening.specs.Tables.{no_span, term_at, terms_in}
 use Rattle.shortening.specs.HelperWords.{WordsTo}
 use Rattle.shortening.proofs.HelperSymbols.{limited-behind}
 use Rattle.shortening.proofs.Measuring.{next-helper, helper-measured, no-helper, all-helpers}
-use borrow.Author.Rules.{rules}
 use Rattle.shortening.proofs.limits.helpers_fit.Goals as goal
 
 pub loop-i-init : goal.loop-i-init

@@ -1,14 +1,12 @@
 -- `is_within` measures the shortened clause, then the helpers' own.
 use mathlib.Core.Path.{refl, sym, ◌∙◌}
 use native.Mathlib.Omega.{arith}
-use borrow.Author.Tests.{not-true, not-false}
 use Rattle.syntax.specs.Signatures.{signature_in}
 use Rattle.clauses.proofs.Held.{count-signature_in}
 use Rattle.naming.specs.NamedReading.{max_helpers}
 use Rattle.shortening.proofs.NamedTable.{none-there}
 use Rattle.shortening.proofs.HelperSymbols.{limited-behind}
 use Rattle.shortening.proofs.Measuring.{over-full, short-measured, over-short, terms-there, helpers-decide}
-use borrow.Author.Rules.{rules}
 use Rattle.shortening.proofs.limits.is_within.Goals as goal
 
 pub shorten-line-requires : goal.shorten-line-requires

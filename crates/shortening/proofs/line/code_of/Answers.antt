@@ -2,8 +2,6 @@ use mathlib.Core.Path.{subst}
 use Rattle.syntax.specs.Signatures.{signature_in}
 use Rattle.clauses.specs.Words.{WordRead}
 use Rattle.shortening.proofs.LineWords.{code-known, code-unknown}
-use borrow.Author.Rules.{rules}
-
 use Rattle.shortening.proofs.line.code_of.Goals as goal
 
 -- src/line.rt:31:1

@@ -1,7 +1,5 @@
 -- src/line.rt:23:29
 use Rattle.shortening.proofs.LineWords.{next_word}
-use borrow.Author.Rules.{rules}
-
 use Rattle.shortening.proofs.line.next_word.Goals as goal
 
 -- src/line.rt:19:1

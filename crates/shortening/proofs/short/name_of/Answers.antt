@@ -2,7 +2,6 @@
 use mathlib.Core.Path.{refl}
 use native.Mathlib.Omega.{arith}
 use Rattle.shortening.proofs.NamesGiven.{old-given, none-given, new-given}
-use borrow.Author.Rules.{rules}
 use Rattle.shortening.proofs.short.name_of.Goals as goal
 
 pub returns-then-place-terms : goal.returns-then-place-terms

@@ -3,7 +3,6 @@ use mathlib.Core.Path.{◌≡◌, sym, ap, ◌∙◌, subst}
 use mathlib.Core.Bool.{true}
 use Prim.Native.Nat.{ℕ}
 use native.Mathlib.Omega.{arith}
-use borrow.Author.Tests.{not-true, not-false}
 use Rattle.syntax.specs.Signatures.{signature_in}
 use Rattle.syntax.specs.Codes.{code_word}
 use Rattle.clauses.specs.Words.{is_code}
@@ -12,7 +11,6 @@ use Rattle.clauses.proofs.Held.{count-signature_in}
 use Rattle.shortening.specs.FixedEnds.{EndOf}
 use Rattle.shortening.specs.ShortLines.{NameGiven}
 use Rattle.shortening.proofs.ShortSteps.{coded-here, closed-step, term-here, varying-step, span-within, span-there, named_step}
-use borrow.Author.Rules.{rules}
 use Rattle.shortening.proofs.short.short_word.Goals as goal
 
 pub opens_term-requires : goal.opens_term-requires

@@ -1,11 +1,10 @@
-use Prim.Native.Nat.{◌+◌, ◌-◌}
+use Prim.Native.Nat.{◌-◌}
 use mathlib.Core.Path.{sym, subst}
 use native.Mathlib.Omega.{arith}
 use Rattle.syntax.specs.Signatures.{signature_in}
 use Rattle.clauses.proofs.Held.{count-signature_in}
-use Rattle.shortening.specs.ShortLines.{LineClause, RoomFor, Shortened}
-use Rattle.shortening.proofs.ShortWalk.{ShortTo, begins, words-bounded, ends, overflows, code-there, goes_on, overlong, answer-full, answer-long, answer-whole}
-use borrow.Author.Rules.{rules}
+use Rattle.shortening.specs.ShortLines.{RoomFor, Shortened}
+use Rattle.shortening.proofs.ShortWalk.{begins, words-bounded, ends, overflows, code-there, goes_on, overlong, answer-full, answer-long, answer-whole}
 use Rattle.shortening.proofs.short.shorten.Goals as goal
 
 pub no_words-words-requires : goal.no_words-words-requires

@@ -1,12 +1,7 @@
-
 use Prim.Native.Nat.{◌+◌, ◌-◌}
-use mathlib.Core.Path.{sym, subst}
-use native.Mathlib.Omega.{arith}
 use Rattle.syntax.specs.Signatures.{signature_in}
-use Rattle.clauses.proofs.Held.{count-signature_in}
-use Rattle.shortening.specs.ShortLines.{LineClause, RoomFor, Shortened}
-use Rattle.shortening.proofs.ShortWalk.{ShortTo, begins, words-bounded, ends, overflows, code-there, goes_on, overlong, answer-full, answer-long, answer-whole}
-use borrow.Author.Rules.{rules}
+use Rattle.shortening.specs.ShortLines.{LineClause}
+use Rattle.shortening.proofs.ShortWalk.{ShortTo}
 use Rattle.shortening.proofs.short.shorten.Given as goal
 
 -- `shorten` goes through the line, one word of the shortened clause after the other.

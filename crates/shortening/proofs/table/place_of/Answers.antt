@@ -1,11 +1,10 @@
-use Prim.Native.Nat.{ℕ, ◌-◌, ◌≤◌}
+use Prim.Native.Nat.{◌-◌}
 use mathlib.Core.Path.{sym, ◌∙◌}
 use mathlib.Core.Bool.{true, false}
 use native.Mathlib.Omega.{arith}
 use Rattle.shortening.specs.Tables.{no_span, spans_of}
-use Rattle.shortening.proofs.FirstPlace.{FirstFrom, first-here, first_on, first-nowhere, first_found}
+use Rattle.shortening.proofs.FirstPlace.{first-here, first_on, first-nowhere, first_found}
 use Rattle.shortening.proofs.TableWalk.{alike, length-spans, alike_at}
-use borrow.Author.Rules.{rules}
 use Rattle.shortening.proofs.table.place_of.Goals as goal
 
 pub loop-i-init : goal.loop-i-init

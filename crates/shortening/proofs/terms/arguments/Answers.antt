@@ -1,9 +1,7 @@
 -- `arguments` looks the symbol up.
 use mathlib.Core.Path.{sym, ap}
-use native.Mathlib.Omega.{arith}
 use Rattle.theory.specs.Syntax as theory
 use Rattle.clauses.proofs.Held.{arity-at, symbol_at-signature_in}
-use borrow.Author.Rules.{rules}
 use Rattle.shortening.proofs.terms.arguments.Goals as goal
 
 pub returns : goal.returns

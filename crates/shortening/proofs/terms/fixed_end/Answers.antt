@@ -1,10 +1,7 @@
-use Prim.Native.Nat.{◌+◌, ◌-◌}
+use Prim.Native.Nat.{◌-◌}
 use native.Mathlib.Omega.{arith}
-use Rattle.syntax.specs.Signatures.{signature_in}
 use Rattle.clauses.proofs.Held.{count-signature_in}
-use Rattle.shortening.specs.FixedEnds.{TermHere}
-use Rattle.shortening.proofs.FixedRun.{Scanned, few-places, starts, varies, function-there, goes_on, ends, not-ended}
-use borrow.Author.Rules.{rules}
+use Rattle.shortening.proofs.FixedRun.{few-places, starts, varies, function-there, goes_on, ends, not-ended}
 use Rattle.shortening.proofs.terms.fixed_end.Goals as goal
 
 pub loop-next-init : goal.loop-next-init

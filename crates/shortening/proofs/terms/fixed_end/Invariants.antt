@@ -1,11 +1,7 @@
-
 use Prim.Native.Nat.{◌+◌, ◌-◌}
-use native.Mathlib.Omega.{arith}
 use Rattle.syntax.specs.Signatures.{signature_in}
-use Rattle.clauses.proofs.Held.{count-signature_in}
 use Rattle.shortening.specs.FixedEnds.{TermHere}
-use Rattle.shortening.proofs.FixedRun.{Scanned, few-places, starts, varies, function-there, goes_on, ends, not-ended}
-use borrow.Author.Rules.{rules}
+use Rattle.shortening.proofs.FixedRun.{Scanned}
 use Rattle.shortening.proofs.terms.fixed_end.Given as goal
 
 -- `fixed_end` passes the words of the term, up to its end or its first variable.

@@ -2,7 +2,6 @@ use native.Mathlib.Omega.{arith}
 use borrow.Author.Tests.{not-true, not-false}
 use Rattle.clauses.proofs.Automaton.{symbol-code}
 use Rattle.shortening.proofs.Openings.{fixed-closed, predicate-closed, function-opens}
-use borrow.Author.Rules.{rules}
 use Rattle.shortening.proofs.terms.opens_term.Goals as goal
 
 -- `opens_term` looks at the symbol's kind and arity.

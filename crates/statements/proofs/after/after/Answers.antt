@@ -1,5 +1,4 @@
 -- `after` goes by what is due.
-use borrow.Author.Rules.{rules}
 use mathlib.Core.Path.{◌≡◌, refl, sym, ap, ◌∙◌}
 use native.Mathlib.Omega.{arith}
 use Rattle.statements.proofs.Moves.{by-due}

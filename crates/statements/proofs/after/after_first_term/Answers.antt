@@ -1,5 +1,4 @@
 -- `after_first_term` tries = and != first.
-use borrow.Author.Rules.{rules}
 use mathlib.Core.Path.{sym, ap, ◌∙◌}
 use Rattle.statements.proofs.Moves.{joined-some, joined-none}
 use Rattle.tptp.specs.Grammar.{relations, after_literal}

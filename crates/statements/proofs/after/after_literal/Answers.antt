@@ -1,5 +1,4 @@
 -- `after_literal` tests for | and for the clause's end.
-use borrow.Author.Rules.{rules}
 use mathlib.Core.Path.{sym, ap, ◌∙◌}
 use mathlib.Core.Bool.{cond}
 use mathlib.Core.Option.{some}

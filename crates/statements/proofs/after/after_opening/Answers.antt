@@ -1,5 +1,4 @@
 -- `after_opening` tests both kinds of names.
-use borrow.Author.Rules.{rules}
 use mathlib.Core.Path.{sym, ◌∙◌}
 use Rattle.statements.proofs.Moves.{two-first, two-second, two_none}
 use Rattle.tptp.specs.Tokens.{lower_word, digits}

@@ -1,5 +1,4 @@
 -- `after_outer_term` goes by the side.
-use borrow.Author.Rules.{rules}
 use mathlib.Core.Path.{sym, ap, ◌∙◌}
 use Rattle.tptp.specs.Grammar.{after_term}
 use Rattle.tokens.specs.Pieces.{kind_in}

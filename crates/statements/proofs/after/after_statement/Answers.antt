@@ -1,6 +1,4 @@
 -- `after_statement` tests for cnf.
-use borrow.Author.Rules.{rules}
-use borrow.Author.Tests.{not-true, not-false}
 use mathlib.Core.Path.{sym, ◌∙◌}
 use Rattle.statements.proofs.Moves.{begins-other, begins-cnf, begins-word}
 use Rattle.tokens.specs.Pieces.{kind_in}

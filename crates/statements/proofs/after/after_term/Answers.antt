@@ -1,5 +1,4 @@
 -- `after_term` tells a term in a list from one outside lists.
-use borrow.Author.Rules.{rules}
 use mathlib.Core.Path.{sym, ◌∙◌}
 use Prim.Native.Nat.{◌-◌}
 use Rattle.statements.proofs.Moves.{two-first, two-second, two_none, inner-term, outer-term}

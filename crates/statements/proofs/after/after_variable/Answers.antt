@@ -1,5 +1,4 @@
 -- `after_variable` goes by the side.
-use borrow.Author.Rules.{rules}
 use mathlib.Core.Path.{sym, ap, ◌∙◌}
 use Rattle.tptp.specs.Grammar.{after_variable}
 use Rattle.statements.specs.Dues.{side_in}

@@ -1,5 +1,4 @@
 -- `after_word` tests for the arguments' parenthesis.
-use borrow.Author.Rules.{rules}
 use mathlib.Core.Path.{sym, ap, ◌∙◌}
 use Prim.Native.Nat.{ℕ, suc}
 use mathlib.Core.Option.{some}

@@ -1,5 +1,4 @@
 -- `begins_clause` tests for the clause's parenthesis.
-use borrow.Author.Rules.{rules}
 use mathlib.Core.Path.{sym, ◌∙◌}
 use mathlib.Core.Bool.{true, false}
 use Rattle.statements.proofs.Moves.{hit, miss}

@@ -1,5 +1,4 @@
 -- `begins_literal` tests for $false, ~ and a term.
-use borrow.Author.Rules.{rules}
 use mathlib.Core.Path.{sym, ◌∙◌}
 use mathlib.Core.Bool.{true, false}
 use mathlib.Core.List.{◌∷◌}

@@ -1,5 +1,4 @@
 -- `begins_term` tests for a word, then for a variable.
-use borrow.Author.Rules.{rules}
 use mathlib.Core.Path.{sym, ap, ◌∙◌}
 use mathlib.Core.Option.{some}
 use Rattle.statements.proofs.Moves.{two-first, two-second, two_none}

@@ -1,5 +1,4 @@
 -- `only` tests the one kind.
-use borrow.Author.Rules.{rules}
 use mathlib.Core.Path.{sym, ◌∙◌}
 use mathlib.Core.List.{[]}
 use Rattle.statements.proofs.Moves.{hit, miss}

@@ -1,5 +1,4 @@
 -- `relates` tests for = and, where no ~ stands, for !=.
-use borrow.Author.Rules.{rules}
 use mathlib.Core.Path.{sym, ◌∙◌}
 use Rattle.statements.proofs.Moves.{two-second, two_none, relates-equal, relates-tilde, relates-plain}
 use Rattle.tptp.specs.Tokens.{equal_sign, unequal_sign}

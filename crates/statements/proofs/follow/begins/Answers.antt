@@ -1,6 +1,4 @@
 -- `begins` tests the kind, then the bytes.
-use borrow.Author.Rules.{rules}
-use borrow.Author.Tests.{not-true, not-false}
 use mathlib.Core.Path.{sym, ◌∙◌}
 use Rattle.statements.proofs.Steps.{cnf-other, cnf-word}
 use Rattle.tokens.specs.NextTokens.{token_in}

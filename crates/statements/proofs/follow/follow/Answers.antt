@@ -1,6 +1,4 @@
 -- `follow` tests for cnf, then follows the rest.
-use borrow.Author.Rules.{rules}
-use borrow.Author.Tests.{not-true, not-false}
 use mathlib.Core.Path.{sym, ◌∙◌}
 use Rattle.statements.proofs.Steps.{follow-other, follow-whole, follow-foreign}
 use Rattle.statements.proofs.follow.follow.Goals as goal

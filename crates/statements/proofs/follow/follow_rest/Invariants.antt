@@ -1,9 +1,6 @@
-
-use borrow.Author.Rules.{rules}
 use Prim.Native.Nat.{◌-◌}
-use native.Mathlib.Omega.{arith}
 use lib.ListN.{length}
-use Rattle.statements.proofs.Steps.{Going, going-starts, going_on}
+use Rattle.statements.proofs.Steps.{Going}
 use Rattle.statements.specs.Dues.{due_token_in}
 use Rattle.statements.proofs.follow.follow_rest.Given as goal
 

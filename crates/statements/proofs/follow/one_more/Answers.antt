@@ -1,5 +1,4 @@
 -- `one_more` goes by the next token, then by what is due after it.
-use borrow.Author.Rules.{rules}
 use mathlib.Core.Path.{sym, ap, ◌∙◌}
 use Rattle.statements.proofs.Steps.{step-ends, step-misplaced, step-stops, step-on}
 use Rattle.statements.specs.Dues.{due_token_in, after_in}

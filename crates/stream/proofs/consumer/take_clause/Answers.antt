@@ -2,7 +2,6 @@
 use native.Mathlib.Omega.{arith}
 use Rattle.stream.specs.Consuming.{state}
 use Rattle.stream.proofs.OneClause.{count_fits, measure-fits, write-fits, tally-fits, enter-fits, measured, written, tallied, entered}
-use borrow.Author.Rules.{rules}
 use Rattle.stream.proofs.consumer.take_clause.Goals as goal
 
 pub clause_length-requires : goal.clause_length-requires

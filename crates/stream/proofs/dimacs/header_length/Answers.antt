@@ -2,7 +2,6 @@
 use native.Mathlib.Omega.{arith}
 use Rattle.text.proofs.Decimal.{decimal-within}
 use Rattle.stream.proofs.Texts.{length-header}
-use borrow.Author.Rules.{rules}
 use Rattle.stream.proofs.dimacs.header_length.Goals as goal
 
 pub overflow_add-result : goal.overflow_add-result

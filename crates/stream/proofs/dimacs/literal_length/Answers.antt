@@ -3,7 +3,6 @@ use Prim.Native.Nat.{◌+◌, ◌/◌}
 use native.Mathlib.Omega.{arith}
 use Rattle.text.proofs.Decimal.{decimal-within}
 use Rattle.stream.proofs.Texts.{length-spaced}
-use borrow.Author.Rules.{rules}
 use Rattle.stream.proofs.dimacs.literal_length.Goals as goal
 
 pub overflow_add-result : goal.overflow_add-result

@@ -1,10 +1,9 @@
-use borrow.Author.Rules.{rules}
-use Prim.Native.Nat.{◌+◌, ◌-◌, ◌≤◌}
-use mathlib.Core.Path.{◌≡◌, refl, sym, ◌∙◌}
+use Prim.Native.Nat.{◌-◌}
+use mathlib.Core.Path.{refl, sym, ◌∙◌}
 use native.Mathlib.Omega.{arith}
 use native.Mathlib.Numerals.{add-one}
-use lib.ListN.{length, get_or, take, length-set}
-use Rattle.text.specs.Put.{put, put-none, put-run, cursor-run}
+use lib.ListN.{get_or, take, length-set}
+use Rattle.text.specs.Put.{put-none, put-run, cursor-run}
 use Rattle.stream.specs.Literals.{prop_clause_of, literal_of, literal_spaced}
 use Rattle.stream.proofs.Texts.{body, body_more, body-fits, line-ended, end_fits}
 use Rattle.stream.proofs.dimacs.put_clause.Goals as goal

@@ -5,7 +5,6 @@ use mathlib.Core.List.{◌∷◌, []}
 use Rattle.theory.specs.Bytes.{decimal, space}
 use mathlib.Core.Path.{◌∙◌}
 use native.Mathlib.Omega.{arith}
-use borrow.Author.Rules.{rules}
 use Rattle.stream.proofs.dimacs.put_header.Goals as goal
 
 pub put_bytes-a-requires : goal.put_bytes-a-requires

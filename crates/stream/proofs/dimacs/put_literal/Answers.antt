@@ -5,7 +5,6 @@ use Rattle.stream.proofs.Texts.{spaced-no, spaced-yes, no-written}
 use Prim.Native.Nat.{ℕ, ◌+◌}
 use mathlib.Core.Path.{sym, ap, ◌∙◌}
 use native.Mathlib.Omega.{arith}
-use borrow.Author.Rules.{rules}
 use Rattle.stream.proofs.dimacs.put_literal.Goals as goal
 
 -- `put_literal` meets its contract.

@@ -4,7 +4,6 @@ use Rattle.theory.specs.Bytes.{decimal, space}
 use Rattle.text.specs.Put.{put-cursor, cursor-more}
 use mathlib.Core.Path.{refl}
 use native.Mathlib.Omega.{arith}
-use borrow.Author.Rules.{rules}
 use Rattle.stream.proofs.dimacs.put_spaced.Goals as goal
 
 -- `put_spaced` meets its contract.
@@ -24,5 +23,8 @@ overflow_add-result c = let s = c in
 pub returns : goal.returns
 returns c = let s = c in
     let p = c.put_number-e in
-    let d = decimal s.args.n in record { written = put-cursor s.args.out.now p.new.out s.args.at p.result d (d ++ (space ∷ [])) 32 p.ensures.written p.ensures.place
-          (omega (arith, s.requires, p.ensures.place, length-append d (space ∷ []))) refl; place = cursor-more s.args.at p.result d (d ++ (space ∷ [])) 32 p.ensures.place refl }
+    let d = decimal s.args.n in record {
+      written = put-cursor s.args.out.now p.new.out s.args.at p.result d (d ++ (space ∷ [])) 32 p.ensures.written p.ensures.place
+          (omega (arith, s.requires, p.ensures.place, length-append d (space ∷ []))) refl;
+      place = cursor-more s.args.at p.result d (d ++ (space ∷ [])) 32 p.ensures.place refl;
+    }

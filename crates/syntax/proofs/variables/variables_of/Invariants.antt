@@ -1,15 +1,9 @@
-
 use Prim.Native.Nat.{◌≤◌, ◌-◌}
-use mathlib.Core.Path.{◌≡◌}
 use mathlib.Core.List.{map}
-use native.Mathlib.Numerals.{add-one}
-use native.Mathlib.Omega.{arith}
-use lib.ListN.{length, take}
-use borrow.Author.Rules.{rules}
+use lib.ListN.{take}
 use Rattle.theory.specs.Lists.{distinct}
 use Rattle.syntax.specs.Codes.{code_word}
-use Rattle.syntax.specs.Variables.{letters_of, Places, variables_in}
-use Rattle.syntax.proofs.Places.{few, none-placed, letters-below, letters-more}
+use Rattle.syntax.specs.Variables.{letters_of, Places}
 use Rattle.syntax.proofs.variables.variables_of.Given as goal
 
 -- `variables_of` meets its contract: the letters of the words before i have their places.

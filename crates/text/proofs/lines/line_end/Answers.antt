@@ -1,8 +1,5 @@
 use borrow.Author.Rules.{rules}
-use Prim.Native.Nat.{ℕ, ◌≤◌, ◌-◌}
 use native.Mathlib.Omega.{arith}
-use lib.ListN.{length}
-use Rattle.text.specs.Lines.{LineEnd}
 use Rattle.text.proofs.Ends.{line-ends, line-unended, line_on}
 use Rattle.text.proofs.lines.line_end.Goals as goal
 

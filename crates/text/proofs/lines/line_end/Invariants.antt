@@ -1,10 +1,6 @@
-
-use borrow.Author.Rules.{rules}
 use Prim.Native.Nat.{ℕ, ◌≤◌, ◌-◌}
-use native.Mathlib.Omega.{arith}
 use lib.ListN.{length}
 use Rattle.text.specs.Lines.{LineEnd}
-use Rattle.text.proofs.Ends.{line-ends, line-unended, line_on}
 use Rattle.text.proofs.lines.line_end.Given as goal
 
 -- `line_end` finds the LF: where the line from i on ends is where the line from `at` on ends.

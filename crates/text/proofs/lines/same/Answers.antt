@@ -1,4 +1,3 @@
-use borrow.Author.Rules.{rules}
 use Rattle.text.proofs.Keys.{other-lengths, same_length}
 use Rattle.text.proofs.lines.same.Goals as goal
 

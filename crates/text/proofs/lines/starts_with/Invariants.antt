@@ -1,10 +1,6 @@
-
-use borrow.Author.Rules.{rules}
 use Prim.Native.Nat.{◌≤◌, ◌-◌}
-use mathlib.Core.Path.{refl}
-use native.Mathlib.Omega.{arith}
 use lib.ListN.{length}
-use Rattle.text.proofs.Keys.{Met, met-more, met-other, met_all, too_short}
+use Rattle.text.proofs.Keys.{Met}
 use Rattle.text.proofs.lines.starts_with.Given as goal
 
 -- `starts_with` meets the key byte by byte.

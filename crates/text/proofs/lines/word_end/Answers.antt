@@ -1,8 +1,5 @@
 use borrow.Author.Rules.{rules}
-use Prim.Native.Nat.{ℕ, ◌≤◌, ◌-◌}
 use native.Mathlib.Omega.{arith}
-use lib.ListN.{length}
-use Rattle.text.specs.Lines.{WordEnd}
 use Rattle.text.proofs.Ends.{word-ends, word-unended, word_on}
 use Rattle.text.proofs.lines.word_end.Goals as goal
 

@@ -1,10 +1,6 @@
-
-use borrow.Author.Rules.{rules}
 use Prim.Native.Nat.{ℕ, ◌≤◌, ◌-◌}
-use native.Mathlib.Omega.{arith}
 use lib.ListN.{length}
 use Rattle.text.specs.Lines.{WordEnd}
-use Rattle.text.proofs.Ends.{word-ends, word-unended, word_on}
 use Rattle.text.proofs.lines.word_end.Given as goal
 
 -- `word_end` finds the space: where the word from i on ends is where the word from `at` on ends.

@@ -2,7 +2,6 @@
 use mathlib.Core.Path.{sym, ap, ◌∙◌}
 use Rattle.theory.specs.Lines.{count_of}
 use Rattle.text.proofs.Counts.{one_byte, two_bytes, other_length}
-use borrow.Author.Rules.{rules}
 use Rattle.text.proofs.numbers.count_of.Goals as goal
 
 pub returns-then-value-eq1 : goal.returns-then-value-eq1

@@ -1,8 +1,6 @@
 -- `one_digit` reads one digit.
-use borrow.Author.Tests.{not-true, not-false}
 use mathlib.Core.Path.{sym, ◌∙◌}
 use Rattle.text.proofs.Counts.{digit-from, no_digit, one-digit}
-use borrow.Author.Rules.{rules}
 use Rattle.text.proofs.numbers.one_digit.Goals as goal
 
 pub returns-then-not-is_digit : goal.returns-then-not-is_digit

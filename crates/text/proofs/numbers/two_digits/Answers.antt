@@ -1,8 +1,6 @@
 -- `two_digits` reads two digits, the first not 0.
-use borrow.Author.Tests.{not-true, not-false}
 use mathlib.Core.Path.{sym, ◌∙◌}
 use Rattle.text.proofs.Counts.{digit-from, no-first-digit, no-second-digit, leading-zero, two_digits}
-use borrow.Author.Rules.{rules}
 use Rattle.text.proofs.numbers.two_digits.Goals as goal
 
 pub returns-then-not-is_digit : goal.returns-then-not-is_digit

@@ -1,11 +1,7 @@
-
-use borrow.Author.Rules.{rules}
-use mathlib.Core.Path.{◌≡◌, sym, ap, ◌∙◌}
-use Prim.Native.Nat.{ℕ, ◌≤◌, ◌-◌, ◌+◌}
-use native.Mathlib.Omega.{arith}
+use mathlib.Core.Path.{◌≡◌}
+use Prim.Native.Nat.{◌≤◌, ◌-◌}
 use lib.ListN.{length, take}
-use lib.Seq.{length-take-le, take-length}
-use Rattle.text.specs.Put.{put, put-none, put_step, take_more}
+use Rattle.text.specs.Put.{put}
 use Rattle.text.proofs.writing.put_bytes.Given as goal
 
 -- `put_bytes` stores byte after byte.

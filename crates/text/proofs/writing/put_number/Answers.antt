@@ -1,9 +1,5 @@
-use borrow.Author.Rules.{rules}
-use mathlib.Core.Path.{◌≡◌}
 use native.Mathlib.Omega.{arith}
-use lib.ListN.{length}
-use Rattle.theory.specs.Bytes.{decimal}
-use Rattle.text.proofs.Backwards.{Backwards, begins, turn, ends}
+use Rattle.text.proofs.Backwards.{begins, turn, ends}
 use Rattle.text.proofs.writing.put_number.Goals as goal
 
 pub loop-i-init : goal.loop-i-init

@@ -1,10 +1,7 @@
-
-use borrow.Author.Rules.{rules}
 use mathlib.Core.Path.{◌≡◌}
-use native.Mathlib.Omega.{arith}
 use lib.ListN.{length}
 use Rattle.theory.specs.Bytes.{decimal}
-use Rattle.text.proofs.Backwards.{Backwards, begins, turn, ends}
+use Rattle.text.proofs.Backwards.{Backwards}
 use Rattle.text.proofs.writing.put_number.Given as goal
 
 -- `put_number` stores the digits from the last to the first.

@@ -1,6 +1,5 @@
 -- `is_word_byte` tests one kind of byte after the other.
-use borrow.Author.Rules.{rules}
-use mathlib.Core.Path.{◌≡◌, sym, ap, ◌∙◌}
+use mathlib.Core.Path.{◌≡◌, sym, ◌∙◌}
 use mathlib.Core.Bool.{true, false}
 use Rattle.theory.specs.Bytes.{is_digit}
 use Rattle.theory.specs.Problem.{is_lower}

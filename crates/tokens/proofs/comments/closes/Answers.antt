@@ -1,5 +1,4 @@
 -- `closes` tests both bytes.
-use borrow.Author.Rules.{rules}
 use Rattle.tokens.proofs.ByteRuns.{both-here, both-other}
 use Rattle.tokens.proofs.comments.closes.Goals as goal
 

@@ -1,9 +1,7 @@
-use borrow.Author.Rules.{rules}
 use Prim.Native.Nat.{◌-◌}
-use mathlib.Core.Path.{◌≡◌, sym, ap, ◌∙◌}
+use mathlib.Core.Path.{sym, ◌∙◌}
 use native.Mathlib.Omega.{arith}
-use lib.ListN.{length}
-use Rattle.tokens.proofs.CommentEnds.{Sought, sought-begins, sought-goes-on, sought-closes, sought-out}
+use Rattle.tokens.proofs.CommentEnds.{sought-begins, sought-goes-on, sought-closes, sought-out}
 use Rattle.tokens.proofs.comments.comment_rest.Goals as goal
 
 pub loop-i-init : goal.loop-i-init

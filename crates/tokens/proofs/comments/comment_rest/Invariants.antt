@@ -1,10 +1,6 @@
-
-use borrow.Author.Rules.{rules}
 use Prim.Native.Nat.{◌-◌}
-use mathlib.Core.Path.{◌≡◌, sym, ap, ◌∙◌}
-use native.Mathlib.Omega.{arith}
 use lib.ListN.{length}
-use Rattle.tokens.proofs.CommentEnds.{Sought, sought-begins, sought-goes-on, sought-closes, sought-out}
+use Rattle.tokens.proofs.CommentEnds.{Sought}
 use Rattle.tokens.proofs.comments.comment_rest.Given as goal
 
 -- `comment_rest` looks for */ byte by byte.

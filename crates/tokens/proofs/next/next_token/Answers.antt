@@ -1,9 +1,7 @@
-use borrow.Author.Rules.{rules}
 use Prim.Native.Nat.{◌-◌}
-use mathlib.Core.Path.{◌≡◌, refl, sym, ap, ◌∙◌}
+use mathlib.Core.Path.{sym, ap, ◌∙◌}
 use native.Mathlib.Omega.{arith}
-use lib.ListN.{length}
-use Rattle.tokens.proofs.NextPieces.{Passed, passed_none, passed-gap, gap-size, token-size, found-token, found-open, found-end}
+use Rattle.tokens.proofs.NextPieces.{passed_none, passed-gap, gap-size, token-size, found-token, found-open, found-end}
 use Rattle.tokens.specs.Pieces.{piece_in}
 use Rattle.tokens.proofs.next.next_token.Goals as goal
 

@@ -1,11 +1,6 @@
-
-use borrow.Author.Rules.{rules}
 use Prim.Native.Nat.{◌-◌}
-use mathlib.Core.Path.{◌≡◌, refl, sym, ap, ◌∙◌}
-use native.Mathlib.Omega.{arith}
 use lib.ListN.{length}
-use Rattle.tokens.proofs.NextPieces.{Passed, passed_none, passed-gap, gap-size, token-size, found-token, found-open, found-end}
-use Rattle.tokens.specs.Pieces.{piece_in}
+use Rattle.tokens.proofs.NextPieces.{Passed}
 use Rattle.tokens.proofs.next.next_token.Given as goal
 
 -- `next_token` passes gaps up to the first token.

@@ -1,5 +1,4 @@
 -- `number_rest` adds the parts, of which / excludes the others.
-use borrow.Author.Rules.{rules}
 use native.Mathlib.Omega.{arith}
 use Rattle.tokens.proofs.NumberLengths.{number_by, number-room, front-room}
 use Rattle.tokens.proofs.numbers.number_rest.Goals as goal

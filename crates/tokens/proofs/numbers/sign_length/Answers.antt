@@ -1,6 +1,5 @@
 -- `sign_length` is 1 where a sign stands.
-use borrow.Author.Rules.{rules}
-use mathlib.Core.Path.{◌≡◌, sym, ap, ◌∙◌}
+use mathlib.Core.Path.{sym, ap, ◌∙◌}
 use mathlib.Core.Bool.{Bool, true, false, cond}
 use Rattle.tokens.proofs.numbers.sign_length.Goals as goal
 

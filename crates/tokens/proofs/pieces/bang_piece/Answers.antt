@@ -1,6 +1,5 @@
 -- `bang_piece` looks one byte ahead.
-use borrow.Author.Rules.{rules}
-use mathlib.Core.Path.{◌≡◌, sym, ap, ◌∙◌}
+use mathlib.Core.Path.{sym, ap, ◌∙◌}
 use mathlib.Core.Bool.{Bool, true, false, cond}
 use Rattle.tptp.specs.Tokens.{token, foreign, unequal_sign}
 use Rattle.tokens.proofs.pieces.bang_piece.Goals as goal

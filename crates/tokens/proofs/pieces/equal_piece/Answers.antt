@@ -1,6 +1,5 @@
 -- `equal_piece` looks one byte ahead.
-use borrow.Author.Rules.{rules}
-use mathlib.Core.Path.{◌≡◌, sym, ap, ◌∙◌}
+use mathlib.Core.Path.{sym, ap, ◌∙◌}
 use mathlib.Core.Bool.{Bool, true, false, cond}
 use Rattle.tptp.specs.Tokens.{token, equal_sign, foreign}
 use Rattle.tokens.proofs.pieces.equal_piece.Goals as goal

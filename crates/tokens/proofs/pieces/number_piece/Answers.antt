@@ -1,5 +1,4 @@
 -- `number_piece` looks at what follows the digits.
-use borrow.Author.Rules.{rules}
 use native.Mathlib.Omega.{arith}
 use Rattle.theory.specs.Bytes.{is_digit}
 use Rattle.tokens.proofs.NumberLengths.{number-room}

@@ -1,5 +1,4 @@
 -- `opens_comment` tests both bytes.
-use borrow.Author.Rules.{rules}
 use Rattle.tokens.proofs.ByteRuns.{both-here, both-other}
 use Rattle.tokens.proofs.pieces.opens_comment.Goals as goal
 

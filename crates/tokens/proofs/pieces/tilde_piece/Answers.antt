@@ -1,6 +1,5 @@
 -- `tilde_piece` looks one byte ahead.
-use borrow.Author.Rules.{rules}
-use mathlib.Core.Path.{◌≡◌, sym, ap, ◌∙◌}
+use mathlib.Core.Path.{sym, ap, ◌∙◌}
 use mathlib.Core.Bool.{Bool, true, false, cond}
 use Rattle.tptp.specs.Tokens.{token, foreign, tilde}
 use Rattle.tokens.proofs.pieces.tilde_piece.Goals as goal

@@ -1,7 +1,6 @@
-use borrow.Author.Rules.{rules}
 use Prim.Native.Nat.{◌-◌}
 use native.Mathlib.Omega.{arith}
-use Rattle.tokens.proofs.LineSteps.{Placed, placed-start, placed-line, placed-byte, placed_end}
+use Rattle.tokens.proofs.LineSteps.{placed-start, placed-line, placed-byte, placed_end}
 use Rattle.tokens.proofs.places.place_of.Goals as goal
 
 pub loop-i-init : goal.loop-i-init

@@ -1,8 +1,5 @@
-
-use borrow.Author.Rules.{rules}
 use Prim.Native.Nat.{◌-◌}
-use native.Mathlib.Omega.{arith}
-use Rattle.tokens.proofs.LineSteps.{Placed, placed-start, placed-line, placed-byte, placed_end}
+use Rattle.tokens.proofs.LineSteps.{Placed}
 use Rattle.tokens.proofs.places.place_of.Given as goal
 
 -- `place_of` counts lines, and columns from the last line's start on.

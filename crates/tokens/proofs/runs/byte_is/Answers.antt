@@ -1,5 +1,4 @@
-use borrow.Author.Rules.{rules}
-use mathlib.Core.Path.{◌≡◌, refl, sym, ap, ◌∙◌}
+use mathlib.Core.Path.{sym}
 use lib.Dec.{eqb}
 use Rattle.tokens.proofs.ByteRuns.{starts-here, starts-past}
 use Rattle.tokens.proofs.runs.byte_is.Goals as goal

@@ -1,5 +1,4 @@
-use borrow.Author.Rules.{rules}
-use mathlib.Core.Path.{◌≡◌, sym, ap, ◌∙◌}
+use mathlib.Core.Path.{sym, ◌∙◌}
 use Rattle.theory.specs.Bytes.{is_digit}
 use Rattle.tokens.proofs.ByteRuns.{starts-here, starts-past}
 use Rattle.tokens.proofs.runs.digit_is.Goals as goal

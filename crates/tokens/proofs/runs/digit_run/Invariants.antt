@@ -1,12 +1,7 @@
-
-use borrow.Author.Rules.{rules}
-use borrow.Author.Tests.{not-true, not-false}
 use Prim.Native.Nat.{◌-◌}
-use mathlib.Core.Path.{sym, ap, ◌∙◌}
-use native.Mathlib.Omega.{arith}
 use lib.ListN.{length}
 use Rattle.theory.specs.Bytes.{is_digit}
-use Rattle.tokens.proofs.ByteRuns.{Ran, run-begins, run-goes-on, run_ends, run_out}
+use Rattle.tokens.proofs.ByteRuns.{Ran}
 use Rattle.tokens.proofs.runs.digit_run.Given as goal
 
 -- `digit_run` counts byte by byte.

@@ -1,4 +1,3 @@
-use borrow.Author.Rules.{rules}
 use Rattle.tokens.proofs.ByteRuns.{either-past, either-here, either-other}
 use Rattle.tokens.proofs.runs.either_is.Goals as goal
 

@@ -1,13 +1,11 @@
-use borrow.Author.Rules.{rules}
 use borrow.Author.Tests.{eq-eqb, ne_eqb}
 use Prim.Native.Nat.{◌-◌}
-use mathlib.Core.Path.{sym, ap, ◌∙◌}
+use mathlib.Core.Path.{ap}
 use native.Mathlib.Omega.{arith}
-use lib.ListN.{length}
 use mathlib.Core.Bool.{not}
 use lib.Dec.{eqb}
 use Rattle.theory.specs.Bytes.{LF}
-use Rattle.tokens.proofs.ByteRuns.{Ran, run-begins, run-goes-on, run_ends, run_out}
+use Rattle.tokens.proofs.ByteRuns.{run-begins, run-goes-on, run_ends, run_out}
 use Rattle.tokens.proofs.runs.line_run.Goals as goal
 
 pub loop-i-init : goal.loop-i-init

@@ -1,11 +1,8 @@
-use borrow.Author.Rules.{rules}
-use borrow.Author.Tests.{not-true, not-false}
 use Prim.Native.Nat.{◌-◌}
-use mathlib.Core.Path.{sym, ap, ◌∙◌}
+use mathlib.Core.Path.{sym, ◌∙◌}
 use native.Mathlib.Omega.{arith}
-use lib.ListN.{length}
 use Rattle.tptp.specs.Tokens.{is_word_byte}
-use Rattle.tokens.proofs.ByteRuns.{Ran, run-begins, run-goes-on, run_ends, run_out}
+use Rattle.tokens.proofs.ByteRuns.{run-begins, run-goes-on, run_ends, run_out}
 use Rattle.tokens.proofs.runs.word_run.Goals as goal
 
 pub loop-i-init : goal.loop-i-init

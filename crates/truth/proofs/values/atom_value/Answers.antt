@@ -4,7 +4,6 @@ use lib.ListN.{length}
 use Rattle.theory.specs.Cells.{interpretation}
 use Rattle.truth.proofs.Atoms.{is-equality, is-predicate, equality-value, predicate-cell, predicate-value}
 use Rattle.truth.proofs.SymbolCells.{base-small}
-use borrow.Author.Rules.{rules}
 use Rattle.truth.proofs.values.atom_value.Goals as goal
 
 -- `atom_value` meets its contract.

@@ -1,16 +1,8 @@
-
-use borrow.Author.Rules.{rules, Fits-under}
-use Prim.Native.Nat.{ℕ, ◌+◌, ◌*◌, ◌-◌, ◌≤◌, ◌<◌}
-use native.Mathlib.Nat.{mul-le-mul}
-use mathlib.Core.Path.{◌≡◌, refl, ap, ◌∙◌}
+use Prim.Native.Nat.{ℕ, ◌-◌, ◌≤◌, ◌<◌}
+use mathlib.Core.Path.{◌≡◌}
 use mathlib.Core.List.{List}
-use native.Mathlib.Numerals.{add-one}
-use native.Mathlib.Omega.{arith}
-use lib.ListN.{length, get_or, take}
-use lib.Seq.{length-take-le, take_all}
-use Rattle.theory.specs.Vectors.{AllBelow}
+use lib.ListN.{length, take}
 use Rattle.theory.specs.Vectors as vectors
-use Rattle.interpretation.proofs.Ranks.{all_below-at, all_below-take, rank-within, rank-more}
 use Rattle.truth.proofs.values.cell_at.Given as goal
 
 -- `cell_at` meets its contract: the rank of the arguments before i.

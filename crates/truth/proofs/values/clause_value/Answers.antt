@@ -1,10 +1,7 @@
-use borrow.Author.Rules.{rules}
 use Prim.Native.Nat.{◌-◌}
-use mathlib.Core.Path.{◌≡◌, refl, sym, ◌∙◌}
+use mathlib.Core.Path.{refl, sym, ◌∙◌}
 use native.Mathlib.Omega.{arith}
-use lib.ListN.{length}
-use Rattle.truth.specs.Values.{Chosen, ClauseLent}
-use Rattle.truth.proofs.Clausewise.{LiteralsLeft, all_left, none_left, literal-here, two-words, variables-lent, true-literal, false-literal, goes_on, terms-lent, top_within, atom-lent, literal-is}
+use Rattle.truth.proofs.Clausewise.{all_left, none_left, literal-here, two-words, variables-lent, true-literal, false-literal, goes_on, terms-lent, top_within, atom-lent, literal-is}
 use Rattle.truth.proofs.values.clause_value.Goals as goal
 
 pub loop-at-init : goal.loop-at-init

@@ -1,11 +1,8 @@
-
-use borrow.Author.Rules.{rules}
 use Prim.Native.Nat.{◌-◌}
-use mathlib.Core.Path.{◌≡◌, refl, sym, ◌∙◌}
-use native.Mathlib.Omega.{arith}
+use mathlib.Core.Path.{◌≡◌}
 use lib.ListN.{length}
 use Rattle.truth.specs.Values.{Chosen, ClauseLent}
-use Rattle.truth.proofs.Clausewise.{LiteralsLeft, all_left, none_left, literal-here, two-words, variables-lent, true-literal, false-literal, goes_on, terms-lent, top_within, atom-lent, literal-is}
+use Rattle.truth.proofs.Clausewise.{LiteralsLeft}
 use Rattle.truth.proofs.values.clause_value.Given as goal
 
 -- `clause_value` meets its contract: the literals from place `at` on have the truth of the clause.

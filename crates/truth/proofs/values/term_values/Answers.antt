@@ -1,10 +1,8 @@
-use borrow.Author.Rules.{rules}
 use native.Mathlib.Omega.{arith}
-use mathlib.Core.Path.{◌≡◌, refl, ◌∙◌}
+use mathlib.Core.Path.{refl, ◌∙◌}
 use Prim.Native.Nat.{◌-◌}
-use lib.ListN.{length, get_or, length-set}
-use Rattle.truth.specs.Steps.{TermsLent}
-use Rattle.truth.proofs.InsideOut.{ValuedFrom, tail-valued, word_below, variable-valued, function-declared, arity-small, arguments-within, few-arguments, arguments-below, function-cell, function-valued, all-valued}
+use lib.ListN.{get_or, length-set}
+use Rattle.truth.proofs.InsideOut.{tail-valued, word_below, variable-valued, function-declared, arity-small, arguments-within, few-arguments, arguments-below, function-cell, function-valued, all-valued}
 use Rattle.truth.proofs.SymbolCells.{base-small}
 use Rattle.truth.proofs.values.term_values.Goals as goal
 
@@ -37,9 +35,9 @@ bounds-values-top c = let t = c.requires in
 
 pub loop-done-preserved-then-word-ge-LETTER : goal.loop-done-preserved-then-word-ge-LETTER
 loop-done-preserved-then-word-ge-LETTER c = let l = c.loop-done in (
-      length-set l.values _ _ ∙ l.invariant.0,
-      λ t. variable-valued t (l.invariant.1 t) c.loop-done-test.true c.if-word-ge-LETTER.true,
-    )
+  length-set l.values _ _ ∙ l.invariant.0,
+  λ t. variable-valued t (l.invariant.1 t) c.loop-done-test.true c.if-word-ge-LETTER.true,
+)
 
 pub bounds-arities-f : goal.bounds-arities-f
 bounds-arities-f c = let t = c.requires in

@@ -1,12 +1,8 @@
-
-use borrow.Author.Rules.{rules}
-use native.Mathlib.Omega.{arith}
-use mathlib.Core.Path.{◌≡◌, refl, ◌∙◌}
+use mathlib.Core.Path.{◌≡◌}
 use Prim.Native.Nat.{◌-◌}
-use lib.ListN.{length, get_or, length-set}
+use lib.ListN.{length}
 use Rattle.truth.specs.Steps.{TermsLent}
-use Rattle.truth.proofs.InsideOut.{ValuedFrom, tail-valued, word_below, variable-valued, function-declared, arity-small, arguments-within, few-arguments, arguments-below, function-cell, function-valued, all-valued}
-use Rattle.truth.proofs.SymbolCells.{base-small}
+use Rattle.truth.proofs.InsideOut.{ValuedFrom}
 use Rattle.truth.proofs.values.term_values.Given as goal
 
 -- `term_values` meets its contract: the words from place `done` on are valued.

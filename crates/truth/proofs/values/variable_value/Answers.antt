@@ -3,7 +3,6 @@ use Prim.Native.Nat.{◌-◌}
 use mathlib.Core.Path.{sym}
 use Rattle.syntax.proofs.Places.{assign-placed}
 use Rattle.syntax.specs.Codes.{letter_code}
-use borrow.Author.Rules.{rules}
 use Rattle.truth.proofs.values.variable_value.Goals as goal
 
 pub returns : goal.returns

@@ -1,12 +1,10 @@
-use borrow.Author.Rules.{rules}
 use Prim.Native.Nat.{◌-◌}
-use mathlib.Core.Path.{◌≡◌, refl, ◌∙◌}
+use mathlib.Core.Path.{refl, ◌∙◌}
 use mathlib.Core.Bool.{true}
 use native.Mathlib.Omega.{arith}
-use lib.ListN.{length, length-set}
+use lib.ListN.{length-set}
 use Rattle.theory.specs.Truth.{Interpretation}
-use Rattle.truth.specs.Steps.{VariablesLent}
-use Rattle.truth.proofs.Variables.{ValuedTo, none-valued, letter-below, letter-placed, letter-occurs, letter-valued, function-passed, sign-ends, clause-ends}
+use Rattle.truth.proofs.Variables.{none-valued, letter-below, letter-placed, letter-occurs, letter-valued, function-passed, sign-ends, clause-ends}
 use Rattle.truth.proofs.values.variable_values.Goals as goal
 
 -- `variable_values` meets its contract: the variables before place i are valued.

@@ -1,13 +1,8 @@
-
-use borrow.Author.Rules.{rules}
 use Prim.Native.Nat.{◌-◌}
-use mathlib.Core.Path.{◌≡◌, refl, ◌∙◌}
-use mathlib.Core.Bool.{true}
-use native.Mathlib.Omega.{arith}
-use lib.ListN.{length, length-set}
-use Rattle.theory.specs.Truth.{Interpretation}
+use mathlib.Core.Path.{◌≡◌}
+use lib.ListN.{length}
 use Rattle.truth.specs.Steps.{VariablesLent}
-use Rattle.truth.proofs.Variables.{ValuedTo, none-valued, letter-below, letter-placed, letter-occurs, letter-valued, function-passed, sign-ends, clause-ends}
+use Rattle.truth.proofs.Variables.{ValuedTo}
 use Rattle.truth.proofs.values.variable_values.Given as goal
 
 abbrev pub invariant-loop-i : goal.invariant-loop-i

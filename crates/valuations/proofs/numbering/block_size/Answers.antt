@@ -6,11 +6,6 @@ use Rattle.syntax.specs.Signatures.{kind_of}
 use native.Mathlib.Omega.{arith}
 use Rattle.interpretation.proofs.Ranks.{table-within}
 use Rattle.valuations.proofs.Numbered.{block_within}
-use borrow.Author.Rules.{rules}
-use Rattle.valuations.proofs.numbering.block_size.Reads as reads
-use Rattle.valuations.proofs.numbering.block_size.Lts as lts
-use Rattle.interpretation.proofs.vector.power.Reads as power-reads
-use Rattle.valuations.proofs.numbering.width.Reads as width-reads
 use Rattle.valuations.proofs.numbering.block_size.Goals as goal
 
 -- src/numbering.rt:73:17

@@ -1,18 +1,8 @@
-
-use native.Mathlib.Nat.{zero-mul, suc-mul}
-use Rattle.valuations.specs.Cells.{bits_at, ones}
-use Rattle.valuations.proofs.Bits.{block-fits, one-result, other-results}
-use borrow.Author.Rules.{rules}
-use Prim.Native.Nat.{ℕ, suc, ◌+◌, ◌-◌, ◌*◌, ◌≤◌, ◌<◌}
-use mathlib.Core.Path.{◌≡◌, refl, sym, ap, ◌∙◌}
-use native.Mathlib.Numerals.{add-one}
-use native.Mathlib.Omega.{arith}
-use lib.ListN.{length, take, drop, replicate}
+use Prim.Native.Nat.{◌+◌, ◌-◌, ◌*◌, ◌≤◌}
+use mathlib.Core.Path.{◌≡◌}
+use lib.ListN.{drop, replicate}
 use Rattle.theory.specs.Syntax as theory
 use Rattle.theory.specs.Valuation.{all_have_values}
-use Rattle.valuations.proofs.valuation.all_have_results.Reads as reads
-use Rattle.valuations.proofs.valuation.all_have_results.Lts as lts
-use Rattle.valuations.proofs.valuation.count_ones.Reads as count-ones-reads
 use Rattle.valuations.proofs.valuation.all_have_results.Given as goal
 
 -- `all_have_results` meets its contract: each of the first r cells has one result.

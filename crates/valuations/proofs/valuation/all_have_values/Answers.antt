@@ -2,7 +2,6 @@ use mathlib.Core.Path.{sym, ◌∙◌}
 use borrow.Author.Tests.{not-true, not-false}
 use Prim.Native.Nat.{◌^◌}
 use Rattle.valuations.proofs.Bits.{predicates-have-values}
-use borrow.Author.Rules.{rules}
 use Rattle.valuations.proofs.valuation.all_have_values.Goals as goal
 
 -- `all_have_values` meets its contract.

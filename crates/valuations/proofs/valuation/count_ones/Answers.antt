@@ -1,5 +1,4 @@
-use borrow.Author.Rules.{rules}
-use Prim.Native.Nat.{ℕ, ◌+◌, ◌-◌, ◌≤◌, ◌<◌}
+use Prim.Native.Nat.{ℕ, ◌+◌, ◌-◌, ◌<◌}
 use mathlib.Core.Path.{◌≡◌, refl, sym, ap, ◌∙◌}
 use native.Mathlib.Numerals.{add-one}
 use native.Mathlib.Omega.{arith}
@@ -17,8 +16,8 @@ loop-d-preserved c = let l = c.loop-d in
     let s = c in
     let lt : s.args.from.0 + l.d < length s.args.setting.now = omega arith in
     elim c.if-setting-first-eq1.branch [
-      then-setting-first-eq1 w ↦ (omega arith, omega arith, rw add-one (w.count-is ∙ ap (λ (n : ℕ). n + 1) l.invariant.2 ∙ sym (one_more s.args.setting.now s.args.from.0 l.d lt w.if-setting-first-eq1.true)))
-    | else-setting-first-eq1 w ↦ (omega arith, omega arith, rw add-one (w.count-is ∙ l.invariant.2 ∙ sym (none_more s.args.setting.now s.args.from.0 l.d lt w.if-setting-first-eq1.false)))
+      | then-setting-first-eq1 w ↦ (omega arith, omega arith, rw add-one (w.count-is ∙ ap (λ (n : ℕ). n + 1) l.invariant.2 ∙ sym (one_more s.args.setting.now s.args.from.0 l.d lt w.if-setting-first-eq1.true)))
+      | else-setting-first-eq1 w ↦ (omega arith, omega arith, rw add-one (w.count-is ∙ l.invariant.2 ∙ sym (none_more s.args.setting.now s.args.from.0 l.d lt w.if-setting-first-eq1.false)))
     ]
 
 pub returns : goal.returns

@@ -1,13 +1,6 @@
-
-use mathlib.Core.Logic.{⊎_elim}
-use borrow.Author.Rules.{rules}
-use Prim.Native.Nat.{ℕ, ◌+◌, ◌-◌, ◌≤◌, ◌<◌}
-use mathlib.Core.Path.{◌≡◌, refl, sym, ap, ◌∙◌}
-use native.Mathlib.Numerals.{add-one}
-use native.Mathlib.Omega.{arith}
-use lib.ListN.{length}
+use Prim.Native.Nat.{◌-◌, ◌≤◌}
+use mathlib.Core.Path.{◌≡◌}
 use Rattle.valuations.specs.Cells.{bits_at, ones}
-use Rattle.valuations.proofs.Bits.{one_more, none_more}
 use Rattle.valuations.proofs.valuation.count_ones.Given as goal
 
 -- `count_ones` meets its contract: the first d bytes are counted.

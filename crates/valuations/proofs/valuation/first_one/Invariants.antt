@@ -1,11 +1,7 @@
-
-use borrow.Author.Rules.{rules}
-use Prim.Native.Nat.{ℕ, suc, ◌+◌, ◌-◌, ◌≤◌}
-use mathlib.Core.Path.{◌≡◌, ap}
-use native.Mathlib.Omega.{arith}
+use Prim.Native.Nat.{◌+◌, ◌-◌, ◌≤◌}
+use mathlib.Core.Path.{◌≡◌}
 use Rattle.theory.specs.Valuation.{first_one}
 use Rattle.valuations.specs.Cells.{bits_at}
-use Rattle.valuations.proofs.Bits.{first-here, first-later}
 use Rattle.valuations.proofs.valuation.first_one.Given as goal
 
 -- `first_one` meets its contract: none of the first d bytes is 1.

@@ -1,14 +1,8 @@
-
-use borrow.Author.Rules.{rules}
-use Prim.Native.Nat.{ℕ, ◌-◌, ◌≤◌}
-use mathlib.Core.Path.{◌≡◌, refl, sym, ap, ◌∙◌}
-use native.Mathlib.Numerals.{add-one}
-use native.Mathlib.Omega.{arith}
+use Prim.Native.Nat.{◌-◌, ◌≤◌}
+use mathlib.Core.Path.{◌≡◌}
 use lib.ListN.{length, drop}
 use Rattle.theory.specs.Lists.{all}
 use lib.Dec.{ltb}
-use Rattle.valuations.proofs.Bits.{binary-on, not-binary}
-use lib.Seq.{drop-length}
 use Rattle.valuations.proofs.valuation.is_binary.Given as goal
 
 -- `is_binary` meets its contract: the bytes before i are 0 or 1.

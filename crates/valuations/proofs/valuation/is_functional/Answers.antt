@@ -1,13 +1,10 @@
-use borrow.Author.Rules.{rules}
-use Prim.Native.Nat.{ℕ, ◌-◌, ◌≤◌, ◌<◌}
+use Prim.Native.Nat.{◌-◌, ◌<◌}
 use mathlib.Core.Path.{◌≡◌, sym, ap, ◌∙◌}
-use mathlib.Core.List.{List, []}
+use mathlib.Core.List.{[]}
 use native.Mathlib.Numerals.{add-one}
 use native.Mathlib.Omega.{arith}
-use borrow.Author.Tests.{not-true, not-false}
 use lib.ListN.{length, get_or}
 use Rattle.theory.specs.Propositional.{block_size}
-use Rattle.theory.specs.Valuation.{is_functional}
 use Rattle.syntax.specs.Signatures.{signature_in, symbol_in}
 use Rattle.clauses.proofs.Held.{blank, arity-at, count-signature_in, symbol_at-signature_in}
 use Rattle.valuations.proofs.Blocks.{functional_from, functional-from-start, functional-passes, functional-fails, functional-to-end, block_room, functional-at}
@@ -20,13 +17,16 @@ pub all_have_values-requires : goal.all_have_values-requires
 all_have_values-requires c = let s = c in
     let l = c.loop-i in
     let g = signature_in [] s.args.signature in
-    let lt : l.i < length g = omega (arith, count-signature_in s.args.signature s.requires.limited.0 []) in record { arity_bound = (arity-at s.args.signature s.requires.limited.0 l.i (omega arith), s.requires.limited.1, omega (arith, s.requires.setting_len, (s.requires.by_index []).small)); function_in_bounds = omega (
+    let lt : l.i < length g = omega (arith, count-signature_in s.args.signature s.requires.limited.0 []) in record {
+      arity_bound = (arity-at s.args.signature s.requires.limited.0 l.i (omega arith), s.requires.limited.1, omega (arith, s.requires.setting_len, (s.requires.by_index []).small));
+      function_in_bounds = omega (
         arith,
         (s.requires.by_index []).base l.i lt,
         (s.requires.by_index []).count,
         block_room s.args.size.0 g l.i lt,
         ap (block_size s.args.size.0) (symbol_at-signature_in s.args.signature s.requires.limited.0 [] l.i (omega arith)),
-      ) }
+      );
+    }
 
 pub returns-then-not-all_have_values : goal.returns-then-not-all_have_values
 returns-then-not-all_have_values c = let s = c in

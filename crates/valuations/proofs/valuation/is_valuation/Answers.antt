@@ -1,5 +1,4 @@
 -- `is_valuation` meets its contract.
-use borrow.Author.Rules.{rules}
 use mathlib.Core.Path.{sym, ◌∙◌}
 use Rattle.valuations.proofs.Bits.{uncounted, counted}
 use Rattle.valuations.proofs.valuation.is_valuation.Goals as goal

@@ -2,8 +2,7 @@ use native.Mathlib.Nat.{zero-mul, suc-mul}
 use Rattle.valuations.specs.Cells.{bits_at}
 use Rattle.valuations.proofs.Bits.{block-fits, value-stored}
 use lib.Seq.{take-length}
-use borrow.Author.Rules.{rules}
-use Prim.Native.Nat.{ℕ, ◌+◌, ◌-◌, ◌*◌, ◌≤◌}
+use Prim.Native.Nat.{ℕ, ◌+◌, ◌-◌, ◌*◌}
 use mathlib.Core.Path.{◌≡◌, refl, sym, ap, ◌∙◌}
 use native.Mathlib.Numerals.{add-one}
 use native.Mathlib.Omega.{arith}

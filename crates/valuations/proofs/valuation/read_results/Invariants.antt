@@ -1,16 +1,8 @@
-
-use native.Mathlib.Nat.{zero-mul, suc-mul}
-use Rattle.valuations.specs.Cells.{bits_at}
-use Rattle.valuations.proofs.Bits.{block-fits, value-stored}
-use lib.Seq.{take-length}
-use borrow.Author.Rules.{rules}
-use Prim.Native.Nat.{ℕ, ◌+◌, ◌-◌, ◌*◌, ◌≤◌}
-use mathlib.Core.Path.{◌≡◌, refl, sym, ap, ◌∙◌}
-use native.Mathlib.Numerals.{add-one}
-use native.Mathlib.Omega.{arith}
-use lib.ListN.{length, take, drop, replicate, length-set}
+use Prim.Native.Nat.{◌+◌, ◌-◌, ◌*◌, ◌≤◌}
+use mathlib.Core.Path.{◌≡◌}
+use lib.ListN.{length, take, drop, replicate}
 use Rattle.theory.specs.Syntax as theory
-use Rattle.theory.specs.Valuation.{values_of, first_one}
+use Rattle.theory.specs.Valuation.{values_of}
 use Rattle.valuations.proofs.valuation.read_results.Given as goal
 
 -- `read_results` meets its contract: the first r values are read.

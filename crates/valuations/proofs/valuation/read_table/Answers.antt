@@ -1,6 +1,5 @@
 use mathlib.Core.Path.{◌∙◌}
 use native.Mathlib.Omega.{arith}
-use borrow.Author.Rules.{rules}
 use Rattle.valuations.proofs.valuation.read_table.Goals as goal
 
 -- `read_table` meets its contract.

@@ -1,12 +1,6 @@
-
-use Rattle.valuations.proofs.Bits.{value-stored}
-use lib.Seq.{take-length, get_or-take, get_or-drop}
-use borrow.Author.Rules.{rules}
-use Prim.Native.Nat.{ℕ, ◌+◌, ◌-◌, ◌*◌, ◌≤◌}
-use mathlib.Core.Path.{◌≡◌, refl, sym, ap, ◌∙◌}
-use native.Mathlib.Numerals.{add-one}
-use native.Mathlib.Omega.{arith}
-use lib.ListN.{length, take, drop, replicate, length-set, get_or}
+use Prim.Native.Nat.{ℕ, ◌-◌, ◌≤◌}
+use mathlib.Core.Path.{◌≡◌}
+use lib.ListN.{length, take, drop, replicate}
 use Rattle.theory.specs.Syntax as theory
 use Rattle.theory.specs.Valuation.{values_of}
 use Rattle.valuations.proofs.valuation.read_truths.Given as goal

@@ -1,15 +1,11 @@
 use Rattle.valuations.proofs.Bits.{byte-stored}
 use lib.Seq.{take-length}
-use borrow.Author.Rules.{rules}
-use Prim.Native.Nat.{ℕ, suc, ◌+◌, ◌-◌, ◌≤◌, ◌<◌}
+use Prim.Native.Nat.{ℕ, ◌-◌}
 use mathlib.Core.Path.{◌≡◌, refl, sym, ap, ◌∙◌}
 use native.Mathlib.Numerals.{add-one}
 use native.Mathlib.Omega.{arith}
 use lib.ListN.{length, take, length-set}
 use Rattle.theory.specs.Valuation.{setting_of}
-use Rattle.valuations.proofs.valuation.read_values.Reads as reads
-use Rattle.valuations.proofs.valuation.read_values.Lts as lts
-use Rattle.valuations.proofs.valuation.byte_of.Reads as byte-of-reads
 use Rattle.valuations.proofs.valuation.read_values.Goals as goal
 
 pub loop-i-init : goal.loop-i-init

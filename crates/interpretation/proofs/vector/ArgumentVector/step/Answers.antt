@@ -2,7 +2,7 @@ use borrow.Author.Rules.{rules}
 use Prim.Native.Nat.{◌-◌}
 use mathlib.Core.Path.{◌≡◌}
 use native.Mathlib.Omega.{arith}
-use Rattle.interpretation.proofs.Steps.{Passed, before, none_passed, digit-below, one-passed, stepped, all-passed}
+use Rattle.interpretation.proofs.Steps.{before, none_passed, digit-below, one-passed, stepped, all-passed}
 use Rattle.interpretation.proofs.vector.ArgumentVector.step.Goals as goal
 
 pub overflow_cast-size : goal.overflow_cast-size

@@ -1,9 +1,5 @@
-
-use borrow.Author.Rules.{rules}
 use Prim.Native.Nat.{◌-◌}
-use mathlib.Core.Path.{◌≡◌}
-use native.Mathlib.Omega.{arith}
-use Rattle.interpretation.proofs.Steps.{Passed, before, none_passed, digit-below, one-passed, stepped, all-passed}
+use Rattle.interpretation.proofs.Steps.{Passed}
 use Rattle.interpretation.proofs.vector.ArgumentVector.step.Given as goal
 
 -- `ArgumentVector::step` meets its contract.

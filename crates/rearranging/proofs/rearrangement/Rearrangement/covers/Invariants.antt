@@ -1,13 +1,8 @@
-
-use borrow.Author.Rules.{rules}
-use borrow.Author.Tests.{not-true, not-false}
-use Prim.Native.Nat.{ℕ, ◌-◌, ◌≤◌}
-use mathlib.Core.Path.{◌≡◌, refl, sym, ap, ◌∙◌}
+use Prim.Native.Nat.{◌-◌, ◌≤◌}
+use mathlib.Core.Path.{◌≡◌}
 use mathlib.Core.Bool.{true}
-use native.Mathlib.Omega.{arith}
 use Rattle.theory.specs.Lists.{all, elem, up_to}
 use Rattle.rearranging.specs.Entries.{rearrangement_in}
-use Rattle.rearranging.proofs.Covering.{one-missing, one_more}
 use Rattle.rearranging.proofs.rearrangement.Rearrangement.covers.Given as goal
 
 -- `covers` meets its contract: the elements before d are among the entries.

@@ -1,5 +1,4 @@
 -- `has` meets its contract: an element has a place exactly if it is among the entries.
-use borrow.Author.Rules.{rules}
 use Rattle.rearranging.proofs.Entering.{has-elem}
 use Rattle.rearranging.proofs.rearrangement.Rearrangement.has.Goals as goal
 

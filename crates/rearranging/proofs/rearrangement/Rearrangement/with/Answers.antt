@@ -1,5 +1,4 @@
 -- `with` meets its contract.
-use borrow.Author.Rules.{rules}
 use Rattle.rearranging.proofs.Entering.{entry-added, held_with}
 use Rattle.rearranging.proofs.rearrangement.Rearrangement.with.Goals as goal
 

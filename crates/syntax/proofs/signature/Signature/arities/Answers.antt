@@ -1,10 +1,7 @@
-use Prim.Native.Nat.{◌≤◌, ◌-◌}
 use mathlib.Core.Path.{◌≡◌}
 use native.Mathlib.Numerals.{add-one}
 use native.Mathlib.Omega.{arith}
-use lib.ListN.{length, take, length-map, length-set}
-use borrow.Author.Rules.{rules}
-use Rattle.syntax.specs.Signatures.{arities_of}
+use lib.ListN.{length, length-set}
 use Rattle.syntax.proofs.Signatures.{arities_of-more}
 use Rattle.syntax.proofs.signature.Signature.arities.Goals as goal
 

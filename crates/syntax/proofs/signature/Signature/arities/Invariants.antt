@@ -1,12 +1,7 @@
-
 use Prim.Native.Nat.{◌≤◌, ◌-◌}
 use mathlib.Core.Path.{◌≡◌}
-use native.Mathlib.Numerals.{add-one}
-use native.Mathlib.Omega.{arith}
-use lib.ListN.{length, take, length-map, length-set}
-use borrow.Author.Rules.{rules}
+use lib.ListN.{length, take}
 use Rattle.syntax.specs.Signatures.{arities_of}
-use Rattle.syntax.proofs.Signatures.{arities_of-more}
 use Rattle.syntax.proofs.signature.Signature.arities.Given as goal
 
 -- `Signature::arities` meets its contract: the arities of the symbols before i are written.

@@ -1,5 +1,4 @@
 -- `Signature::declared` meets its contract.
-use borrow.Author.Rules.{rules}
 use Rattle.syntax.proofs.signature.Signature.declared.Goals as goal
 
 pub returns : goal.returns

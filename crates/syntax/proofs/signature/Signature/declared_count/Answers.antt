@@ -1,10 +1,7 @@
-use Prim.Native.Nat.{◌+◌, ◌-◌, ◌≤◌}
 use mathlib.Core.Path.{◌≡◌}
 use native.Mathlib.Numerals.{add-one}
 use native.Mathlib.Omega.{arith}
-use lib.ListN.{length, take, drop, length-map}
-use borrow.Author.Rules.{rules}
-use Rattle.syntax.specs.Signatures.{declared_count}
+use lib.ListN.{length}
 use Rattle.syntax.proofs.Signatures.{declared-ends, declared-more, declared-none}
 use Rattle.syntax.proofs.signature.Signature.declared_count.Goals as goal
 
