@@ -4,32 +4,29 @@
 
 mod runs;
 
+use reading_input::read_full;
 use runs::Operation;
 use std::io::Read;
 use std::rt::Files;
 use std::{fs, io};
 
 // What is read of a file at most.
-const STORED: u64 = 300000;
+const STORED: usize = 300000;
 
 // One file of stored inputs, all of one operation.
-fn run_file(
-    rt: &(impl Files + Print + AllocGlobal),
-    path: &str,
-    operation: Operation,
-) -> io::Result<()> {
-    let file = fs::open(rt, path)?;
-    run_stored(rt, file, path.as_bytes(), operation)
+fn run_file(rt: &(impl Files + Print), path: &str, operation: Operation) -> io::Result<()> {
+    let mut file = fs::open(rt, path)?;
+    run_stored(rt, &mut file, path.as_bytes(), operation)
 }
 
 // The buffers stand apart from what is done with them: a proof of what is done then has no list of all their numbers in it.
 fn run_stored(
-    rt: &(impl Print + AllocGlobal),
-    file: impl Read + Drop,
+    rt: &impl Print,
+    file: &mut impl Read,
     label: &[u8],
     operation: Operation,
 ) -> io::Result<()> {
-    let mut stored = Vec::new(rt.alloc());
+    let mut stored = [0u8; STORED];
     let mut work = [0u32; 65536];
     let mut output = [0u8; 65536];
     answer_file(
@@ -46,19 +43,19 @@ fn run_stored(
 // What the file holds, answered.
 fn answer_file(
     rt: &impl Print,
-    file: impl Read + Drop,
+    file: &mut impl Read,
     label: &[u8],
     operation: Operation,
-    stored: &mut Vec<u8>,
+    stored: &mut [u8],
     work: &mut [u32],
     output: &mut [u8],
 ) -> io::Result<()> {
-    file.take(STORED).read_to_end(stored)?;
-    runs::answer_all(rt, label, operation, stored, work, output)
+    let length = read_full(file, stored)?;
+    runs::answer_all(rt, label, operation, &stored[..length], work, output)
 }
 
 // The calls with every switch off.
-fn run_plain(rt: &(impl Files + Print + AllocGlobal)) -> io::Result<()> {
+fn run_plain(rt: &(impl Files + Print)) -> io::Result<()> {
     run_file(rt, "read", Operation::Read)?;
     run_file(rt, "judge", Operation::Judge)?;
     run_file(rt, "write", Operation::Write(false, false))?;
@@ -72,7 +69,7 @@ fn run_plain(rt: &(impl Files + Print + AllocGlobal)) -> io::Result<()> {
 }
 
 // The calls with one switch or both on.
-fn run_switched(rt: &(impl Files + Print + AllocGlobal)) -> io::Result<()> {
+fn run_switched(rt: &(impl Files + Print)) -> io::Result<()> {
     run_file(rt, "write_named", Operation::Write(true, false))?;
     run_file(rt, "read_back_named", Operation::ReadBack(true))?;
     run_file(rt, "find_named", Operation::Find(true, false))?;
