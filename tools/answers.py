@@ -261,6 +261,11 @@ class Function:
             return f"{m[1]}.{new if new else m[2]}"
 
         roots = "|".join(re.escape(v) for v in sorted(context))
+        # what an arm was given, where a let has named it
+        for m in list(re.finditer(r"let (" + IDENT + r") = (" + roots + r")\.(" + IDENT + r")\.given in\s*", text)):
+            if any(old == norm(m[3]) for old, _ in self.arms):
+                text = text.replace(m[0], "", 1)
+                text = re.sub(r"(?<![\w.'\u2080-\u2089-])" + re.escape(m[1]) + r"((?:\.\d)+)(?![\w'-])", lambda k: f"{m[2]}.{m[3]}.given{k[1]}", text)
         for (old, path), new in sorted(self.arms.items(), key=lambda it: -len(it[0][1])):
             step = "[-_]".join(map(re.escape, old.split("_")))
             text = re.sub(r"(?<![\w.'\u2080-\u2089-])(" + roots + r")\." + step + r"\." + re.escape(path) + r"(?![\w'-])", lambda m: f"{m[1]}.{new}", text)
@@ -273,6 +278,9 @@ class Function:
         text = re.sub(r"\(not-(?:true|false) (?:_|\([^()]*\)|[\w.'-]+) ([\w.'-]+\.(?:true|false))-raw\)", r"\1", text)
         text = re.sub(r"not-(?:true|false) (?:_|\([^()]*\)|[\w.'-]+) ([\w.'-]+\.(?:true|false))-raw(?![\w'-])", r"\1", text)
 
+        text = re.sub(r"(\.(?:if-[\w+-]+|loop-[\w-]+-test))\.taken(?![\w'-])", r"\1.true", text)
+        text = re.sub(r"(\.(?:if-[\w+-]+|loop-[\w-]+-test))\.left(?![\w'-])", r"\1.false", text)
+        text = re.sub(r"(?<![\w.'\u2080-\u2089-])(" + roots + r")\.pre(?=\.)", r"\1.requires", text)
         own = self.source(self.own)
         if own:
             # a parameter that is taken by value had the number of its local
@@ -507,7 +515,7 @@ def main(argv):
         path = os.path.relpath(folder, top)
         if only and path not in only:
             continue
-        text = open(f"{folder}/Proof.antt", encoding="utf-8").read()
+        text = re.sub(r"(?m)^-- src/\S+:\d+:\d+\n", "", open(f"{folder}/Proof.antt", encoding="utf-8").read())
         key = f"Rattle-{crate}-proofs.{path.replace('/', '.')}.Lts"
         cycle = [k for k in listed if k.startswith(f"Rattle-{crate}-proofs.{path.replace('/', '.')}.Lts-")]
         measure = None

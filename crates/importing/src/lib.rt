@@ -1,6 +1,7 @@
 // From TPTP: a text of TPTP clauses read into a sheet. The statements are surveyed up to the first fault, the lines of their clauses kept; of a clean
 // text the sheet is measured, and written where it fits.
 #![tactic(auto)]
+
 pub mod noting;
 pub mod sheet;
 pub mod survey;

@@ -7,7 +7,7 @@ use native.Mathlib.Omega.{arith}
 use lib.Dec.{leb}
 use lib.ListN.{length}
 use Rattle.theory.specs.Syntax.{Signature, all_declared}
-use Rattle.theory.specs.Refusals.{Answer, answer, refused, unplaced, needing, ◌>>=◌}
+use Rattle.theory.specs.Refusals.{Answer, answer, refused, unplaced, needing}
 use Rattle.theory.specs.Columns.{placed_problem}
 use Rattle.theory.proofs.Tests.{leb-of-≤, leb-of-<}
 use Rattle.theory.proofs.Answers.{bind-step, bind-refused, check-of-true, check-of-false}

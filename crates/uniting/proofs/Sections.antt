@@ -16,7 +16,7 @@ use Rattle.sheet_merging.specs.Merging.{new_to}
 use Rattle.uniting.specs.declared.joins.Join.{Join}
 use Rattle.uniting.specs.Runs.{run_lines}
 use Rattle.uniting.specs.Joins.{new_text, JoinOf, joined_lines}
-use Rattle.uniting.proofs.LineRuns.{run-bytes, run-part}
+use Rattle.uniting.proofs.LineRuns.{run-part}
 
 module _ (first second key : List ℕ) (j : Join) (h : JoinOf first second j) where
   abbrev X : List (List ℕ)

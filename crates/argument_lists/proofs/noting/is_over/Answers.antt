@@ -2,6 +2,5 @@ use mathlib.Core.Bool.{false≢true}
 use Rattle.argument_lists.proofs.noting.is_over.Goals as goal
 
 -- `is_over` looks at the open lists first.
--- src/noting.rt:22:9
 pub returns-then-p-ne0 : goal.returns-then-p-ne0
 returns-then-p-ne0 c = λ e. absurd (false≢true e)

@@ -1,18 +1,19 @@
-use Prim.Native.Nat.{◌-◌}
+use borrow.Author.Rules.{rules}
+use Prim.Native.Nat.{ℕ, ◌-◌, ◌≤◌}
 use mathlib.Core.Path.{◌≡◌, refl, sym, ap, ◌∙◌}
+use mathlib.Core.List.{List}
 use native.Mathlib.Numerals.{add-one}
 use native.Mathlib.Omega.{arith}
 use lib.ListN.{length, get_or}
 use Rattle.syntax.specs.Signatures.{signature_in}
 use Rattle.clauses.proofs.Held.{blank, count-signature_in, symbol_at-signature_in}
 use Rattle.ranges.proofs.Constants.{constants_from, constants-pass, constants-fail, constants-end}
+use Rattle.ranges.proofs.settled.all_constants.Lts as lts
 use Rattle.ranges.proofs.settled.all_constants.Goals as goal
 
--- src/settled.rt:34:5
 pub loop-i-init : goal.loop-i-init
 loop-i-init c = (omega arith, λ sheet. refl)
 
--- src/settled.rt:37:13
 pub returns-then-takes_arguments : goal.returns-then-takes_arguments
 returns-then-takes_arguments c = let y = c.args.signature in
     let h = c.requires in
@@ -23,7 +24,6 @@ returns-then-takes_arguments c = let y = c.args.signature in
     ∙ constants-fail (signature_in sheet y) l.i (omega (arith, count-signature_in y h sheet)) sheet (get_or y.symbols l.i blank) (symbol_at-signature_in y h sheet l.i (omega arith))
     (sym c.takes_arguments.ensures ∙ c.if-takes_arguments.true))
 
--- src/settled.rt:34:5
 pub loop-i-preserved : goal.loop-i-preserved
 loop-i-preserved c = let y = c.args.signature in
     let h = c.requires in
@@ -36,7 +36,6 @@ loop-i-preserved c = let y = c.args.signature in
           (sym c.takes_arguments.ensures ∙ c.if-takes_arguments.false)),
     )
 
--- src/settled.rt:29:1
 pub returns : goal.returns
 returns c = let y = c.args.signature in
     let l = c.loop-i in

@@ -1,8 +1,6 @@
--- src/line.rt:23:29
 use Rattle.shortening.proofs.LineWords.{next_word}
 use Rattle.shortening.proofs.line.next_word.Goals as goal
 
--- src/line.rt:19:1
 pub returns : goal.returns
 returns c = let z = c in
     let a = z.args in

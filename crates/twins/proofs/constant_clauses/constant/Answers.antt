@@ -16,12 +16,12 @@ use Rattle.twins.proofs.constant_clauses.constant.Goals as goal
 
 pub some_result-range-requires : goal.some_result-range-requires
 some_result-range-requires c = let s = c in
-    (omega (arith, c.smaller-most.ensures, s.pre.0.3), omega (arith, s.pre.0.0.small s.args.i s.pre.0.1))
+    (omega (arith, c.smaller-most.ensures, s.requires.held.3), omega (arith, s.requires.held.0.small s.args.i s.requires.held.1))
 
 pub slice_bounds-take_clause-end : goal.slice_bounds-take_clause-end
 slice_bounds-take_clause-end c = let r = c.some_result-range.result in
     let e : length r ≡ 8 = search rules in
-    sym (length-take-le c.smaller-most.result r (omega (arith, e, c.smaller-most.ensures, c.pre.0.3)))
+    sym (length-take-le c.smaller-most.result r (omega (arith, e, c.smaller-most.ensures, c.requires.held.3)))
 
 pub take_clause-p-requires : goal.take_clause-p-requires
 take_clause-p-requires c = let s = c in
@@ -31,8 +31,8 @@ take_clause-p-requires c = let s = c in
     let k = c.some_result-range in
     let range = prop_clause_of (take m.result k.result) ∷ [] in
     let steps = step_clauses (held_bases a.constants) a.i (m.result - 1) in
-    let e = range-and-steps a.constants a.i a.size.0 m.result k.result s.pre.0.1 m.ensures k.ensures in
-    first-consumes a.mode a.v range steps x (consumes-same a.mode a.v (twin_clauses a.size.0 (held_bases a.constants) a.i) (range ++ steps) x e s.pre.1)
+    let e = range-and-steps a.constants a.i a.size.0 m.result k.result s.requires.held.1 m.ensures k.ensures in
+    first-consumes a.mode a.v range steps x (consumes-same a.mode a.v (twin_clauses a.size.0 (held_bases a.constants) a.i) (range ++ steps) x e s.requires.consumes)
 
 pub further-requires : goal.further-requires
 further-requires c = let s = c in
@@ -42,9 +42,9 @@ further-requires c = let s = c in
     let k = c.some_result-range in
     let range = prop_clause_of (take m.result k.result) ∷ [] in
     let steps = step_clauses (held_bases a.constants) a.i (m.result - 1) in
-    let e = range-and-steps a.constants a.i a.size.0 m.result k.result s.pre.0.1 m.ensures k.ensures in
+    let e = range-and-steps a.constants a.i a.size.0 m.result k.result s.requires.held.1 m.ensures k.ensures in
     let t = c.take_clause-p in
-    let y = state t.result t.last.1.1.1.0 t.last.1.1.1.1.0 in record { held = (s.pre.0.0, s.pre.0.1, omega (arith, m.ensures, s.pre.0.2), omega (arith, m.ensures, s.pre.0.3)); consumes = rest-consumes a.mode a.v range steps x y (consumes-same a.mode a.v (twin_clauses a.size.0 (held_bases a.constants) a.i) (range ++ steps) x e s.pre.1) t.ensures }
+    let y = state t.result t.last.1.1.1.0 t.last.1.1.1.1.0 in record { held = (s.requires.held.0, s.requires.held.1, omega (arith, m.ensures, s.requires.held.2), omega (arith, m.ensures, s.requires.held.3)); consumes = rest-consumes a.mode a.v range steps x y (consumes-same a.mode a.v (twin_clauses a.size.0 (held_bases a.constants) a.i) (range ++ steps) x e s.requires.consumes) t.ensures }
 
 pub returns : goal.returns
 returns c = let s = c in
@@ -54,7 +54,7 @@ returns c = let s = c in
     let k = c.some_result-range in
     let range = prop_clause_of (take m.result k.result) ∷ [] in
     let steps = step_clauses (held_bases a.constants) a.i (m.result - 1) in
-    let e = range-and-steps a.constants a.i a.size.0 m.result k.result s.pre.0.1 m.ensures k.ensures in
+    let e = range-and-steps a.constants a.i a.size.0 m.result k.result s.requires.held.1 m.ensures k.ensures in
     let t = c.take_clause-p in
     let y = state t.result t.last.1.1.1.0 t.last.1.1.1.1.0 in
     let q = c.further in

@@ -9,16 +9,13 @@ use Rattle.clauses.proofs.Held.{blank, arity-at, count-signature_in, symbol_at-s
 use Rattle.valuations.proofs.Numbered.{block_within, none-numbered, one-numbered, all-numbered}
 use Rattle.valuations.proofs.numbering.numbering_of.Goals as goal
 
--- src/numbering.rt:47:5
 pub loop-i-init : goal.loop-i-init
 loop-i-init c = (omega arith, λ sheet. none-numbered (signature_in sheet c.args.signature) c.args.size.0)
 
--- src/numbering.rt:51:29
 pub block_size-requires : goal.block_size-requires
 block_size-requires c = let s = c in
     (arity-at s.args.signature s.requires.0 c.loop-i.i (omega arith), s.requires.1)
 
--- src/numbering.rt:51:19
 pub overflow_add-n : goal.overflow_add-n
 overflow_add-n c = let s = c in
     let l = c.loop-i in
@@ -31,7 +28,6 @@ overflow_add-n c = let s = c in
       block_within s.args.size.0 y.arity y.function s.requires.1 (arity-at s.args.signature s.requires.0 l.i (omega arith)),
     )
 
--- src/numbering.rt:47:5
 pub loop-i-preserved : goal.loop-i-preserved
 loop-i-preserved c = let s = c in
     let g = s.args.signature in
@@ -44,7 +40,6 @@ loop-i-preserved c = let s = c in
           (symbol_at-signature_in g s.requires.0 sheet l.i (omega arith)) (omega (arith, count-signature_in g s.requires.0 sheet)) (omega (arith, s.requires.0.count)) s.requires.1 a),
     )
 
--- src/numbering.rt:37:1
 pub returns : goal.returns
 returns c = let s = c in
     let g = s.args.signature in
