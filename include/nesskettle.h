@@ -1,7 +1,7 @@
 /*
  * Nesskettle: finite model finder. Its operations for C.
  *
- * Link target/staticlib/libexports.a (`rt staticlib exports` writes it; x86-64 Linux).
+ * Link crates/exports/out/libexports.a (`rt lib` in crates/exports writes it; x86-64 Linux).
  *
  * Every call ends, for every byte string, number and buffer, and answers a result or a refusal. It never expects
  * checked input. What must hold is what C itself asks of the pointers: each points to as many bytes or numbers as the

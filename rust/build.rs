@@ -1,4 +1,4 @@
-//! Links the proved library, `target/staticlib/libexports.a` of the repository.
+//! Links the proved library, `crates/exports/out/libexports.a` of the repository.
 //!
 //! `NESSKETTLE_LIBRARY` names another archive with the same functions.
 
@@ -10,7 +10,7 @@ fn main() {
     println!("cargo::rerun-if-changed={}", archive.display());
     if !archive.is_file() {
         println!(
-            "cargo::error={} is missing: run `rt staticlib exports` at the top of the repository first",
+            "cargo::error={} is missing: run `rt lib` in crates/exports first",
             archive.display()
         );
         return;
@@ -27,7 +27,7 @@ fn archive() -> PathBuf {
         Some(path) => PathBuf::from(path),
         None => {
             let package = std::env::var_os("CARGO_MANIFEST_DIR").expect("cargo sets it");
-            Path::new(&package).join("../target/staticlib/libexports.a")
+            Path::new(&package).join("../crates/exports/out/libexports.a")
         }
     }
 }

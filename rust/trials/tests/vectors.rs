@@ -25,11 +25,11 @@ fn the_explainer_prints_as_stored() {
 }
 
 fn prints_as_stored(name: &str) {
-    let folder = Path::new(env!("CARGO_MANIFEST_DIR")).join("../../target/bin");
-    let program = folder.join(name);
+    let crates = Path::new(env!("CARGO_MANIFEST_DIR")).join("../../crates");
+    let program = crates.join(name).join("out").join(name);
     if !program.is_file() {
         eprintln!(
-            "left out: {} is missing (`rt check {name}` writes it)",
+            "left out: {} is missing (`rt run` in crates/{name} writes it, and `rt ci` at the top)",
             program.display()
         );
         return;
