@@ -254,6 +254,7 @@ class Function:
                 context.add(alias)
         text = re.sub(r"(?<![\w.'\u2080-\u2089-])(" + "|".join(map(re.escape, sorted(context))) + r")(?:\.before)+(?![\w'-])", r"\1", text)
         text = re.sub(r"\.well-formed(?![\w'-])", ".well_formed", text)
+        text = re.sub(r"\.type-inv(?![\w'-])", ".type_inv", text)
         text = re.sub(r"simp length-map at (?=[\w.'-]*\.well_formed\.)", "", text)
 
         def field(m):
@@ -315,7 +316,7 @@ class Function:
                         path.pop(0)
                         k += 1
                     path = path[1:]
-                    return f"{step}.{kind}.{over[k]}" + "".join(f".{d}" for d in path) if k < len(over) else m[0]
+                    return f"{step}.{'new' if kind == 'last' else kind}.{over[k]}" + "".join(f".{d}" for d in path) if k < len(over) else m[0]
             if not labels or len(labels) < 2 or None in labels:
                 return m[0]
             i = 0
@@ -330,8 +331,12 @@ class Function:
                 self.hand(f"{m[0]} is several clauses")
             return f"{step}.{kind}.{labels[i]}" + "".join(f".{d}" for d in path)
 
+        # clauses that a let has named
+        for alias, of, kind in re.findall(r"\blet (" + IDENT + r") = ([\w.'+-]+)\.(requires|ensures)\s+in\b", text):
+            step = of.split(".")[-1]
+            text = re.sub(r"(?<![\w.'\u2080-\u2089-])" + re.escape(alias) + r"((?:\.\d)+)(?![\w'-])", lambda k: alias + counted(re.match(r"(" + IDENT + r")\.(requires|ensures)((?:\.\d)+)$", f"{step}.{kind}{k[1]}"))[len(f"{step}.{kind}") :], text)
         text = re.sub(r"(?<![\w'\u2080-\u2089-])(" + IDENT + r")\.(requires)((?:\.\d)+)", counted, text)
-        text = re.sub(r"(?<![\w'\u2080-\u2089-])(" + IDENT + r")\.(ensures|new|auto)((?:\.\d)+)", counted, text)
+        text = re.sub(r"(?<![\w'\u2080-\u2089-])(" + IDENT + r")\.(ensures|new|auto|last)((?:\.\d)+)", counted, text)
         return text
 
     def loop_body(self, loop, args, body, name):

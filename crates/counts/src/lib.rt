@@ -1,5 +1,6 @@
 // The counts of a problem at a size: how many clauses and literals would be written if none were dropped. The constant clauses count where they are used.
 #![tactic(auto)]
+
 ghost use Rattle.std.specs.Prelude.{◌≡◌, cond, List, [], ◌∷◌, map, ℕ, ◌+◌, ◌-◌, ◌*◌, ◌/◌, ◌^◌, ◌≤◌, ◌<◌, get_or};
 ghost use Rattle.theory.specs.PropClauses.{clause_part, function_part, function_places};
 ghost use Rattle.symmetry.specs.ConstantClauses.{constant_parts, instance_count_with, literal_count_with};

@@ -1,5 +1,6 @@
 // Encoding: all clauses of a problem at a size, in written order.
 #![tactic(auto)]
+
 ghost use Rattle.std.specs.Prelude.{List, ℕ, ◌≤◌};
 ghost use Rattle.syntax.specs.Signatures.{signature_in};
 ghost use Rattle.clauses.specs.Names.{Limited};

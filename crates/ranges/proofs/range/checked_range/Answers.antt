@@ -1,10 +1,8 @@
 -- `checked_range` meets its contract.
-use borrow.Author.Rules.{rules}
 use mathlib.Core.Path.{sym, ◌∙◌}
 use native.Mathlib.Omega.{arith}
 use Rattle.syntax.proofs.Sizes.{checked-size}
 use Rattle.ranges.proofs.Ranges.{range-no-low, range-no-high, range-disordered, range-ordered}
-use Rattle.ranges.proofs.range.checked_range.Lts as lts
 use Rattle.ranges.proofs.range.checked_range.Goals as goal
 
 pub returns-in_default : goal.returns-in_default

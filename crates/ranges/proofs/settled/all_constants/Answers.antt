@@ -1,14 +1,11 @@
-use borrow.Author.Rules.{rules}
-use Prim.Native.Nat.{ℕ, ◌-◌, ◌≤◌}
+use Prim.Native.Nat.{◌-◌}
 use mathlib.Core.Path.{◌≡◌, refl, sym, ap, ◌∙◌}
-use mathlib.Core.List.{List}
 use native.Mathlib.Numerals.{add-one}
 use native.Mathlib.Omega.{arith}
 use lib.ListN.{length, get_or}
 use Rattle.syntax.specs.Signatures.{signature_in}
 use Rattle.clauses.proofs.Held.{blank, count-signature_in, symbol_at-signature_in}
 use Rattle.ranges.proofs.Constants.{constants_from, constants-pass, constants-fail, constants-end}
-use Rattle.ranges.proofs.settled.all_constants.Lts as lts
 use Rattle.ranges.proofs.settled.all_constants.Goals as goal
 
 pub loop-i-init : goal.loop-i-init

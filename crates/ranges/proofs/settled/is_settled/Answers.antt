@@ -1,7 +1,5 @@
 use native.Mathlib.Omega.{arith}
 use Rattle.ranges.proofs.Constants.{unsettled-low, unsettled-high, settled-by}
-use borrow.Author.Rules.{rules}
-use Rattle.ranges.proofs.settled.is_settled.Lts as lts
 use Rattle.ranges.proofs.settled.is_settled.Goals as goal
 
 -- `is_settled` meets its contract.

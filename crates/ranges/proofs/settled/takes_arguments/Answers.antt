@@ -1,6 +1,5 @@
 use mathlib.Core.Path.{refl}
 use borrow.Author.Tests.{not-true, not-false}
-use Rattle.ranges.proofs.settled.takes_arguments.Lts as lts
 use Rattle.ranges.proofs.settled.takes_arguments.Goals as goal
 
 -- `takes_arguments` meets its contract.

@@ -44,7 +44,7 @@ further-requires c = let s = c in
     let steps = step_clauses (held_bases a.constants) a.i (m.result - 1) in
     let e = range-and-steps a.constants a.i a.size.0 m.result k.result s.requires.held.1 m.ensures k.ensures in
     let t = c.take_clause-p in
-    let y = state t.result t.last.1.1.1.0 t.last.1.1.1.1.0 in record { held = (s.requires.held.0, s.requires.held.1, omega (arith, m.ensures, s.requires.held.2), omega (arith, m.ensures, s.requires.held.3)); consumes = rest-consumes a.mode a.v range steps x y (consumes-same a.mode a.v (twin_clauses a.size.0 (held_bases a.constants) a.i) (range ++ steps) x e s.requires.consumes) t.ensures }
+    let y = state t.result t.new.out t.new.work in record { held = (s.requires.held.0, s.requires.held.1, omega (arith, m.ensures, s.requires.held.2), omega (arith, m.ensures, s.requires.held.3)); consumes = rest-consumes a.mode a.v range steps x y (consumes-same a.mode a.v (twin_clauses a.size.0 (held_bases a.constants) a.i) (range ++ steps) x e s.requires.consumes) t.ensures }
 
 pub returns : goal.returns
 returns c = let s = c in
@@ -56,7 +56,7 @@ returns c = let s = c in
     let steps = step_clauses (held_bases a.constants) a.i (m.result - 1) in
     let e = range-and-steps a.constants a.i a.size.0 m.result k.result s.requires.held.1 m.ensures k.ensures in
     let t = c.take_clause-p in
-    let y = state t.result t.last.1.1.1.0 t.last.1.1.1.1.0 in
+    let y = state t.result t.new.out t.new.work in
     let q = c.further in
-    let z = state q.result q.last.1.1.1.1.1.0 q.last.1.1.1.1.1.1.0 in
+    let z = state q.result q.new.out q.new.work in
     consumed-same a.mode a.v (range ++ steps) (twin_clauses a.size.0 (held_bases a.constants) a.i) x z (sym e) (both-consumed a.mode a.v range steps x y z t.ensures q.ensures)
