@@ -255,10 +255,10 @@ class Function:
         text = re.sub(r"(?<![\w.'\u2080-\u2089-])(" + "|".join(map(re.escape, sorted(context))) + r")(?:\.before)+(?![\w'-])", r"\1", text)
         text = re.sub(r"\.well-formed(?![\w'-])", ".well_formed", text)
         text = re.sub(r"\.type-inv(?![\w'-])", ".type_inv", text)
-        text = re.sub(r"simp length-map at (?=[\w.'-]*\.well_formed\.)", "", text)
+        text = re.sub(r"simp length-map at (?=[\w.'-]*\.(?:well_formed|type_inv)\.)", "", text)
 
         def field(m):
-            new = self.steps.get(norm(m[2])) or self.steps.get(re.sub("^is_is_", "is_", norm(m[2]).lower())) or self.steps.get(re.sub(r"\d$", "", norm(m[2]))) or (m[2] == "type_size" and self.steps.get("size_of")) or self.steps.get(re.sub("_lem$", "", norm(m[2])[:1].lower() + norm(m[2])[1:]))
+            new = self.steps.get(norm(m[2])) or self.steps.get(re.sub("^is_is_", "is_", norm(m[2]).lower())) or self.steps.get(re.sub(r"\d$", "", norm(m[2]))) or (m[2] == "decreases" and self.steps.get("measured")) or (m[2] == "type_size" and self.steps.get("size_of")) or self.steps.get(re.sub("_lem$", "", norm(m[2])[:1].lower() + norm(m[2])[1:]))
             return f"{m[1]}.{new if new else m[2]}"
 
         roots = "|".join(re.escape(v) for v in sorted(context))
@@ -274,13 +274,13 @@ class Function:
         for helper, place in self.placed.items():
             if goal:
                 text = re.sub(r"(?<![\w.'-])" + re.escape(helper) + r" (" + roots + r")(?![\w.'-])", lambda m: f"{helper} (goal.at.{goal} {'c'}).{place}", text)
+        text = re.sub(r"(\.(?:if-[\w+-]+|loop-[\w-]+-test))\.taken(?![\w'-])", r"\1.true", text)
+        text = re.sub(r"(\.(?:if-[\w+-]+|loop-[\w-]+-test))\.left(?![\w'-])", r"\1.false", text)
         # a test of a negation says its fact by itself: not-true and not-false go, and what is left is the fact as it was
         text = re.sub(r"(?<=\.)(" + IDENT + r")\.(" + IDENT + ")", lambda m: f"{m[1]}.{self.raw.get((m[1], m[2]), m[2])}", text)
         text = re.sub(r"\(not-(?:true|false) (?:_|\([^()]*\)|[\w.'-]+) ([\w.'-]+\.(?:true|false))-raw\)", r"\1", text)
         text = re.sub(r"not-(?:true|false) (?:_|\([^()]*\)|[\w.'-]+) ([\w.'-]+\.(?:true|false))-raw(?![\w'-])", r"\1", text)
 
-        text = re.sub(r"(\.(?:if-[\w+-]+|loop-[\w-]+-test))\.taken(?![\w'-])", r"\1.true", text)
-        text = re.sub(r"(\.(?:if-[\w+-]+|loop-[\w-]+-test))\.left(?![\w'-])", r"\1.false", text)
         text = re.sub(r"(?<![\w.'\u2080-\u2089-])(" + roots + r")\.pre(?=\.)", r"\1.requires", text)
         own = self.source(self.own)
         if own:
@@ -373,6 +373,8 @@ class Function:
             if m and m[2].startswith("Need-"):
                 old = norm(m[2][5:])
                 new = self.needs.get(old) or self.needs.get(re.sub(r"^overflow_", "", old)) or self.needs.get(re.sub(r"^slice_bounds_", "part_", old))
+                if not new:
+                    new = self.needs.get(re.sub(r"_\d$", "", old)) if re.sub(r"_\d$", "", old) != old and old.startswith("slice_aggregate") else None
                 if not new and re.match(r"(overflow_)?(add|sub|mul|cast)_t\d+$", old):
                     # a number that the compiler has no name for: the only one of its kind, where there is one
                     kind = re.search(r"(add|sub|mul|cast)_t", old)[0]

@@ -2,11 +2,11 @@
 """Brings the repository's own definitions and lemmas to snake case, once, after port.py: a word that begins in lower case and has a
 capital letter inside (cellCount, orElse-none) gets an underscore there (cell_count, or_else-none). Types and modules keep their names.
 
-usage: python3 tools/snake_names.py        at the top of the repository
+usage: python3 tools/snake_names.py [--anyway]        at the top of the repository
 
-It reads and writes crates/*/{src,specs,proofs,must-fail}, README.md, docs/*.md and rust/README.md. Texts in quotes stay as they are: they are
-inputs and outputs. A lemma whose name a definition would get is first told apart from it (LEMMAS): it gets the ending -is.
-It stops, and writes nothing, where two names would still fall together in one file.
+It reads and writes crates/*/{src,specs,proofs,must-fail}. Texts in quotes and byte literals stay as they are: they are inputs and outputs.
+A lemma whose name a definition would get is first told apart from it (LEMMAS): it gets the ending -is. It writes nothing where two names
+would still fall together in one file, but with --anyway (one old proof, crates/clauses/proofs/clause/take_words, had an alias of such a name).
 """
 
 import os

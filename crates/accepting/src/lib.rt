@@ -1,5 +1,6 @@
 // From solver: a case from an outside solver's answer, which is believed only as far as it is checked: 18, 14, 19, 11, in this order.
 #![tactic(auto)]
+
 pub mod cells;
 
 ghost use Rattle.std.specs.Prelude.{◌≤◌, length};

@@ -1,4 +1,5 @@
 // Renumber and Least form (document 02, slip 13): a case with its elements numbered otherwise, and the least of all such cases.
 #![tactic(auto)]
+
 pub mod least;
 pub mod renumber;

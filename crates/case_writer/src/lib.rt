@@ -1,5 +1,6 @@
 // The text of an interpretation that is held in cells: the writer of Find plain.
 #![tactic(auto)]
+
 ghost use Rattle.std.specs.Prelude.{◌≡◌, ◌+◌, ◌≤◌, length};
 ghost use Rattle.theory.specs.CaseText.{case_length, case_text, tables_text};
 ghost use Rattle.theory.specs.Operations.{over};

@@ -1,5 +1,6 @@
 // Find: the least model at the smallest size that has one, plain or with named terms; told so, the least of those that obey the constant clauses.
 #![tactic(auto)]
+
 pub mod allowed;
 pub mod first_values;
 pub mod one_size;

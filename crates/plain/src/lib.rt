@@ -1,5 +1,6 @@
 // Find plain: the least model at the smallest size that has one, by trying all cases in order. No flattening, no propositional variable, no work area.
 #![tactic(auto)]
+
 pub mod cells;
 pub mod filling;
 pub mod sizes;

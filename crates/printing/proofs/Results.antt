@@ -10,7 +10,7 @@ use Rattle.theory.specs.Refusals.{Refusal, Answer, answer, refused, at_place}
 use Rattle.theory.specs.Bytes.{bytes}
 use Rattle.theory.specs.Operations.{Search, found, nothing, over, Found, found_case, no_case}
 use Rattle.theory.specs.Program.{refusal_text, printed}
-use Rattle.theory.proofs.Answers.{answer-inj, refused-inj, answer≢refused}
+use Rattle.theory.proofs.Answers.{refused-inj, answer≢refused}
 use Rattle.answers.specs.declared.Refusal as answers
 use Rattle.answers.specs.Answers.{refusal_in}
 use Rattle.allowance.specs.AllowedFind.{Stoppable, finished, stopped, allowed_answer, allowed_output}

@@ -1,5 +1,6 @@
 // Write: the clauses of a sheet at a size, as a text, plain or with named terms, with the constant clauses where they are asked for. The refusals in document 01's order, then the text.
 #![tactic(auto)]
+
 mod clause_text;
 
 ghost use Rattle.std.specs.Prelude.{length};

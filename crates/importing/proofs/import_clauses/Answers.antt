@@ -4,8 +4,6 @@ use native.Mathlib.Omega.{arith}
 use lib.ListN.{length}
 use Rattle.answers.proofs.Answering.{put-over, refuses, writes, answers-as}
 use Rattle.importing.proofs.Imported.{too_large, no_room, taken}
-use borrow.Author.Rules.{rules}
-use Rattle.importing.proofs.import_clauses.Lts as lts
 use Rattle.importing.proofs.import_clauses.Goals as goal
 
 pub returns-then-survey-ne0 : goal.returns-then-survey-ne0

@@ -1,5 +1,4 @@
 -- `refused_at` tells the line and the column of the place.
-use borrow.Author.Rules.{rules}
 use mathlib.Core.Path.{refl, ap, ◌∙◌}
 use Rattle.theory.specs.Refusals.{Place, at_place}
 use Rattle.answers.proofs.Answering.{refuses}

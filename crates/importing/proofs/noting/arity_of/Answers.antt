@@ -2,8 +2,6 @@
 use Prim.Native.Nat.{ℕ}
 use mathlib.Core.Path.{refl, ap}
 use Rattle.scanning.specs.Entries.{occurrences_in}
-use borrow.Author.Rules.{rules}
-use Rattle.importing.proofs.noting.arity_of.Lts as lts
 use Rattle.importing.proofs.noting.arity_of.Goals as goal
 
 pub returns-in-Nothing : goal.returns-in-Nothing

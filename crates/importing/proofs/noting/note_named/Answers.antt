@@ -1,6 +1,5 @@
 -- `note_named` goes by what is named.
 use Rattle.importing.proofs.NotingLoop.{nothing-noted}
-use borrow.Author.Rules.{rules}
 use Rattle.importing.proofs.noting.note_named.Goals as goal
 
 pub returns-in-Nothing : goal.returns-in-Nothing

@@ -1,14 +1,8 @@
-use borrow.Author.Rules.{rules}
 use Prim.Native.Nat.{◌-◌}
 use mathlib.Core.Path.{sym, ◌∙◌}
 use native.Mathlib.Omega.{arith}
-use lib.ListN.{length}
-use Rattle.statements.specs.Dues.{due_token_in}
-use Rattle.argument_lists.specs.Lists.{Room}
-use Rattle.argument_lists.specs.Told.{ToldAt}
 use Rattle.argument_lists.proofs.ToldLists.{nothing-held, told-behind}
-use Rattle.importing.proofs.NotingLoop.{Reached, reached-starts, reached-stop, reached-fault, reached-on}
-use Rattle.importing.proofs.noting.note_statement.Lts as lts
+use Rattle.importing.proofs.NotingLoop.{reached-starts, reached-stop, reached-fault, reached-on}
 use Rattle.importing.proofs.noting.note_statement.Goals as goal
 
 pub loop-entries-init : goal.loop-entries-init

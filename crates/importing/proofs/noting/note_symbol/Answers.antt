@@ -1,6 +1,5 @@
 -- `note_symbol` declares the symbol.
 use Rattle.importing.proofs.NotingLoop.{symbol-noted}
-use borrow.Author.Rules.{rules}
 use Rattle.importing.proofs.noting.note_symbol.Goals as goal
 
 pub returns : goal.returns

@@ -1,6 +1,5 @@
 -- `note_variable` finds the variable's letter.
 use Rattle.importing.proofs.NotingLoop.{ninth-noted, variable-noted}
-use borrow.Author.Rules.{rules}
 use Rattle.importing.proofs.noting.note_variable.Goals as goal
 
 pub returns-then-found-ge-MAX_LETTERS : goal.returns-then-found-ge-MAX_LETTERS

@@ -1,5 +1,4 @@
 -- `put_sheet` writes the head, then the lines.
-use borrow.Author.Rules.{rules}
 use native.Mathlib.Omega.{arith}
 use mathlib.Core.Path.{ap}
 use lib.ListN.{length}

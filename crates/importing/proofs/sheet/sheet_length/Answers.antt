@@ -1,5 +1,4 @@
 -- `sheet_length` adds the lengths of the head and of the lines.
-use borrow.Author.Rules.{rules}
 use mathlib.Core.Path.{sym, ap, ◌∙◌}
 use Prim.Native.Nat.{ℕ, ◌+◌}
 use Rattle.importing.proofs.SheetLines.{short, sheet-length-is}

@@ -1,5 +1,4 @@
 -- `add_line` writes the line only where it fits.
-use borrow.Author.Rules.{rules}
 use native.Mathlib.Omega.{arith}
 use Rattle.importing.proofs.survey.add_line.Goals as goal
 

@@ -1,9 +1,6 @@
 -- `check_statement` looks at the count, the occurrences and the limits, in that order.
-use borrow.Author.Tests.{not-true, not-false}
 use native.Mathlib.Omega.{arith}
 use Rattle.importing.proofs.Checking.{entries_fit-is, whole-clause, too_many, occurrence-faulty, stands, too-wordy, too_large, no-fault}
-use borrow.Author.Rules.{rules}
-use Rattle.importing.proofs.survey.check_statement.Lts as lts
 use Rattle.importing.proofs.survey.check_statement.Goals as goal
 
 pub returns-then-count-ge-MAX_CLAUSES : goal.returns-then-count-ge-MAX_CLAUSES

@@ -1,13 +1,8 @@
-
-use borrow.Author.Rules.{rules}
 use Prim.Native.Nat.{◌-◌}
-use mathlib.Core.Path.{◌≡◌, refl, sym, ◌∙◌}
-use native.Mathlib.Omega.{arith}
+use mathlib.Core.Path.{◌≡◌}
 use lib.ListN as list
-use Rattle.importing.proofs.SheetLines.{short}
-use Rattle.importing.proofs.Surveying.{SurveyedTo, begins, ends, foreign_next, standing, faulty, line-writable, on}
+use Rattle.importing.proofs.Surveying.{SurveyedTo}
 use Rattle.argument_lists.specs.Lists.{Room}
-use Rattle.importing.proofs.survey.survey_statements.Lts as lts
 use Rattle.importing.proofs.survey.survey_statements.Given as goal
 
 -- `survey_statements` takes one whole statement after the other.

@@ -5,7 +5,6 @@ use mathlib.Core.List.{[], ◌∷◌}
 use Rattle.theory.specs.Grammar.{sign, equals}
 use Rattle.syntax.specs.Codes.{equals_code}
 use Rattle.importing.proofs.Coding.{fixed-code, begun-bounded, begun_more, begun-wider, continues-none, continues-both}
-use borrow.Author.Rules.{rules}
 use Rattle.importing.proofs.words.with_marks.Goals as goal
 
 pub with_sign-requires : goal.with_sign-requires

@@ -1,6 +1,5 @@
 -- `with_named` goes by what is named.
 use Rattle.importing.proofs.Coding.{coded_none}
-use borrow.Author.Rules.{rules}
 use Rattle.importing.proofs.words.with_named.Goals as goal
 
 pub with_variable-requires : goal.with_variable-requires

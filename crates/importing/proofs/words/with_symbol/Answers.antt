@@ -3,7 +3,6 @@ use native.Mathlib.Omega.{arith}
 use mathlib.Core.Bool.{true}
 use Rattle.scanning.specs.Taking.{name_in}
 use Rattle.importing.proofs.Coding.{symbol-code, begun-bounded, ready-begun, ready-symbol, symbol-coded}
-use borrow.Author.Rules.{rules}
 use Rattle.importing.proofs.words.with_symbol.Goals as goal
 
 pub overflow_cast-place : goal.overflow_cast-place

@@ -2,7 +2,6 @@
 use native.Mathlib.Omega.{arith}
 use Rattle.scanning.specs.Taking.{name_in}
 use Rattle.importing.proofs.Coding.{letter-code, begun-bounded, ready-begun, ready-letter, variable-coded}
-use borrow.Author.Rules.{rules}
 use Rattle.importing.proofs.words.with_variable.Goals as goal
 
 pub overflow_cast-found : goal.overflow_cast-found

@@ -1,11 +1,8 @@
-use borrow.Author.Rules.{rules}
 use Prim.Native.Nat.{◌-◌}
 use native.Mathlib.Omega.{arith}
-use lib.ListN.{length}
 use Rattle.syntax.specs.Signatures.{signature_in}
 use Rattle.clauses.proofs.Going.{passed_none}
-use Rattle.statements.specs.Dues.{due_token_in}
-use Rattle.importing.proofs.CodingLoop.{Reached, reached-starts, reached-long, reached-stop, reached-ready, reached-on}
+use Rattle.importing.proofs.CodingLoop.{reached-starts, reached-long, reached-stop, reached-ready, reached-on}
 use Rattle.importing.proofs.words.words_of.Goals as goal
 
 pub loop-c-init : goal.loop-c-init

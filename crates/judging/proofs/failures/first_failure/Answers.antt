@@ -47,7 +47,7 @@ step-values-requires c = c.loop-i.invariant.2.reached.vector
 
 pub loop-i-preserved : goal.loop-i-preserved
 loop-i-preserved c = let l = c.loop-i in
-    let long : length c.step-values.result.digits ≡ 10 = simp length-map at c.step-values.type_inv.1.1.0.1.0.1 in (
+    let long : length c.step-values.result.digits ≡ 10 = c.step-values.type_inv.1.1.0.1.0.1 in (
       l.invariant.0,
       l.invariant.1,
       choice-passes _ _ _ _ l.invariant.1 l.invariant.2 c.loop-i-test.true _ c.clause_value.ensures c.if-not-clause_value.false c.step-values.result long c.step-values.ensures,
