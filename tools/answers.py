@@ -267,6 +267,10 @@ class Function:
             if any(old == norm(m[3]) for old, _ in self.arms):
                 text = text.replace(m[0], "", 1)
                 text = re.sub(r"(?<![\w.'\u2080-\u2089-])" + re.escape(m[1]) + r"((?:\.\d)+)(?![\w'-])", lambda k: f"{m[2]}.{m[3]}.given{k[1]}", text)
+        for m in list(re.finditer(r"let (" + IDENT + r") = (" + roots + r")\.(" + IDENT + r") in\s*", text)):
+            if any(old == norm(m[3]) for old, _ in self.arms) and re.search(r"(?<![\w.'-])" + re.escape(m[1]) + r"\.given", text):
+                text = text.replace(m[0], "", 1)
+                text = re.sub(r"(?<![\w.'\u2080-\u2089-])" + re.escape(m[1]) + r"(?=\.given)", f"{m[2]}.{m[3]}", text)
         for (old, path), new in sorted(self.arms.items(), key=lambda it: -len(it[0][1])):
             step = "[-_]".join(map(re.escape, old.split("_")))
             text = re.sub(r"(?<![\w.'\u2080-\u2089-])(" + roots + r")\." + step + r"\." + re.escape(path) + r"(?![\w'-])", lambda m: f"{m[1]}.{new}", text)

@@ -1,6 +1,7 @@
 // The answers as the structs of `include/nesskettle.h`: numbers alone; outcome 0 is always "refused", and a field that an outcome does not speak
 // of is 0. No call is made here, so a field in a wrong place is found in a short check.
 #![tactic(auto)]
+
 ghost use Rattle.std.specs.Prelude.{◌≡◌, cond};
 ghost use Rattle.std.proofs.Math.Option.{Option};
 ghost use Rattle.answers.specs.Answers.{read_in, judge_in, length_in, find_in};

@@ -1,5 +1,6 @@
 // Read: the counts of a sheet.
 #![tactic(auto)]
+
 ghost use Rattle.std.specs.Prelude.{◌≡◌};
 ghost use Rattle.theory.specs.Operations as theory;
 ghost use Rattle.answers.specs.Answers.{read_in};

@@ -11,7 +11,6 @@ use lib.Seq.{take-append_seam}
 use Rattle.theory.specs.Cells.{is_interpretation}
 use Rattle.theory.specs.Least.{least_model}
 use Rattle.theory.specs.Claims.Walk.{read_back_found}
-use Rattle.theory.specs.Refusals as theory
 use Rattle.theory.specs.Refusals.{Answer, answer, refused}
 use Rattle.theory.specs.Problem.{Problem}
 use Rattle.theory.specs.Operations.{Search, found, nothing, over, found_case, no_case}
@@ -27,7 +26,7 @@ use Rattle.symmetry.proofs.ConstantClauses.{constant_clauses}
 use Rattle.symmetry.proofs.NamedTwins.{named_twins}
 use Rattle.symmetry.proofs.Obeying.{twins}
 use Rattle.symmetry.proofs.Searched.{Read, read-in, searched-with}
-use Rattle.allowance.specs.AllowedFind.{max_allowance, Stoppable, finished, stopped, find_within, allowed_answer, allowed_output, allowed_work}
+use Rattle.allowance.specs.AllowedFind.{Stoppable, finished, stopped, find_within, allowed_answer, allowed_output, allowed_work}
 use Rattle.allowance.specs.Claims.AllowedFind.{choices_needed, AllowedFind}
 use Rattle.allowance.proofs.AllowedFind.{allowed-find, same-refusals}
 use Rattle.answers.specs.declared.FindAnswer.{FindAnswer}

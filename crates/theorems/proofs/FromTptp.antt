@@ -6,9 +6,9 @@ use mathlib.Core.Option.{some}
 use mathlib.Core.List.{List, [], ◌∷◌}
 use lib.Dec.{leb}
 use lib.ListN.{length}
-use Rattle.theory.specs.Refusals.{Refusal, Answer, answer, refused, at_place, needing}
+use Rattle.theory.specs.Refusals.{Refusal, answer, refused, at_place, needing}
 use Rattle.theory.specs.Problem.{read_problem}
-use Rattle.theory.specs.Operations.{counts, read_answer, length_answer}
+use Rattle.theory.specs.Operations.{counts, read_answer}
 use Rattle.theory.proofs.PlacedReading.{placed-problem}
 use Rattle.theory.proofs.Answers.{bind-step, answer≢refused, refused-inj}
 use Rattle.tptp.specs.Places.{place_of}

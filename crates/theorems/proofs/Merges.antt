@@ -26,7 +26,6 @@ use Rattle.sheet_merging.proofs.Merging.{merging}
 use Rattle.sheet_merging.proofs.Models.{models}
 use Rattle.uniting.specs.declared.merge.MergeAnswer.{MergeAnswer}
 use Rattle.uniting.specs.Calls.{MergeCall}
-use Rattle.theorems.specs.Leaving.{Leaves}
 use Rattle.theorems.specs.Models.{Model}
 use Rattle.theorems.specs.Merges.{MergedAs, case_for, NamesAgree, FitsOneSheet, MergeOfTwo, Merges}
 use Rattle.theorems.proofs.Leaving.{leaves, left-text, refused-text}

@@ -33,7 +33,6 @@ use Rattle.finding.specs.declared.allowed.AllowedAnswer.{AllowedAnswer}
 use Rattle.finding.specs.declared.allowed.AllowedAnswer.TheVariants as allowed
 use Rattle.finding.specs.Calls.{allowed_in, FindCall}
 use Rattle.theorems.specs.Leaving.{Leaves}
-use Rattle.theorems.specs.Models.{Model}
 use Rattle.theorems.specs.Unstopped.{UnstoppedCall}
 use Rattle.theorems.specs.Allowance.{Unrefused}
 use Rattle.theorems.specs.Demand2.{NoModel}

@@ -19,7 +19,7 @@ use Rattle.allowance.proofs.NotStopped.{not_stopped}
 use Rattle.answers.specs.declared.Refusal.{Refusal}
 use Rattle.answers.specs.declared.FindAnswer.{FindAnswer}
 use Rattle.answers.specs.declared.FindAnswer.TheVariants as plain
-use Rattle.answers.specs.Answers.{refusal_in, find_in}
+use Rattle.answers.specs.Answers.{find_in}
 use Rattle.finding.specs.declared.allowed.AllowedAnswer.{AllowedAnswer}
 use Rattle.finding.specs.declared.allowed.AllowedAnswer.TheVariants as allowed
 use Rattle.finding.specs.Calls.{allowed_in}

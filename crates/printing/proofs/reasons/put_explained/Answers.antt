@@ -25,5 +25,4 @@ returns-in-No c s = let z = c in
 pub returns-in-Refused : goal.returns-in-Refused
 returns-in-Refused c s = let z = c in
     let w = c.put_refusal in
-    let v = c.verdict-1 in
-    refused-responds z.args.answer z.args.out.now s v.given.0.0 w.result w.new.out v.given.1 w.ensures
+    refused-responds z.args.answer z.args.out.now s c.in-Refused.r w.result w.new.out c.in-Refused.is w.ensures
