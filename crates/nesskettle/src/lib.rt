@@ -4,6 +4,7 @@
 // `solver/specs/SolverText`, `sheet_merging/specs/Merging` and `renumbered_cases/specs/RenumberedCases`, where `answers/specs/Answers` says what each answer means. What is lent as `&` cannot change; what is
 // lent as `&mut` is told to the last byte and number. What the promises come to, the three demands and what is asked of each call, is proved of these records in `theorems/specs`.
 #![tactic(auto)]
+
 ghost use Rattle.answers.specs.Calls.{ExplainCall, JudgeCall, PlainCall, ReadBackCall, ReadCall, SettingCall, WriteCall};
 ghost use Rattle.case_forms.specs.Calls.{LeastFormCall, RenumberCall};
 ghost use Rattle.finding.specs.Calls.{FindCall};
