@@ -1,5 +1,6 @@
 // The operations for C: `include/nesskettle.h` has the declarations. Each entry is its call, and the answer laid out as a struct of numbers (`layouts`).
 #![tactic(auto)]
+
 ghost use Rattle.std.specs.Prelude.{◌≡◌};
 ghost use Rattle.theory.specs.Operations as theory;
 ghost use Rattle.exports.specs.Exported.{FindExport, FromSolverExport, LeastFormExport, MergeExport, PlainExport, ReadBackExport, RenumberExport, SettingExport, TptpExport, WriteExport};

@@ -1,5 +1,6 @@
 // The programs' work: the whole output of each as a function of its input, the finder's here, the explainer's in `explaining`. The programs themselves (crates `finder`, `explainer`) only read and print.
 #![tactic(auto)]
+
 pub mod explaining;
 
 ghost use Rattle.std.specs.Prelude.{◌≡◌, ◌≤◌, length, drop, false};

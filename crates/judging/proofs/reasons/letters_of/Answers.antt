@@ -15,8 +15,8 @@ loop-x-preserved c = let l = c.loop-x in
     let z = c in
     let below : l.x < 8 = c.loop-x-test.true in
     elim c.if-i-lt-MAX_LETTERS.branch [
-      then-i-lt-MAX_LETTERS w ↦ (omega arith, ap length w.letters-is ∙ simp length-set l.invariant.1, rw w.letters-is (letter-filled z.args.variables l.x below l.letters l.invariant.2 _ refl w.if-i-lt-MAX_LETTERS.true))
-    | else-i-lt-MAX_LETTERS w ↦ (omega arith, ap length w.letters-is ∙ l.invariant.1, rw w.letters-is (letter-absent z.args.variables l.x below l.letters l.invariant.2 w.if-i-lt-MAX_LETTERS.false))
+      | then-i-lt-MAX_LETTERS w ↦ (omega arith, ap length w.letters-is ∙ simp length-set l.invariant.1, rw w.letters-is (letter-filled z.args.variables l.x below l.letters l.invariant.2 _ refl w.if-i-lt-MAX_LETTERS.true))
+      | else-i-lt-MAX_LETTERS w ↦ (omega arith, ap length w.letters-is ∙ l.invariant.1, rw w.letters-is (letter-absent z.args.variables l.x below l.letters l.invariant.2 w.if-i-lt-MAX_LETTERS.false))
     ]
 
 pub returns : goal.returns

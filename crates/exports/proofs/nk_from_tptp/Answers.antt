@@ -1,0 +1,7 @@
+-- `nk_from_tptp` says what the call says.
+use mathlib.Core.Path.{ap, ◌∙◌}
+use Rattle.layouts.specs.Layouts.{write_out}
+use Rattle.exports.proofs.nk_from_tptp.Goals as goal
+
+pub returns : goal.returns
+returns c = let w = c.from_tptp in record { answer = c.write_out.ensures ∙ ap write_out w.ensures.answer; left = w.ensures.left }
