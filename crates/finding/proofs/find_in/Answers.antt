@@ -56,8 +56,8 @@ returns-then-work-needed c = let s = c in
     let w = c.work_needed-needed in
     let whole : w.result ≡ work_needed_with a.p.symmetry a.high.0 q.symbols q.clauses =
     work-is a.sheet.now a.p a.high.0 n.result.count k.result.instances k.result.literals w.result (n.ensures a.sheet.now).count k.ensures.instances k.ensures.literals w.ensures in
-    ends-refused (found_in a.p.symmetry q a.low.0 a.high.0 a.allowance) c.needing.result (needing 10 (work_needed_with a.p.symmetry a.high.0 q.symbols q.clauses)) a.work.now a.output.now
-    (refused-10 a.p.symmetry q a.low.0 a.high.0 a.allowance W R ok few (omega (arith, whole, c.if-work-needed.true))) (c.needing.ensures ∙ ap (needing 10) whole)
+    ends-refused (found_in a.p.symmetry q a.low.0 a.high.0 a.allowance) _ (needing 10 (work_needed_with a.p.symmetry a.high.0 q.symbols q.clauses)) a.work.now a.output.now
+    (refused-10 a.p.symmetry q a.low.0 a.high.0 a.allowance W R ok few (omega (arith, whole))) (cc)
 
 pub returns-then-output-length : goal.returns-then-output-length
 returns-then-output-length c = let s = c in
@@ -72,11 +72,11 @@ returns-then-output-length c = let s = c in
     let w = c.work_needed-needed in
     let whole : w.result ≡ work_needed_with a.p.symmetry a.high.0 q.symbols q.clauses =
     work-is a.sheet.now a.p a.high.0 n.result.count k.result.instances k.result.literals w.result (n.ensures a.sheet.now).count k.ensures.instances k.ensures.literals w.ensures in
-    let enough : work_needed_with a.p.symmetry a.high.0 q.symbols q.clauses ≤ W = omega (arith, whole, c.if-work-needed.false) in
+    let enough : work_needed_with a.p.symmetry a.high.0 q.symbols q.clauses ≤ W = omega (arith, whole) in
     let m = c.shown_length-length in
     let case : m.result ≡ case_length a.high.0 (shown_symbols q.symbols) = length-is a.sheet.now a.p a.high.0 m.result _ s.requires.shows refl (m.ensures a.sheet.now s.requires.accepted.readable) in
-    ends-refused (found_in a.p.symmetry q a.low.0 a.high.0 a.allowance) c.needing-then-output-length.result (needing 11 (case_length a.high.0 (shown_symbols q.symbols))) a.work.now a.output.now
-    (refused-11 a.p.symmetry q a.low.0 a.high.0 a.allowance W R ok few enough (omega (arith, case, c.if-output-length.true))) (c.needing-then-output-length.ensures ∙ ap (needing 11) case)
+    ends-refused (found_in a.p.symmetry q a.low.0 a.high.0 a.allowance) _ (needing 11 (case_length a.high.0 (shown_symbols q.symbols))) a.work.now a.output.now
+    (refused-11 a.p.symmetry q a.low.0 a.high.0 a.allowance W R ok few enough (omega (arith, case))) (cc)
 
 pub search_sizes-requires : goal.search_sizes-requires
 search_sizes-requires c = let s = c in
@@ -90,7 +90,7 @@ search_sizes-requires c = let s = c in
     let w = c.work_needed-needed in
     let whole : w.result ≡ work_needed_with a.p.symmetry a.high.0 q.symbols q.clauses =
     work-is a.sheet.now a.p a.high.0 n.result.count k.result.instances k.result.literals w.result (n.ensures a.sheet.now).count k.ensures.instances k.ensures.literals w.ensures in
-    let enough : work_needed_with a.p.symmetry a.high.0 q.symbols q.clauses ≤ W = omega (arith, whole, c.if-work-needed.false) in
+    let enough : work_needed_with a.p.symmetry a.high.0 q.symbols q.clauses ≤ W = omega (arith, whole) in
     let m = c.shown_length-length in
     let case : m.result ≡ case_length a.high.0 (shown_symbols q.symbols) = length-is a.sheet.now a.p a.high.0 m.result _ s.requires.shows refl (m.ensures a.sheet.now s.requires.accepted.readable) in
     all-sizes a.sheet.now a.p a.low.0 a.high.0 W R s.requires few enough (omega (arith, case, c.if-output-length.false))
@@ -108,7 +108,7 @@ returns c = let s = c in
     let w = c.work_needed-needed in
     let whole : w.result ≡ work_needed_with a.p.symmetry a.high.0 q.symbols q.clauses =
     work-is a.sheet.now a.p a.high.0 n.result.count k.result.instances k.result.literals w.result (n.ensures a.sheet.now).count k.ensures.instances k.ensures.literals w.ensures in
-    let enough : work_needed_with a.p.symmetry a.high.0 q.symbols q.clauses ≤ W = omega (arith, whole, c.if-work-needed.false) in
+    let enough : work_needed_with a.p.symmetry a.high.0 q.symbols q.clauses ≤ W = omega (arith, whole) in
     let m = c.shown_length-length in
     let case : m.result ≡ case_length a.high.0 (shown_symbols q.symbols) = length-is a.sheet.now a.p a.high.0 m.result _ s.requires.shows refl (m.ensures a.sheet.now s.requires.accepted.readable) in
     let t = c.search_sizes in

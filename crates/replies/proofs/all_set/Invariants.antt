@@ -5,7 +5,7 @@ use lib.ListN.{length, drop}
 use Rattle.theory.specs.Lists.{all}
 use Rattle.replies.proofs.all_set.Given as goal
 
--- `all_set-is` looks at each mark: those before i are 0 or 1.
+-- `all_set` looks at each mark: those before i are 0 or 1.
 abbrev pub invariant-loop-i : goal.invariant-loop-i
 invariant-loop-i l =
     (l.i ≤ length l.marks) × (all (λ b. ltb b 2) l.marks ≡ all (λ b. ltb b 2) (drop l.i l.marks))
