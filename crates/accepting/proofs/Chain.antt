@@ -15,15 +15,15 @@ use Rattle.theory.specs.Columns.{placed_problem}
 use Rattle.theory.specs.Operations.{is_size}
 use Rattle.theory.proofs.Tests.{leb-of-≤, leb-of-<}
 use Rattle.theory.proofs.Answers.{bind-step, bind-refused, check-of-true, check-of-false, or_refuse-of-some, or_refuse-of-none}
-use Rattle.theory.proofs.Parsing.{read_problem-bytes}
 use Rattle.syntax.specs.declared.size.DomainSize.{DomainSize}
-use Rattle.syntax.specs.declared.size.SizeCheck.{SizeCheck}
-use Rattle.syntax.specs.declared.size.SizeCheck.TheVariants as size
+use Rattle.std.specs.Prelude.{Some, None}
 use Rattle.syntax.specs.Sizes.{checked_size}
 use Rattle.syntax.proofs.Sizes.{checked-size, refused-size, size-within}
-use Rattle.problem.specs.declared.sheet.Reading.{Reading}
-use Rattle.problem.specs.Problems.{problem_in, reading_of, Accepted}
-use Rattle.problem.proofs.SheetRead.{sheet-accepted, sheet-placed}
+use Rattle.syntax.specs.declared.limits.Problem as code
+use Rattle.problem.specs.Problems.{problem_in, Accepted}
+use Rattle.problem.specs.Modes.{read_in}
+use Rattle.problem.proofs.ModeRead.{plain_in}
+use Rattle.columns.proofs.CasesOpened.{sheet-opened, sheet-short}
 use Rattle.solver.specs.Replies.{claims_none, states, read_reply}
 use Rattle.solver.specs.SolverText.{model_case, claimed_none, stated_case, solver_text}
 use Rattle.accepting.specs.Accepting.{reply_outcome, SizedProblem}
@@ -78,34 +78,34 @@ unfolding solver_text
 sheet-refusal sheet n text room q e = bind-refused _ _ q e
 
 -- or it was read
-module _ (sheet : List ℕ) (r : Reading) (read : reading_of sheet r ≡ read_problem sheet) (ok : r.fault ≡ 0) (n : ℕ) (k : SizeCheck) (checked : k ≡ checked_size n) where
-  accepted : placed_problem sheet ≡ answer (problem_in sheet r.problem)
-  accepted = sheet-placed sheet r read ok
+module _ (sheet : List ℕ) (p : code.Problem) (read : read_in false sheet ≡ answer (problem_in sheet p)) (n : ℕ) where
+  plain : read_problem sheet ≡ answer (problem_in sheet p)
+  plain = sym (plain_in sheet) ∙ read
 
-  pub size-refusal : (text : List ℕ) (room : ℕ) → k ≡ size.Refused → solver_text sheet n text room ≡ refused (unplaced 8)
+  pub size-refusal : (text : List ℕ) (room : ℕ) → checked_size n ≡ None → solver_text sheet n text room ≡ refused (unplaced 8)
   unfolding solver_text
-  size-refusal text room e = bind-step _ _ _ _ accepted (bind-refused _ _ (unplaced 8) (check-of-false _ (unplaced 8) (refused-size n (sym checked ∙ e))))
+  size-refusal text room e = bind-step _ _ _ _ (sheet-opened sheet p read) (bind-refused _ _ (unplaced 8) (check-of-false _ (unplaced 8) (refused-size n e)))
 
-  module _ (d : DomainSize) (e : k ≡ size.Is d) where
+  module _ (d : DomainSize) (e : checked_size n ≡ Some d) where
     taken : (is_size n ≡ true) × (d.0 ≡ n)
-    taken = checked-size n d (sym checked ∙ e)
+    taken = checked-size n d e
 
     size-taken : (1 ≤ d.0) × (d.0 ≤ 8)
     size-taken = rw taken.1 (size-within n taken.0)
 
-    pub sized-problem : Accepted sheet r.problem → SizedProblem sheet r.problem d.0
+    pub sized-problem : Accepted sheet p → SizedProblem sheet p d.0
     unfolding problem_in
     sized-problem h =
         record {
           positive = size-taken.0;
           size = size-taken.1;
-          bytes = read_problem-bytes sheet (problem_in sheet r.problem) (sheet-accepted sheet r read ok);
+          bytes = sheet-short sheet p read;
           accepted = h;
-          few = most-variables sheet (problem_in sheet r.problem) d.0 (sheet-accepted sheet r read ok) size-taken.1;
+          few = most-variables sheet (problem_in sheet p) d.0 plain size-taken.1;
         }
 
-    pub reply-left : (text : List ℕ) (room : ℕ) → solver_text sheet n text room ≡ reply_outcome (problem_in sheet r.problem) d.0 text room
+    pub reply-left : (text : List ℕ) (room : ℕ) → solver_text sheet n text room ≡ reply_outcome (problem_in sheet p) d.0 text room
     unfolding solver_text reply_outcome
     reply-left text room =
-        bind-step _ _ _ _ accepted (bind-step _ _ tt _ (check-of-true _ (unplaced 8) taken.0) refl)
-        ∙ ap (λ (j : ℕ). reply_outcome (problem_in sheet r.problem) j text room) (sym taken.1)
+        bind-step _ _ _ _ (sheet-opened sheet p read) (bind-step _ _ tt _ (check-of-true _ (unplaced 8) taken.0) refl)
+        ∙ ap (λ (j : ℕ). reply_outcome (problem_in sheet p) j text room) (sym taken.1)

@@ -1,14 +1,15 @@
 -- The interpretation that a setting says, in the first cells, and whether it is a model.
 use Prim.Native.Nat.{ℕ}
-use mathlib.Core.Path.{◌≡◌, refl, sym, ap, ◌∙◌}
-use mathlib.Core.Bool.{not}
+use mathlib.Core.Path.{◌≡◌, sym, ap, ◌∙◌}
+use mathlib.Core.Bool.{Bool, not}
 use mathlib.Core.List.{List}
 use native.Mathlib.Omega.{arith}
 use lib.ListN.{length, take}
+use Rattle.std.specs.Prelude.{is_some}
+use Rattle.std.specs.Prelude as rust
 use Rattle.theory.specs.Syntax.{Signature}
 use Rattle.theory.specs.Cells.{cell_count, is_interpretation, is_model}
 use Rattle.theory.specs.Valuation.{read_back}
-use Rattle.theory.proofs.Answers.{answer-inj}
 use Rattle.theory.proofs.Valuations.{read_back-is_interpretation}
 use Rattle.syntax.specs.declared.limits.Problem.{Problem}
 use Rattle.syntax.specs.Signatures.{max_cells, signature_in}
@@ -18,8 +19,8 @@ use Rattle.valuations.specs.declared.numbering.Numbering.{Numbering}
 use Rattle.valuations.proofs.Bits.{is-counted}
 use Rattle.judging.specs.declared.failures.Failure.{Failure}
 use Rattle.judging.specs.Failures.{failure_in}
-use Rattle.judging.specs.Cases.{CellsLent, judged_in, is_model_in}
-use Rattle.judging.proofs.Verdicts.{verdict}
+use Rattle.judging.specs.Cases.{CellsLent, judged_in}
+use Rattle.judging.proofs.Verdicts.{model-told}
 use Rattle.accepting.specs.Accepting.{SettingLent, FunctionalSetting}
 
 -- a byte for each variable
@@ -43,7 +44,6 @@ module _ (sheet : List ℕ) (p : Problem) (n : Numbering) (s : ℕ) (σ : List �
       }
 
   -- a model exactly if nothing fails
-  pub is-judged : (f : Failure) → failure_in f ≡ judged_in sheet p cells s → not f.fails ≡ is_model s (problem_in sheet p).symbols (problem_in sheet p).clauses (read_back s (problem_in sheet p).symbols σ)
+  pub is-judged : (o : rust.Option Failure) → failure_in o ≡ judged_in sheet p cells s → (b : Bool) → is_some o ≡ not b → b ≡ is_model s (problem_in sheet p).symbols (problem_in sheet p).clauses (read_back s (problem_in sheet p).symbols σ)
   unfolding problem_in
-  is-judged f e =
-      answer-inj (not f.fails) (is_model_in sheet p cells s) (verdict sheet p cells s f f.fails refl e) ∙ ap (is_model s g (problem_in sheet p).clauses) (read sheet)
+  is-judged o e b t = model-told sheet p cells s o e b t ∙ ap (is_model s g (problem_in sheet p).clauses) (read sheet)

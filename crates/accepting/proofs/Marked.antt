@@ -1,5 +1,5 @@
 -- The reply that was read with a mark for each variable, and the setting that the marks are.
-use Prim.Native.Nat.{ℕ, ◌+◌, ◌-◌, ◌^◌, ◌≤◌, ◌<◌}
+use Prim.Native.Nat.{ℕ, ◌-◌, ◌^◌, ◌≤◌, ◌<◌}
 use mathlib.Core.Path.{◌≡◌, sym, ap, ◌∙◌, subst}
 use mathlib.Core.Bool.{true}
 use mathlib.Core.List.{List, ◌++◌}
@@ -24,7 +24,7 @@ use Rattle.solver.proofs.Stating.{stating}
 use Rattle.replies.specs.declared.Reply.{Reply}
 use Rattle.replies.specs.declared.Reply.TheVariants.{ClaimsNone, States, Bad}
 use Rattle.replies.specs.Hearing.{reply_in}
-use Rattle.accepting.specs.declared.SolverAnswer.{SolverAnswer}
+use Rattle.accepting.specs.Calls.{SolverAnswer}
 use Rattle.accepting.specs.Accepting.{reply_outcome, ReplyCall, StatedCall, SizedProblem, SettingLent}
 use Rattle.accepting.proofs.Outcomes.{same_outcome}
 use Rattle.accepting.proofs.Chain.{unread, claimed, stated}

@@ -15,11 +15,11 @@ use Rattle.syntax.specs.Signatures.{signature_in}
 use Rattle.problem.specs.Problems.{problem_in}
 use Rattle.valuations.specs.declared.numbering.Numbering.{Numbering}
 use Rattle.valuations.proofs.Bits.{is-binary}
-use Rattle.reading_back.specs.Bits.{bits_held, WritableBits, case_said}
-use Rattle.reading_back.proofs.Bits.{setting-held}
+use Rattle.reading_back.specs.Bits.{WritableBits, case_said}
 use Rattle.reading_back.proofs.Written.{text-length}
 use Rattle.solver.specs.SolverText.{stated_case}
-use Rattle.accepting.specs.declared.SolverAnswer.TheVariants.{Case}
+use Rattle.std.specs.Prelude.{Ok}
+use Rattle.accepting.specs.declared.SolverResult.TheVariants.{Case}
 use Rattle.accepting.specs.Accepting.{SettingLent, FunctionalSetting, StatedCall}
 use Rattle.accepting.proofs.Judged.{setting-counted}
 use Rattle.accepting.proofs.Outcomes.{accepts}
@@ -37,7 +37,7 @@ module _ (sheet : List ℕ) (p : Problem) (n : Numbering) (s : ℕ) (σ : List �
     pub functional-setting : FunctionalSetting sheet p n s σ
     functional-setting = record { lent = h; functional = functional }
 
-    writable : WritableBits sheet p.signature n s σ
+    pub writable : WritableBits sheet p.signature n s σ
     writable =
         record {
           readable = h.sized.accepted.readable;
@@ -48,9 +48,6 @@ module _ (sheet : List ℕ) (p : Problem) (n : Numbering) (s : ℕ) (σ : List �
           binary = is-binary s g σ h.valuation;
           functional = functional;
         }
-
-    pub held-writable : WritableBits sheet p.signature n s (bits_held σ [])
-    held-writable = subst (WritableBits sheet p.signature n s) (sym (setting-held σ)) writable
 
     pub no-model : is_model s (problem_in sheet p).symbols (problem_in sheet p).clauses (read_back s (problem_in sheet p).symbols σ) ≡ false → stated_case (problem_in sheet p) s room σ ≡ refused (unplaced 19)
     unfolding problem_in
@@ -65,10 +62,10 @@ module _ (sheet : List ℕ) (p : Problem) (n : Numbering) (s : ℕ) (σ : List �
 pub case-written : (sheet : List ℕ) (p : Problem) (n : Numbering) (s : ℕ) (σ : List ℕ) (h : SettingLent sheet p n s σ) (functional : is_functional s (signature_in sheet p.signature) σ ≡ true)
     → is_model s (problem_in sheet p).symbols (problem_in sheet p).clauses (read_back s (problem_in sheet p).symbols σ) ≡ true
     → (out out' : List ℕ) (r : ℕ) → case_length s (signature_in sheet p.signature) ≤ length out → r ≡ case_length s (signature_in sheet p.signature)
-    → out' ≡ over (case_said sheet p.signature s (bits_held σ [])) out → StatedCall sheet p s σ (Case r) out out'
+    → out' ≡ over (case_said sheet p.signature s σ) out → StatedCall sheet p s σ (Ok (Case r)) out out'
 unfolding problem_in
 case-written sheet p n s σ h functional model out out' r room e o =
     let g : Signature = signature_in sheet p.signature in
     accepts _ (case_text s g (read_back s g σ)) r out out' (chain.case-said (problem_in sheet p) s (length out) σ functional model room)
     (e ∙ sym (text-length sheet p.signature n s σ (writable sheet p n s σ h (length out) functional)))
-    (o ∙ ap (λ (bits : List ℕ). over (case_said sheet p.signature s bits) out) (setting-held σ))
+    o

@@ -11,8 +11,7 @@ use Rattle.valuations.specs.declared.numbering.Numbering.{Numbering}
 use Rattle.valuations.specs.Numbers.{NumberingOf}
 use Rattle.solver.specs.Replies.{read_reply}
 use Rattle.solver.specs.SolverText.{Outcome, stated_case, outcome_of}
-use Rattle.accepting.specs.declared.SolverAnswer.{SolverAnswer}
-use Rattle.accepting.specs.Calls.{OutcomeCall}
+use Rattle.accepting.specs.Calls.{SolverAnswer, OutcomeCall}
 
 -- 18, then what comes of the reply, given an output of so many bytes
 unfoldable pub reply_outcome : theory.Problem → ℕ → List ℕ → ℕ → Answer (Outcome (List ℕ))

@@ -25,8 +25,7 @@ pub fn is_model(sheet: &[u8], p: Problem, n: Numbering, size: DomainSize, settin
     let signature = p.signature;
     let mut cells = [0; Problem::MAX_CELLS];
     read_cells(setting, signature, n, size, &mut cells);
-    let f = case_failure(sheet, p, &cells, size);
-    !f.fails
+    case_failure(sheet, p, &cells, size).is_none()
 }
 
 // The tables of the symbols, one after the other, into the first cells.
@@ -43,8 +42,7 @@ fn read_cells(
     ensures { (sheet : List ℕ) → take (cell_count size.0 (signature_in sheet signature)) cells.new ≡ read_back size.0 (signature_in sheet signature) setting.now }
 {
     let mut base: usize = 0;
-    let mut i: usize = 0;
-    while i < signature.count {
+    for i in 0..signature.count {
         let symbol = signature.symbols[i];
         let from = n.bases[i];
         let end = base + power(size.0, symbol.arity as usize);
@@ -56,6 +54,5 @@ fn read_cells(
             &mut cells[base..end],
         );
         base = end;
-        i += 1;
     }
 }

@@ -10,22 +10,24 @@ ghost use Rattle.accepting.specs.Accepting.{ReplyCall, SettingLent, SizedProblem
 use answers::{Refusal, at_line, needing};
 use cases::writing::case_length;
 use cells::is_model;
-use columns::sheet::sheet_refusal;
-use problem::sheet::read_problem;
+use columns::opened::open_sheet;
+use reading_back::tables::Bits;
 use reading_back::writing::write_case;
 use replies::{Reply, read_reply};
+use syntax::faults::Fault;
 use syntax::limits::Problem;
-use syntax::size::{DomainSize, SizeCheck};
+use syntax::size::DomainSize;
 use valuations::numbering::{Numbering, numbering_of};
 use valuations::valuation::is_functional;
 
-// The length of the case, the solver's claim that there is no model, or a refusal.
-#[derive(Drop)]
-pub enum SolverAnswer {
+// The length of the case, or the solver's claim that there is no model.
+#[derive(Clone, Copy)]
+pub enum SolverResult {
     Case(usize),
     ClaimedNone,
-    Refused(Refusal),
 }
+
+pub type SolverAnswer = Result<SolverResult, Refusal>;
 
 // The propositional variables of a sheet's symbols, at most 12 of a kind: the bytes of the longest setting.
 pub const MAX_SETTING: usize = Problem::MAX_OF_A_KIND
@@ -35,15 +37,11 @@ pub const MAX_SETTING: usize = Problem::MAX_OF_A_KIND
 pub fn accept_answer(sheet: &[u8], size: u64, text: &[u8], output: &mut [u8]) -> SolverAnswer
     ensures { FromSolverCall sheet.now size text.now result output.old output.new }
 {
-    let r = read_problem(sheet);
-    if r.fault != 0 {
-        return SolverAnswer::Refused(sheet_refusal(sheet, r.fault, r.line));
-    }
-    let p = r.problem;
-    match DomainSize::checked(size as usize) {
-        SizeCheck::Refused => SolverAnswer::Refused(at_line(8, 0)),
-        SizeCheck::Is(s) => accept_reply(sheet, p, s, text, output),
-    }
+    let p = open_sheet(sheet, false)?;
+    let Some(s) = DomainSize::checked(size as usize) else {
+        return Err(at_line(Fault::Size, 0));
+    };
+    accept_reply(sheet, p, s, text, output)
 }
 
 // 18, claimed none, or what comes of the setting that is stated.
@@ -77,8 +75,8 @@ fn accept_marked(
     let n = numbering_of(signature, size);
     let count = n.count as usize;
     match read_reply(text, &mut marks[0..count]) {
-        Reply::Bad => SolverAnswer::Refused(at_line(18, 0)),
-        Reply::ClaimsNone => SolverAnswer::ClaimedNone,
+        Reply::Bad => Err(at_line(Fault::Reply, 0)),
+        Reply::ClaimsNone => Ok(SolverResult::ClaimedNone),
         Reply::States => accept_setting(sheet, p, n, size, &marks[0..count], output),
     }
 }
@@ -97,15 +95,16 @@ fn accept_setting(
 {
     let signature = p.signature;
     if !is_functional(setting, signature, n, size) {
-        return SolverAnswer::Refused(at_line(14, 0));
+        return Err(at_line(Fault::Cell, 0));
     }
     if !is_model(sheet, p, n, size, setting) {
-        return SolverAnswer::Refused(at_line(19, 0));
+        return Err(at_line(Fault::NoModel, 0));
     }
     let length = case_length(signature, size);
     if output.len() < length {
-        return SolverAnswer::Refused(needing(11, length));
+        return Err(needing(Fault::OutputLength, length));
     }
-    let none = [0u32; 0];
-    SolverAnswer::Case(write_case(sheet, signature, n, size, setting, &none, output))
+    let bits = Bits::Setting(setting);
+    let written = write_case(sheet, signature, n, size, bits, output);
+    Ok(SolverResult::Case(written))
 }

@@ -9,9 +9,8 @@ use lib.Seq.{take_at}
 use Rattle.theory.specs.Refusals.{Answer, refused}
 use Rattle.theory.specs.Operations.{Reason}
 use Rattle.answers.specs.declared.Refusal.{Refusal}
-use Rattle.answers.specs.declared.JudgeAnswer.TheVariants.{Refused}
-use Rattle.answers.specs.declared.ExplainAnswer.{ExplainAnswer}
-use Rattle.answers.specs.Answers.{refusal_in, reason_in, eight, reason_bytes, unreasoned}
+use Rattle.std.specs.Prelude.{Err}
+use Rattle.answers.specs.Answers.{refusal_in, reason_in, eight, reason_bytes}
 use Rattle.answers.specs.Calls.{ReasoningCall}
 
 -- what was put into bytes is taken out of them
@@ -30,5 +29,5 @@ reason-said q e =
     ap (λ (xs : List ℕ). record { clause = q.clause; letters = xs; values = map (λ b. b - 1) (take (length q.letters) (eight (map suc q.values))) }) p
     ∙ ap (λ (vs : List ℕ). record { clause = q.clause; letters = q.letters; values = vs }) r
 
-pub refuses-reason : (a : Answer (Option Reason)) (r : Refusal) (x : ExplainAnswer) → a ≡ refused (refusal_in r) → x ≡ unreasoned (Refused r) → ReasoningCall a x
-refuses-reason a r x e h = rw (e, h) (record { answer = refl; beside = refl })
+pub refuses-reason : (a : Answer (Option Reason)) (r : Refusal) → a ≡ refused (refusal_in r) → ReasoningCall a (Err r)
+refuses-reason a r e = rw e (record { answer = refl; beside = refl })

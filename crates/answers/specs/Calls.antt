@@ -7,12 +7,7 @@ use Rattle.theory.specs.Operations.{read_answer, judge_answer, Reason, explain_a
 use Rattle.theory.specs.PlainSearch.{plain_result}
 use Rattle.naming.specs.NamedOperations.{read_back_text_in}
 use Rattle.symmetry.specs.SymmetricOperations.{written_text_with}
-use Rattle.answers.specs.declared.ReadAnswer.{ReadAnswer}
-use Rattle.answers.specs.declared.JudgeAnswer.{JudgeAnswer}
-use Rattle.answers.specs.declared.ExplainAnswer.{ExplainAnswer}
-use Rattle.answers.specs.declared.WriteAnswer.{WriteAnswer}
-use Rattle.answers.specs.declared.FindAnswer.{FindAnswer}
-use Rattle.answers.specs.Answers.{read_in, judge_in, explain_in, reason_beside, length_in, find_in}
+use Rattle.answers.specs.Answers.{ReadAnswer, read_in, JudgeAnswer, judge_in, ExplainAnswer, explain_in, reason_beside, reason_told, WriteAnswer, length_in, FindAnswer, find_in}
 
 -- Read
 pub record ReadCall (sheet : List ℕ) (r : ReadAnswer) : Type 0 where
@@ -25,7 +20,7 @@ pub record JudgeCall (sheet case : List ℕ) (r : JudgeAnswer) : Type 0 where
 -- a call that gives this reason or none, or is refused
 pub record ReasoningCall (a : Answer (Option Reason)) (r : ExplainAnswer) : Type 0 where
   pub answer : explain_in r ≡ a
-  pub beside : r.reason ≡ reason_beside a
+  pub beside : reason_told r ≡ reason_beside a
 
 -- Explain
 abbrev pub ExplainCall : List ℕ → List ℕ → ExplainAnswer → Type 0

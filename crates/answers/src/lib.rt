@@ -3,36 +3,31 @@
 
 ghost use Rattle.std.specs.Prelude.{◌≡◌};
 ghost use Rattle.theory.specs.Refusals as theory;
-ghost use Rattle.answers.specs.Answers.{refusal_in, unreasoned};
+ghost use Rattle.syntax.specs.Faults.{number_of};
+ghost use Rattle.answers.specs.Answers.{refusal_in};
 
+use syntax::faults::Fault;
 use syntax::limits::Problem;
 
-// A refusal: its number, its line and column, each 0 where it is not named, and the needed length with 10 and 11, else 0.
-#[derive(Drop)]
+// A refusal: what is refused, its line and column, each 0 where it is not named, and the needed length with 10 and 11, else 0.
+#[derive(Clone, Copy)]
 pub struct Refusal {
-    pub number: u8,
+    pub fault: Fault,
     pub line: usize,
     pub column: usize,
     pub needed: usize,
 }
 
-// Read: the numbers of functions, predicates and clauses.
-#[derive(Drop)]
-pub enum ReadAnswer {
-    Counts(usize, usize, usize),
-    Refused(Refusal),
-}
-
-// Judge: the case is a model, or it is none.
-#[derive(Drop)]
-pub enum JudgeAnswer {
-    Yes,
-    No,
-    Refused(Refusal),
+// The numbers of functions, predicates and clauses.
+#[derive(Clone, Copy)]
+pub struct SheetCounts {
+    pub functions: usize,
+    pub predicates: usize,
+    pub clauses: usize,
 }
 
 // Why a case is no model: a clause, counted from 1, fails where each of its letters, 'A' to 'H', stands for the value beside it, 1 to the size; 0 in the unused places.
-#[derive(Drop)]
+#[derive(Clone, Copy)]
 pub struct Reason {
     pub clause: usize,
     pub count: usize,
@@ -40,34 +35,34 @@ pub struct Reason {
     pub values: [u8; Problem::MAX_LETTERS],
 }
 
-// Explain: Judge's answer, and the reason beside it, since the prover covers no enum that holds an array; without a reason all zeros.
-#[derive(Drop)]
-pub struct ExplainAnswer {
-    pub verdict: JudgeAnswer,
-    pub reason: Reason,
-}
-
-// Write, Read back, Setting, From TPTP, Renumber and Least form, and Merge with the sheet beside it: the length of the text.
-#[derive(Drop)]
-pub enum WriteAnswer {
-    Written(usize),
-    Refused(Refusal),
-}
-
-// Find plain: the size of the model and the length of its case, or none and the mark settled. Find's own has choices, and stands in `finding`.
-#[derive(Drop)]
-pub enum FindAnswer {
+// What Find plain finds: the size of the model and the length of its case, or none and the mark settled. Find's own has choices, and stands in `finding`.
+#[derive(Clone, Copy)]
+pub enum PlainResult {
     Found(u64, usize),
     Nothing(bool),
-    Refused(Refusal),
 }
 
+// Read.
+pub type ReadAnswer = Result<SheetCounts, Refusal>;
+
+// Judge: whether the case is a model.
+pub type JudgeAnswer = Result<bool, Refusal>;
+
+// Explain: why the case is no model, if it is none.
+pub type ExplainAnswer = Result<Option<Reason>, Refusal>;
+
+// Write, Read back, Setting, From TPTP, Renumber and Least form: the length of the text. Merge has an answer of its own, in `uniting`.
+pub type WriteAnswer = Result<usize, Refusal>;
+
+// Find plain.
+pub type FindAnswer = Result<PlainResult, Refusal>;
+
 // A refusal at a line, or at none: 0.
-pub fn at_line(number: u8, line: usize) -> Refusal
-    ensures { refusal_in result ≡ theory.at_line number line }
+pub fn at_line(fault: Fault, line: usize) -> Refusal
+    ensures { refusal_in result ≡ theory.at_line (number_of fault) line }
 {
     Refusal {
-        number,
+        fault,
         line,
         column: 0,
         needed: 0,
@@ -75,11 +70,11 @@ pub fn at_line(number: u8, line: usize) -> Refusal
 }
 
 // A refusal at a line and a column.
-pub fn at_place(number: u8, line: usize, column: usize) -> Refusal
-    ensures { refusal_in result ≡ theory.at_place number (record { line = line; column = column }) }
+pub fn at_place(fault: Fault, line: usize, column: usize) -> Refusal
+    ensures { refusal_in result ≡ theory.at_place (number_of fault) (record { line = line; column = column }) }
 {
     Refusal {
-        number,
+        fault,
         line,
         column,
         needed: 0,
@@ -87,28 +82,13 @@ pub fn at_place(number: u8, line: usize, column: usize) -> Refusal
 }
 
 // A refusal that tells the needed length.
-pub fn needing(number: u8, needed: usize) -> Refusal
-    ensures { refusal_in result ≡ theory.needing number needed }
+pub fn needing(fault: Fault, needed: usize) -> Refusal
+    ensures { refusal_in result ≡ theory.needing (number_of fault) needed }
 {
     Refusal {
-        number,
+        fault,
         line: 0,
         column: 0,
         needed,
-    }
-}
-
-// An answer without a reason.
-pub fn without_reason(verdict: JudgeAnswer) -> ExplainAnswer
-    ensures { result ≡ unreasoned verdict }
-{
-    ExplainAnswer {
-        verdict,
-        reason: Reason {
-            clause: 0,
-            count: 0,
-            letters: [0; Problem::MAX_LETTERS],
-            values: [0; Problem::MAX_LETTERS],
-        },
     }
 }

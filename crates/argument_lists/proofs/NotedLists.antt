@@ -8,9 +8,8 @@ use Rattle.tptp.specs.Trees.{Name}
 use Rattle.tptp.specs.Written.{Item, item_of}
 use Rattle.tokens.specs.Pieces.{kind_in}
 use Rattle.tokens.specs.NextTokens.{NextFound}
-use Rattle.tokens.specs.declared.pieces.Kind.{Kind}
-use Rattle.tokens.specs.declared.next.NextToken.{NextToken}
-use Rattle.tokens.specs.declared.next.NextToken.TheVariants.{Is, End}
+use Rattle.std.specs.Prelude.{Some, None}
+use Rattle.tokens.specs.declared.next.Token.{Token}
 use Rattle.scanning.specs.Ahead.{items_at}
 use Rattle.scanning.proofs.Lookahead.{items-next, items-none, next-further}
 use Rattle.argument_lists.specs.Lists.{from_open, Held}
@@ -26,21 +25,21 @@ pub record ListsNoted (text : List ℕ) (at i : ℕ) (counts links : List ℕ) (
   pub within : i ≤ length text
 
 module _ (text : List ℕ) (at i : ℕ) (counts links : List ℕ) (p : Pass) (q : ListsNoted text at i counts links p) where
-  pub noted-ends : (r : NextToken) → r ≡ End → NextFound text i r → Held counts 0 p.count (from_open (items_at text at))
-  noted-ends r g f = ended_held _ _ counts links p (items-none text i r g f) q.telling
+  pub noted-ends : NextFound text i None → Held counts 0 p.count (from_open (items_at text at))
+  noted-ends f = ended_held _ _ counts links p (items-none text i f) q.telling
 
   -- one token more
-  pub noted-next : (r : NextToken) (k : Kind) (s e : ℕ) → r ≡ Is k s e → NextFound text i r → (counts' links' : List ℕ) (p' : Pass)
-      → ((ns : List ℕ) (w : Name) (us : List Item) → Telling ns (item_of (kind_in k) w ∷ us) counts links p → Telling ns us counts' links' p')
-      → p.count ≤ p'.count → p'.beyond ≤ p.beyond + 1 → ListsNoted text at e counts' links' p'
-  noted-next r k s e g f counts' links' p' step c b =
-      let z = next-further text i r k s e g f in
+  pub noted-next : (u : Token) → NextFound text i (Some u) → (counts' links' : List ℕ) (p' : Pass)
+      → ((ns : List ℕ) (w : Name) (us : List Item) → Telling ns (item_of (kind_in u.kind) w ∷ us) counts links p → Telling ns us counts' links' p')
+      → p.count ≤ p'.count → p'.beyond ≤ p.beyond + 1 → ListsNoted text at u.end counts' links' p'
+  noted-next u f counts' links' p' step c b =
+      let z = next-further text i u f in
       record {
-        telling = step _ _ _ (subst (λ (us : List Item). Telling (from_open (items_at text at)) us counts links p) (items-next text i r k s e g f) q.telling);
+        telling = step _ _ _ (subst (λ (us : List Item). Telling (from_open (items_at text at)) us counts links p) (items-next text i u f) q.telling);
         some = omega (arith, q.some, c);
         few = omega (arith, q.few, b, z.0);
         within = z.1;
       }
 
-pub noted-over : (text : List ℕ) (at i : ℕ) (counts links : List ℕ) (p : Pass) → ListsNoted text at i counts links p → p.innermost ≡ 0 → Held counts 0 p.count (from_open (items_at text at))
+pub noted-over : (text : List ℕ) (at i : ℕ) (counts links : List ℕ) (p : Pass) → ListsNoted text at i counts links p → p.innermost ≡ None → Held counts 0 p.count (from_open (items_at text at))
 noted-over text at i counts links p q e = over-held _ _ counts links p e q.telling

@@ -10,13 +10,14 @@ use borrow.Author.Tests.{eqb-true, eqb-false, ne_eqb}
 use lib.Dec.{eqb}
 use lib.ListN.{length, get_or, set, drop, length-set}
 use lib.Seq.{get_or-set_same, get_or-set_other, get_or-drop, drop-drop}
+use Rattle.std.specs.Prelude.{Option, Some, None}
 use Rattle.tptp.specs.Tokens.{TokenKind, lower_word, upper_word, digits, falsum, left_paren, right_paren, comma, full_stop, bar, tilde, equal_sign, unequal_sign, foreign, open_comment, kind_number}
 use Rattle.tptp.specs.Trees.{Name}
 use Rattle.tptp.specs.Written.{Item, item_of}
 use Rattle.tptp.specs.Scanning.{same_token_kind, commas}
 use Rattle.scanning.proofs.Lookahead.{commas-open, commas-stop, commas-close, commas-inner, commas-one, commas-other, no-commas}
 use Rattle.argument_lists.specs.Lists.{max_lists, many, list_arities, from_open, Room, Counts, Held}
-use Rattle.argument_lists.specs.Passing.{Falling, Linked, to_come, Telling}
+use Rattle.argument_lists.specs.Passing.{link_to, Falling, Linked, to_come, Telling, Tellable}
 use Rattle.argument_lists.specs.declared.pass.Pass.{Pass}
 
 one_less : (d : ℕ) → suc d - 1 ≡ d
@@ -108,6 +109,22 @@ pub innermost-noted : (links : List ℕ) (o : ℕ) (s : List ℕ) (n : ℕ) → 
 innermost-noted links o [] n l f = omega (arith, l)
 innermost-noted links o (x ∷ s) n l f = omega (arith, l.0, f.0)
 
+-- so it has a place in the counts and in the links
+pub record Placed (counts links : List ℕ) (k : ℕ) : Type 0 where
+  pub few : k < max_lists
+  pub in_counts : k < length counts
+  pub in_links : k < length links
+
+pub link-few : (counts links : List ℕ) (p : Pass) → Tellable counts links p → link_to p.innermost ≤ max_lists
+link-few counts links p t = let s = t.1.1 in omega (arith, innermost-noted links (link_to p.innermost) s.stack p.count s.linked s.falling, s.few)
+
+pub innermost-placed : (counts links : List ℕ) (p : Pass) (k : ℕ) → Tellable counts links p → p.innermost ≡ Some k → Placed counts links k
+innermost-placed counts links p k t e =
+    let s = t.1.1 in
+    let n : link_to p.innermost ≤ p.count = innermost-noted links (link_to p.innermost) s.stack p.count s.linked s.falling in
+    let i : link_to p.innermost ≡ suc k = ap link_to e in
+    record { few = omega (arith, n, i, s.few); in_counts = omega (arith, n, i, s.few, s.room.counts-long); in_links = omega (arith, n, i, s.few, s.room.links-long) }
+
 -- where no noted list is open, none has an argument to come
 none_open : (links : List ℕ) (o : ℕ) (s : List ℕ) → o ≡ 0 → Linked links o s → (d : ℕ) (us : List Item) (j : ℕ) → to_come s d us j ≡ 0
 none_open links o [] e h d us j = refl
@@ -171,16 +188,19 @@ module _ (ns : List ℕ) (k : TokenKind) (w : Name) (us : List Item) (counts lin
         below : (j ≡ n → ⊥) → j < n + 1 → j < n
         below ne lt = omega (arith, lt, ne)
 
-    pub opened-noted : Telling ns us (set counts n 1) (set links n p.innermost) (record { count = n + 1; innermost = n + 1; beyond = 0 })
+    abbrev o : ℕ
+    o = link_to p.innermost
+
+    pub opened-noted : Telling ns us (set counts n 1) (set links n (link_to p.innermost)) (record { count = n + 1; innermost = Some n; beyond = 0 })
     opened-noted =
         record {
           stack = n ∷ t.stack;
           falling = (omega arith, t.falling);
-          linked = (add-one n, subst (λ (o : ℕ). Linked (set links n p.innermost) o t.stack) (sym (get_or-set_same links n p.innermost 0 (omega (arith, h, hl)))) (linked-set links n p.innermost p.innermost t.stack n t.falling (omega arith) t.linked));
+          linked = (refl, subst (λ (v : ℕ). Linked (set links n o) v t.stack) (sym (get_or-set_same links n o 0 (omega (arith, h, hl)))) (linked-set links n o o t.stack n t.falling (omega arith) t.linked));
           told = λ j lt. noted-told (eqb n j) j refl lt;
           left = λ _. (refl, sym (drop-drop 1 n ns) ∙ ap (drop 1) next-lists);
           few = omega (arith, h);
-          room = record { counts-long = length-set counts n 1 ∙ hc; links-long = length-set links n p.innermost ∙ hl };
+          room = record { counts-long = length-set counts n 1 ∙ hc; links-long = length-set links n o ∙ hl };
         }
 
   -- nothing but what is to come has changed
@@ -196,8 +216,8 @@ module _ (ns : List ℕ) (k : TokenKind) (w : Name) (us : List Item) (counts lin
         room = t.room;
       }
 
-  nothing-open : p.innermost ≡ 0 → (d : ℕ) (vs : List Item) (j : ℕ) → to_come t.stack d vs j ≡ 0
-  nothing-open e = none_open links p.innermost t.stack e t.linked
+  nothing-open : p.innermost ≡ None → (d : ℕ) (vs : List Item) (j : ℕ) → to_come t.stack d vs j ≡ 0
+  nothing-open e = none_open links (link_to p.innermost) t.stack (ap link_to e) t.linked
 
   pub closed-beyond : same_token_kind right_paren k ≡ true → (p.beyond ≡ 0 → ⊥) → Telling ns us counts links (record { count = n; innermost = p.innermost; beyond = p.beyond - 1 })
   closed-beyond r ne =
@@ -212,7 +232,7 @@ module _ (ns : List ℕ) (k : TokenKind) (w : Name) (us : List Item) (counts lin
         room = t.room;
       }
 
-  pub closed-outside : same_token_kind right_paren k ≡ true → p.innermost ≡ 0 → Telling ns us counts links p
+  pub closed-outside : same_token_kind right_paren k ≡ true → p.innermost ≡ None → Telling ns us counts links p
   closed-outside r e = goes_on (other-kind right_paren left_paren k r refl) (λ j. nothing-open e p.beyond (item_of k w ∷ us) j ∙ sym (nothing-open e p.beyond us j))
 
   -- the innermost list is closed
@@ -223,19 +243,19 @@ module _ (ns : List ℕ) (k : TokenKind) (w : Name) (us : List Item) (counts lin
       go true e = commas-stop k w us 0 refl (other-kind right_paren left_paren k r refl) r ∙ sym (not-open s x 0 us j f (omega (arith, eqb-true x j e)))
       go false e = come-close k w us s 0 j r
 
-  pub closed-noted : same_token_kind right_paren k ≡ true → p.beyond ≡ 0 → (p.innermost ≡ 0 → ⊥)
-      → Telling ns us counts links (record { count = n; innermost = get_or links (p.innermost - 1) 0; beyond = 0 })
-  closed-noted r b ne = go t.stack t.falling t.linked (λ j lt. counted _ _ _ _ (ap (λ (d : ℕ). to_come t.stack d (item_of k w ∷ us) j) b) (t.told j lt))
+  pub closed-noted : same_token_kind right_paren k ≡ true → p.beyond ≡ 0 → (i : ℕ) → p.innermost ≡ Some i → (around : Option ℕ) → link_to around ≡ get_or links i 0
+      → Telling ns us counts links (record { count = n; innermost = around; beyond = 0 })
+  closed-noted r b i e around a = go t.stack t.falling t.linked (λ j lt. counted _ _ _ _ (ap (λ (d : ℕ). to_come t.stack d (item_of k w ∷ us) j) b) (t.told j lt))
     where
-      go : (s : List ℕ) → Falling n s → Linked links p.innermost s → ((j : ℕ) → j < n → Counts (get_or counts j 0) (to_come s 0 (item_of k w ∷ us) j) (get_or ns j 0))
-          → Telling ns us counts links (record { count = n; innermost = get_or links (p.innermost - 1) 0; beyond = 0 })
-      go [] f h told = absurd (ne h)
+      go : (s : List ℕ) → Falling n s → Linked links (link_to p.innermost) s → ((j : ℕ) → j < n → Counts (get_or counts j 0) (to_come s 0 (item_of k w ∷ us) j) (get_or ns j 0))
+          → Telling ns us counts links (record { count = n; innermost = around; beyond = 0 })
+      go [] f h told = absurd (omega (arith, h, ap link_to e))
       go (x ∷ s) f h told =
-          let i : x ≡ p.innermost - 1 = omega (arith, h.0) in
+          let q : x ≡ i = omega (arith, h.0, ap link_to e) in
           record {
             stack = s;
             falling = falls s x n f.1 (omega (arith, f.0));
-            linked = subst (λ (i : ℕ). Linked links (get_or links i 0) s) i h.1;
+            linked = subst (λ (v : ℕ). Linked links v s) (ap (λ (m : ℕ). get_or links m 0) q ∙ sym a) h.1;
             told = λ j lt. counted _ _ _ _ (close-step x s j f.1 r) (told j lt);
             left = λ lt. (refl, left-on (other-kind right_paren left_paren k r refl) lt);
             few = t.few;
@@ -248,14 +268,11 @@ module _ (ns : List ℕ) (k : TokenKind) (w : Name) (us : List Item) (counts lin
       let e : p.beyond ≡ suc (p.beyond - 1) = omega (arith, ne) in
       goes_on l (λ j. ap (λ (d : ℕ). to_come t.stack d (item_of k w ∷ us) j) e ∙ come-inner k w us l (other-kind comma right_paren k c refl) t.stack (p.beyond - 1) j ∙ ap (λ (d : ℕ). to_come t.stack d us j) (sym e))
 
-  pub argument-outside : same_token_kind comma k ≡ true → p.innermost ≡ 0 → Telling ns us counts links p
+  pub argument-outside : same_token_kind comma k ≡ true → p.innermost ≡ None → Telling ns us counts links p
   argument-outside c e = goes_on (other-kind comma left_paren k c refl) (λ j. nothing-open e p.beyond (item_of k w ∷ us) j ∙ sym (nothing-open e p.beyond us j))
 
   -- the innermost list has one argument more: v arguments are counted of it now
-  module _ (c : same_token_kind comma k ≡ true) (b : p.beyond ≡ 0) (ne : p.innermost ≡ 0 → ⊥) where
-    abbrev i : ℕ
-    i = p.innermost - 1
-
+  module _ (c : same_token_kind comma k ≡ true) (b : p.beyond ≡ 0) (i : ℕ) (g : p.innermost ≡ Some i) where
     -- one of the arguments to come is here
     argument-come : (x : ℕ) (s : List ℕ) (j : ℕ) → to_come (x ∷ s) 0 (item_of k w ∷ us) j ≡ cond (eqb x j) (suc (commas us 0)) (to_come s 1 us j)
     argument-come x s j =
@@ -274,10 +291,10 @@ module _ (ns : List ℕ) (k : TokenKind) (w : Name) (us : List Item) (counts lin
             subst (λ (m : ℕ). Counts (get_or counts' m 0) (commas us 0) (get_or ns j 0)) (sym g) (more (commas us 0) (get_or ns j 0) (subst (λ (m : ℕ). Counts (get_or counts m 0) (suc (commas us 0)) (get_or ns j 0)) g h))
         by x s j e false f h = subst (λ (m : ℕ). Counts m (to_come s 1 us j) (get_or ns j 0)) (sym (same j (λ g. eqb-false x j f (e ∙ sym g)))) h
 
-        go : (s : List ℕ) → Falling n s → Linked links p.innermost s → ((j : ℕ) → j < n → Counts (get_or counts j 0) (to_come s 0 (item_of k w ∷ us) j) (get_or ns j 0)) → Telling ns us counts' links p
-        go [] f h told = absurd (ne h)
+        go : (s : List ℕ) → Falling n s → Linked links (link_to p.innermost) s → ((j : ℕ) → j < n → Counts (get_or counts j 0) (to_come s 0 (item_of k w ∷ us) j) (get_or ns j 0)) → Telling ns us counts' links p
+        go [] f h told = absurd (omega (arith, h, ap link_to g))
         go (x ∷ s) f h told =
-            let e : x ≡ i = omega (arith, h.0) in
+            let e : x ≡ i = omega (arith, h.0, ap link_to g) in
             record {
               stack = x ∷ s;
               falling = f;
@@ -313,9 +330,9 @@ noted-held ns us counts links p t none =
 pub ended_held : (ns : List ℕ) (us : List Item) (counts links : List ℕ) (p : Pass) → us ≡ [] → Telling ns us counts links p → Held counts 0 p.count ns
 ended_held ns us counts links p e t = noted-held ns us counts links p t (λ j. ap (λ (vs : List Item). to_come t.stack p.beyond vs j) e ∙ none-to-come t.stack p.beyond j)
 
-pub over-held : (ns : List ℕ) (us : List Item) (counts links : List ℕ) (p : Pass) → p.innermost ≡ 0 → Telling ns us counts links p → Held counts 0 p.count ns
-over-held ns us counts links p e t = noted-held ns us counts links p t (λ j. none_open links p.innermost t.stack e t.linked p.beyond us j)
+pub over-held : (ns : List ℕ) (us : List Item) (counts links : List ℕ) (p : Pass) → p.innermost ≡ None → Telling ns us counts links p → Held counts 0 p.count ns
+over-held ns us counts links p e t = noted-held ns us counts links p t (λ j. none_open links (link_to p.innermost) t.stack (ap link_to e) t.linked p.beyond us j)
 
 -- before the ( of the first list
-pub pass-begins : (w : Name) (us : List Item) (counts links : List ℕ) → Room counts links → Telling (from_open us) (item_of left_paren w ∷ us) counts links (record { count = 0; innermost = 0; beyond = 0 })
+pub pass-begins : (w : Name) (us : List Item) (counts links : List ℕ) → Room counts links → Telling (from_open us) (item_of left_paren w ∷ us) counts links (record { count = 0; innermost = None; beyond = 0 })
 pass-begins w us counts links h = record { stack = []; falling = tt; linked = refl; told = λ j lt. absurd (omega (arith, lt)); left = λ _. (refl, refl); few = omega arith; room = h }

@@ -2,22 +2,19 @@
 ghost use Rattle.std.specs.Prelude.{◌≡◌, cond, ◌≤◌, ◌<◌, length};
 ghost use Rattle.tptp.specs.Scanning.{arity_ahead};
 ghost use Rattle.scanning.specs.Ahead.{items_at};
-ghost use Rattle.argument_lists.specs.Lists.{Room, Held, from_open};
+ghost use Rattle.argument_lists.specs.Lists.{Held, from_open};
 ghost use Rattle.argument_lists.specs.Told.{none_told, told_after, ToldAt, ArityTold};
 
 use crate::noting::note_lists;
-use crate::pass::MANY;
+use crate::pass::{Lists, MANY};
 use scanning::ahead::arity_ahead;
 use statements::kinds::is;
-use tokens::next::{NextToken, next_token};
+use std::ops::Range;
+use tokens::next::next_token;
 use tokens::pieces::Kind;
 
-// The counts from one place up to another are those of the lists that open next.
-#[derive(Drop)]
-pub struct Told {
-    pub from: usize,
-    pub to: usize,
-}
+// The counts at these places are those of the lists that open next.
+pub type Told = Range<usize>;
 
 // The arguments of a symbol, and what is told then.
 #[derive(Drop)]
@@ -30,62 +27,47 @@ pub struct Arity {
 pub fn nothing_told() -> Told
     ensures { result ≡ none_told }
 {
-    Told { from: 0, to: 0 }
+    0..0
 }
 
 // What is told behind a token, which opens a list or not.
 pub fn told_after(told: Told, opens: bool) -> Told
     ensures { result ≡ told_after told opens }
 {
-    if !opens {
-        return told;
+    if opens && !told.is_empty() {
+        return told.start + 1..told.end;
     }
-    if told.to <= told.from {
-        return told;
-    }
-    Told {
-        from: told.from + 1,
-        to: told.to,
-    }
+    told
 }
 
 // What is told of the list that is open at a place and of those that open from there on: not nothing.
-fn refreshed(text: &[u8], at: usize, counts: &mut [u8], links: &mut [u16], told: Told) -> Told
-    requires { (at ≤ length text.now) × (Room counts.old links.old × Held counts.old told.from told.to (from_open (items_at text.now at))) }
-    ensures some { result.from < result.to }
-    ensures held { Held counts.new result.from result.to (from_open (items_at text.now at)) }
+fn refreshed(text: &[u8], at: usize, lists: &mut Lists, told: Told) -> Told
+    requires { (at ≤ length text.now) × Held lists.old.counts told.start told.end (from_open (items_at text.now at)) }
+    ensures some { result.start < result.end }
+    ensures held { Held lists.new.counts result.start result.end (from_open (items_at text.now at)) }
 {
-    if told.from < told.to {
+    if !told.is_empty() {
         return told;
     }
-    let to = note_lists(text, at, counts, links);
-    Told { from: 0, to }
+    0..note_lists(text, at, lists)
 }
 
 // How many arguments follow a symbol that ends at a place.
-pub fn arity_at(text: &[u8], at: usize, counts: &mut [u8], links: &mut [u16], told: Told) -> Arity
-    requires { (at ≤ length text.now) × (Room counts.old links.old × ToldAt text.now at counts.old told) }
-    ensures { ArityTold text.now at counts.new result }
+pub fn arity_at(text: &[u8], at: usize, lists: &mut Lists, told: Told) -> Arity
+    requires { (at ≤ length text.now) × ToldAt text.now at lists.old.counts told }
+    ensures { ArityTold text.now at lists.new.counts result }
 {
     match next_token(text, at) {
-        NextToken::End => Arity { count: 0, told },
-        NextToken::Is(kind, _start, end) => {
-            if !is(Kind::LeftParen, kind) {
-                return Arity { count: 0, told };
-            }
-            let told = refreshed(text, end, counts, links, told);
-            let from = told.from;
-            let n = counts[from];
-            if n < MANY {
-                return Arity {
-                    count: n as usize,
-                    told,
-                };
-            }
-            Arity {
-                count: arity_ahead(text, at),
-                told,
-            }
+        Some(token) if is(Kind::LeftParen, token.kind) => {
+            let told = refreshed(text, token.end, lists, told);
+            let n = lists.counts[told.start];
+            let count = if n < MANY {
+                usize::from(n)
+            } else {
+                arity_ahead(text, at)
+            };
+            Arity { count, told }
         }
+        _ => Arity { count: 0, told },
     }
 }

@@ -7,9 +7,8 @@ ghost use Rattle.tptp.specs.Scanning.{same_token_kind};
 ghost use Rattle.tokens.specs.Pieces.{kind_in};
 ghost use Rattle.statements.specs.Dues.{max_open};
 ghost use Rattle.argument_lists.specs.Lists.{max_lists};
-ghost use Rattle.argument_lists.specs.Passing.{Telling, Tellable};
+ghost use Rattle.argument_lists.specs.Passing.{link_to, Telling, Tellable};
 
-use statements::kinds::is;
 use tokens::pieces::Kind;
 
 // How many lists are noted in one pass.
@@ -18,99 +17,110 @@ pub const LISTS: usize = 16_384;
 // So many arguments are too many for any symbol: of more it is not counted how many.
 pub const MANY: u8 = 4;
 
-// How many lists are noted; which of them is the innermost that is open, counted from 1, or 0; and how many lists that are not noted are open inside it.
+// The lists that are noted, by place: the arguments of each up to here, and the list around it by the number that links to it.
+#[derive(Drop)]
+pub struct Lists {
+    pub counts: [u8; LISTS],
+    pub links: [u16; LISTS],
+}
+
+// How many lists are noted; which of them is the innermost that is open; and how many lists that are not noted are open inside it.
 #[derive(Clone, Copy)]
 pub struct Pass {
     pub count: usize,
-    pub innermost: usize,
+    pub innermost: Option<usize>,
     pub beyond: usize,
 }
 
-// ( opens a list, which has one argument so far. It is noted while there is room.
-pub fn opened(counts: &mut [u8], links: &mut [u16], p: Pass) -> Pass
-    requires { Tellable counts.old links.old p × (p.beyond < max_open) }
-    ensures tells { (ns : List ℕ) (k : TokenKind) (w : Name) (us : List Item) → same_token_kind left_paren k ≡ true → Telling ns (item_of k w ∷ us) counts.old links.old p → Telling ns us counts.new links.new result }
-    ensures more { (p.count ≤ result.count) × ((result.beyond ≤ p.beyond + 1) × (p.count < max_lists → result.count ≡ p.count + 1)) }
+// By what number a list is linked to: one more than its place, or 0 where there is none.
+fn link_to(list: Option<usize>) -> u16
+    requires { link_to list ≤ max_lists }
+    ensures { result ≡ link_to list }
 {
-    let n = p.count;
-    if LISTS <= n {
-        return Pass {
-            count: n,
-            innermost: p.innermost,
-            beyond: p.beyond + 1,
+    list.map_or(0, |k| k as u16 + 1)
+}
+
+// The list that is linked to by a number.
+fn linked(link: u16) -> Option<usize>
+    ensures { link_to result ≡ link }
+{
+    usize::from(link).checked_sub(1)
+}
+
+impl Lists {
+    // ( opens a list, which has one argument so far. It is noted while there is room.
+    pub fn opened(&mut self, p: Pass) -> Pass
+        requires { Tellable self.old.counts self.old.links p × (p.beyond < max_open) }
+        ensures tells { (ns : List ℕ) (k : TokenKind) (w : Name) (us : List Item) → same_token_kind left_paren k ≡ true → Telling ns (item_of k w ∷ us) self.old.counts self.old.links p → Telling ns us self.new.counts self.new.links result }
+        ensures more { (p.count ≤ result.count) × ((result.beyond ≤ p.beyond + 1) × (p.count < max_lists → result.count ≡ p.count + 1)) }
+    {
+        let n = p.count;
+        if LISTS <= n {
+            return Pass {
+                beyond: p.beyond + 1,
+                ..p
+            };
+        }
+        self.counts[n] = 1;
+        self.links[n] = link_to(p.innermost);
+        Pass {
+            count: n + 1,
+            innermost: Some(n),
+            beyond: 0,
+        }
+    }
+
+    // ) closes the innermost list that is open, unless that opened before the pass.
+    fn closed(&self, p: Pass) -> Pass
+        requires { Tellable self.now.counts self.now.links p }
+        ensures tells { (ns : List ℕ) (k : TokenKind) (w : Name) (us : List Item) → same_token_kind right_paren k ≡ true → Telling ns (item_of k w ∷ us) self.now.counts self.now.links p → Telling ns us self.now.counts self.now.links result }
+        ensures more { (p.count ≤ result.count) × (result.beyond ≤ p.beyond) }
+    {
+        if p.beyond != 0 {
+            return Pass {
+                beyond: p.beyond - 1,
+                ..p
+            };
+        }
+        let Some(k) = p.innermost else {
+            return p;
         };
+        Pass {
+            innermost: linked(self.links[k]),
+            ..p
+        }
     }
-    counts[n] = 1;
-    links[n] = p.innermost as u16;
-    Pass {
-        count: n + 1,
-        innermost: n + 1,
-        beyond: 0,
-    }
-}
 
-fn wide(n: u16) -> usize
-    ensures { result ≡ n }
-{
-    n as usize
-}
-
-// ) closes the innermost list that is open, unless that opened before the pass.
-fn closed(counts: &[u8], links: &[u16], p: Pass) -> Pass
-    requires { Tellable counts.now links.now p }
-    ensures tells { (ns : List ℕ) (k : TokenKind) (w : Name) (us : List Item) → same_token_kind right_paren k ≡ true → Telling ns (item_of k w ∷ us) counts.now links.now p → Telling ns us counts.now links.now result }
-    ensures more { (p.count ≤ result.count) × (result.beyond ≤ p.beyond) }
-{
-    if p.beyond != 0 {
-        return Pass {
-            count: p.count,
-            innermost: p.innermost,
-            beyond: p.beyond - 1,
+    // A comma: the innermost list that is open has one argument more.
+    fn next_argument(&mut self, p: Pass)
+        requires { Tellable self.old.counts self.old.links p }
+        ensures { (ns : List ℕ) (k : TokenKind) (w : Name) (us : List Item) → same_token_kind comma k ≡ true → Telling ns (item_of k w ∷ us) self.old.counts self.old.links p → Telling ns us self.new.counts self.new.links p }
+    {
+        if p.beyond != 0 {
+            return;
+        }
+        let Some(k) = p.innermost else {
+            return;
         };
+        if self.counts[k] < MANY {
+            self.counts[k] += 1;
+        }
     }
-    if p.innermost == 0 {
-        return p;
-    }
-    let k = p.innermost - 1;
-    Pass {
-        count: p.count,
-        innermost: wide(links[k]),
-        beyond: 0,
-    }
-}
 
-// A comma: the innermost list that is open has one argument more.
-fn next_argument(counts: &mut [u8], links: &[u16], p: Pass)
-    requires { Tellable counts.old links.now p }
-    ensures { (ns : List ℕ) (k : TokenKind) (w : Name) (us : List Item) → same_token_kind comma k ≡ true → Telling ns (item_of k w ∷ us) counts.old links.now p → Telling ns us counts.new links.now p }
-{
-    if p.beyond != 0 {
-        return;
+    // A token of any kind.
+    pub fn after_token(&mut self, kind: Kind, p: Pass) -> Pass
+        requires { Tellable self.old.counts self.old.links p × (p.beyond < max_open) }
+        ensures tells { (ns : List ℕ) (w : Name) (us : List Item) → Telling ns (item_of (kind_in kind) w ∷ us) self.old.counts self.old.links p → Telling ns us self.new.counts self.new.links result }
+        ensures more { (p.count ≤ result.count) × (result.beyond ≤ p.beyond + 1) }
+    {
+        match kind {
+            Kind::LeftParen => self.opened(p),
+            Kind::RightParen => self.closed(p),
+            Kind::Comma => {
+                self.next_argument(p);
+                p
+            }
+            _ => p,
+        }
     }
-    if p.innermost == 0 {
-        return;
-    }
-    let k = p.innermost - 1;
-    let n = counts[k];
-    if n < MANY {
-        counts[k] = n + 1;
-    }
-}
-
-// A token of any kind.
-pub fn after_token(counts: &mut [u8], links: &mut [u16], kind: Kind, p: Pass) -> Pass
-    requires { Tellable counts.old links.old p × (p.beyond < max_open) }
-    ensures tells { (ns : List ℕ) (w : Name) (us : List Item) → Telling ns (item_of (kind_in kind) w ∷ us) counts.old links.old p → Telling ns us counts.new links.new result }
-    ensures more { (p.count ≤ result.count) × (result.beyond ≤ p.beyond + 1) }
-{
-    if is(Kind::LeftParen, kind) {
-        return opened(counts, links, p);
-    }
-    if is(Kind::RightParen, kind) {
-        return closed(counts, links, p);
-    }
-    if is(Kind::Comma, kind) {
-        next_argument(counts, links, p);
-    }
-    p
 }

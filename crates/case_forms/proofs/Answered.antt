@@ -1,31 +1,27 @@
 -- What Renumber and Least form answer and leave at each of their refusals, and where they write.
 use Prim.Native.Nat.{ℕ, ◌≤◌, ◌<◌}
-use mathlib.Core.Path.{◌≡◌, refl, sym, ap, ◌∙◌}
+use mathlib.Core.Path.{◌≡◌, refl}
 use mathlib.Core.Bool.{true, false}
 use mathlib.Core.List.{List}
+use lib.Dec.{leb}
 use lib.ListN.{length}
 use Rattle.theory.specs.Syntax.{Signature}
-use Rattle.theory.specs.Refusals.{Refusal, answer, refused, at_line, unplaced, needing}
-use Rattle.theory.specs.Problem.{read_problem}
+use Rattle.theory.specs.Refusals.{Refusal, Answer, answer, refused, unplaced, needing, ◌>>=◌, check}
+use Rattle.theory.specs.Problem as theory
 use Rattle.theory.specs.CaseText.{Case, case_text, case_length, read_case}
 use Rattle.theory.specs.Columns.{placed_problem, placed_case}
 use Rattle.theory.proofs.Tests.{leb-of-≤, leb-of-<}
 use Rattle.theory.proofs.Answers.{bind-step, bind-refused, check-of-true, check-of-false}
-use Rattle.theory.proofs.Parsing.{read_problem-bytes}
 use Rattle.theory.proofs.CaseText.{read-exactly}
-use Rattle.theory.proofs.PlacedReading.{placed-case}
 use Rattle.renumbering.specs.Renumbering.{renumbered}
 use Rattle.renumbering.specs.LeastForm.{least_form}
 use Rattle.renumbered_cases.specs.RenumberedCases.{entries_of, is_listed, renumbered_text, least_form_text}
-use Rattle.syntax.specs.declared.size.DomainSize.{DomainSize}
+use Rattle.syntax.specs.declared.limits.Problem.{Problem}
 use Rattle.syntax.specs.Signatures.{max_cells, signature_in}
 use Rattle.clauses.specs.Names.{Readable}
-use Rattle.problem.specs.declared.sheet.Reading.{Reading}
-use Rattle.problem.specs.Problems.{problem_in, reading_of}
-use Rattle.problem.proofs.SheetRead.{sheet-accepted, sheet-placed}
-use Rattle.cases.specs.declared.reading.CaseReading.{CaseReading}
-use Rattle.cases.specs.declared.reading.CaseReading.TheVariants.{Read, Refused}
-use Rattle.cases.specs.Reading.{case_in}
+use Rattle.problem.specs.Problems.{problem_in}
+use Rattle.problem.specs.Modes.{read_in}
+use Rattle.columns.proofs.CasesOpened.{sheet-short, sheet-stops, case-stops, goes_on}
 use Rattle.case_forms.specs.Cells.{first_cells, renumbered_cells, least_cells, CaseHeld}
 
 -- the cells of a case
@@ -52,58 +48,63 @@ module _ (s : ℕ) (g : Signature) (cells : List ℕ) (room : ℕ) where
   unfolding least_cells
   form-said h = bind-step _ _ tt _ (check-of-true _ (needing 11 (case_length s g)) (leb-of-≤ (case_length s g) room h)) refl
 
--- a sheet that is refused
-pub sheet-refusal : (sheet case list : List ℕ) (room : ℕ) (q : Refusal) → placed_problem sheet ≡ refused q → renumbered_text sheet case list room ≡ refused q
-unfolding renumbered_text
-sheet-refusal sheet case list room q e = bind-refused _ _ q e
+-- what is left of each call once sheet and case are accepted
+abbrev renumbered_from : List ℕ → ℕ → theory.Problem → Case → Answer (List ℕ)
+renumbered_from list room p k = do
+  _ ← check (is_listed k.size list) (unplaced 25)
+  _ ← check (leb (case_length k.size p.symbols) room) (needing 11 (case_length k.size p.symbols))
+  answer (case_text k.size p.symbols (renumbered k.size p.symbols (entries_of list) k.values))
 
-pub sheet-refusal-least : (sheet case : List ℕ) (room : ℕ) (q : Refusal) → placed_problem sheet ≡ refused q → least_form_text sheet case room ≡ refused q
-unfolding least_form_text
-sheet-refusal-least sheet case room q e = bind-refused _ _ q e
+abbrev least_from : ℕ → theory.Problem → Case → Answer (List ℕ)
+least_from room p k = do
+  _ ← check (leb (case_length k.size p.symbols) room) (needing 11 (case_length k.size p.symbols))
+  answer (case_text k.size p.symbols (least_form k.size p.symbols k.values))
 
--- a sheet that was accepted
-module _ (sheet case : List ℕ) (room : ℕ) (r : Reading) (read : reading_of sheet r ≡ read_problem sheet) (ok : r.fault ≡ 0) where
-  abbrev g : Signature
-  g = signature_in sheet r.problem.signature
+module _ (sheet case : List ℕ) (room : ℕ) where
+  -- a sheet that is refused
+  module _ (q : Refusal) (e : placed_problem sheet ≡ refused q) where
+    pub sheet-refusal : (list : List ℕ) → renumbered_text sheet case list room ≡ refused q
+    unfolding renumbered_text
+    sheet-refusal list = sheet-stops (renumbered_from list room) sheet case q e
 
-  accepted : placed_problem sheet ≡ answer (problem_in sheet r.problem)
-  accepted = sheet-placed sheet r read ok
+    pub sheet-refusal-least : least_form_text sheet case room ≡ refused q
+    unfolding least_form_text
+    sheet-refusal-least = sheet-stops (least_from room) sheet case q e
 
-  pub case-refusal : (list : List ℕ) (q : Refusal) → placed_case g case ≡ refused q → renumbered_text sheet case list room ≡ refused q
-  unfolding renumbered_text problem_in
-  case-refusal list q e = bind-step _ _ _ _ accepted (bind-refused _ _ q e)
+  -- a sheet that was accepted
+  module _ (p : Problem) (read : read_in false sheet ≡ answer (problem_in sheet p)) where
+    abbrev g : Signature
+    g = signature_in sheet p.signature
 
-  pub case-refusal-least : (q : Refusal) → placed_case g case ≡ refused q → least_form_text sheet case room ≡ refused q
-  unfolding least_form_text problem_in
-  case-refusal-least q e = bind-step _ _ _ _ accepted (bind-refused _ _ q e)
+    module _ (q : Refusal) (e : placed_case g case ≡ refused q) where
+      pub case-refusal : (list : List ℕ) → renumbered_text sheet case list room ≡ refused q
+      unfolding renumbered_text
+      case-refusal list = case-stops (renumbered_from list room) sheet case p read q e
 
-  module _ (cells : List ℕ) (k : CaseReading) (e : case_in g k cells ≡ read_case g case) where
-    told : (j : CaseReading) → k ≡ j → read_case g case ≡ case_in g j cells
-    told j q = sym e ∙ ap (λ (k : CaseReading). case_in g k cells) q
+      pub case-refusal-least : least_form_text sheet case room ≡ refused q
+      unfolding least_form_text
+      case-refusal-least = case-stops (least_from room) sheet case p read q e
 
-    pub case-unread : (l : ℕ) → k ≡ Refused l → read_case g case ≡ refused (at_line 12 l)
-    case-unread l q = told (Refused l) q
-
-    module _ (d : DomainSize) (q : k ≡ Read d) where
+    module _ (s : ℕ) (cells : List ℕ) (e : read_case g case ≡ answer (record { size = s; values = first_cells s g cells })) where
       abbrev case_read : Case
-      case_read = record { size = d.0; values = first_cells d.0 g cells }
+      case_read = record { size = s; values = first_cells s g cells }
 
-      pub case-held : Readable sheet r.problem.signature → max_cells ≤ length cells → CaseHeld sheet r.problem.signature d.0 cells
+      pub case-held : Readable sheet p.signature → max_cells ≤ length cells → CaseHeld sheet p.signature s cells
       case-held n l =
-          let o = read-exactly g case case_read (told (Read d) q) in
+          let o = read-exactly g case case_read e in
           record {
             readable = n;
-            short = read_problem-bytes sheet (problem_in sheet r.problem) (sheet-accepted sheet r read ok);
+            short = sheet-short sheet p read;
             positive = o.positive;
             small = o.within;
             room = l;
             values = o.interpretation;
           }
 
-      pub cells_left : (list : List ℕ) → renumbered_text sheet case list room ≡ renumbered_cells d.0 g cells list room
+      pub cells_left : (list : List ℕ) → renumbered_text sheet case list room ≡ renumbered_cells s g cells list room
       unfolding renumbered_text renumbered_cells problem_in
-      cells_left list = bind-step _ _ _ _ accepted (bind-step _ _ _ _ (placed-case g case case_read (told (Read d) q)) refl)
+      cells_left list = goes_on (renumbered_from list room) sheet case p read case_read e
 
-      pub cells-left-least : least_form_text sheet case room ≡ least_cells d.0 g cells room
+      pub cells-left-least : least_form_text sheet case room ≡ least_cells s g cells room
       unfolding least_form_text least_cells problem_in
-      cells-left-least = bind-step _ _ _ _ accepted (bind-step _ _ _ _ (placed-case g case case_read (told (Read d) q)) refl)
+      cells-left-least = goes_on (least_from room) sheet case p read case_read e

@@ -1,7 +1,7 @@
 -- One call of Renumber and of Least form: what it was handed, the answer r, and the output before and after.
 use Rattle.std.specs.Prelude.{ℕ, List, length}
 use Rattle.renumbered_cases.specs.RenumberedCases.{renumbered_text, least_form_text}
-use Rattle.answers.specs.declared.WriteAnswer.{WriteAnswer}
+use Rattle.answers.specs.Answers.{WriteAnswer}
 use Rattle.answers.specs.Calls.{WritingCall}
 
 -- Renumber

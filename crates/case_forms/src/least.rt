@@ -11,14 +11,12 @@ ghost use Rattle.case_forms.specs.Cells.{CaseHeld, least_cells};
 
 use answers::{WriteAnswer, needing};
 use case_writer::write_cells;
-use cases::reading::{CaseReading, read_case};
 use cases::writing::case_length;
-use columns::case::case_refusal;
-use columns::sheet::sheet_refusal;
+use columns::opened::{open_case, open_sheet};
 use interpretation::tables::tables_of;
-use problem::sheet::read_problem;
 use rearranging::all::take_all;
 use rearranging::rearrangement::Rearrangement;
+use syntax::faults::Fault;
 use syntax::limits::Problem;
 use syntax::signature::Signature;
 use syntax::size::DomainSize;
@@ -28,19 +26,10 @@ use text::writing::put_bytes;
 pub fn write_least_form(sheet: &[u8], case: &[u8], output: &mut [u8]) -> WriteAnswer
     ensures { LeastFormCall sheet.now case.now result output.old output.new }
 {
-    let r = read_problem(sheet);
-    if r.fault != 0 {
-        return WriteAnswer::Refused(sheet_refusal(sheet, r.fault, r.line));
-    }
-    let p = r.problem;
-    let signature = p.signature;
+    let p = open_sheet(sheet, false)?;
     let mut cells = [0; Problem::MAX_CELLS];
-    match read_case(case, sheet, signature, &mut cells) {
-        CaseReading::Refused(line) => {
-            WriteAnswer::Refused(case_refusal(case, sheet, signature, line))
-        }
-        CaseReading::Read(size) => write_least(sheet, signature, size, &cells, output),
-    }
+    let size = open_case(sheet, p.signature, case, &mut cells)?;
+    write_least(sheet, p.signature, size, &cells, output)
 }
 
 // 11, or the least form of the interpretation that the first cells are.
@@ -56,12 +45,12 @@ fn write_least(
 {
     let length = case_length(signature, size);
     if output.len() < length {
-        return WriteAnswer::Refused(needing(11, length));
+        return Err(needing(Fault::OutputLength, length));
     }
     let t = tables_of(signature, size);
     let count = t.cells;
     let mut held = [0; Problem::MAX_CELLS];
-    WriteAnswer::Written(put_least(
+    Ok(put_least(
         sheet,
         signature,
         size,

@@ -13,16 +13,14 @@ ghost use Rattle.case_forms.specs.Cells.{CaseHeld, renumbered_cells};
 
 use answers::{WriteAnswer, at_line, needing};
 use case_writer::write_cells;
-use cases::reading::{CaseReading, read_case};
 use cases::writing::case_length;
-use columns::case::case_refusal;
-use columns::sheet::sheet_refusal;
+use columns::opened::{open_case, open_sheet};
 use interpretation::tables::tables_of;
-use problem::sheet::read_problem;
 use rearranging::candidates::take_renumbered;
 use rearranging::lists::read_list;
 use rearranging::rearrangement::Rearrangement;
 use rearranging::standing::Standing;
+use syntax::faults::Fault;
 use syntax::limits::Problem;
 use syntax::signature::Signature;
 use syntax::size::DomainSize;
@@ -31,19 +29,10 @@ use syntax::size::DomainSize;
 pub fn renumber_case(sheet: &[u8], case: &[u8], list: &[u8], output: &mut [u8]) -> WriteAnswer
     ensures { RenumberCall sheet.now case.now list.now result output.old output.new }
 {
-    let r = read_problem(sheet);
-    if r.fault != 0 {
-        return WriteAnswer::Refused(sheet_refusal(sheet, r.fault, r.line));
-    }
-    let p = r.problem;
-    let signature = p.signature;
+    let p = open_sheet(sheet, false)?;
     let mut cells = [0; Problem::MAX_CELLS];
-    match read_case(case, sheet, signature, &mut cells) {
-        CaseReading::Refused(line) => {
-            WriteAnswer::Refused(case_refusal(case, sheet, signature, line))
-        }
-        CaseReading::Read(size) => write_renumbered(sheet, signature, size, &cells, list, output),
-    }
+    let size = open_case(sheet, p.signature, case, &mut cells)?;
+    write_renumbered(sheet, p.signature, size, &cells, list, output)
 }
 
 // 25, 11, or the renumbered case of the interpretation that the first cells are.
@@ -58,19 +47,17 @@ fn write_renumbered(
     requires { CaseHeld sheet.now signature size.0 cells.now }
     ensures { WritingCall (renumbered_cells size.0 (signature_in sheet.now signature) cells.now list.now (length output.old)) result output.old output.new }
 {
-    let l = read_list(list, size);
-    if !l.taken {
-        return WriteAnswer::Refused(at_line(25, 0));
-    }
+    let Some(entries) = read_list(list, size) else {
+        return Err(at_line(Fault::Renumbering, 0));
+    };
     let length = case_length(signature, size);
     if output.len() < length {
-        return WriteAnswer::Refused(needing(11, length));
+        return Err(needing(Fault::OutputLength, length));
     }
     let t = tables_of(signature, size);
     let count = t.cells;
-    let entries = l.entries;
     let mut held = [0; Problem::MAX_CELLS];
-    WriteAnswer::Written(put_renumbered(
+    Ok(put_renumbered(
         sheet,
         signature,
         size,

@@ -46,13 +46,11 @@ fn put_tables(
 {
     let mut e = at;
     let mut base: usize = 0;
-    let mut i: usize = 0;
-    while i < signature.count {
+    for i in 0..signature.count {
         let symbol = signature.symbols[i];
         let end = base + power(size.0, symbol.arity as usize);
         e = put_table(out, e, sheet, symbol, &cells[base..end]);
         base = end;
-        i += 1;
     }
     e
 }

@@ -20,7 +20,7 @@ use Rattle.theory.proofs.Tests.{iff→≡, ltb-true, ltb-of-<, leb-true, leb-of-
 use Rattle.theory.proofs.Answers.{bind-step, bind-refused, check-of-true, check-of-false, or_refuse-of-some, or_refuse-of-none}
 use Rattle.text.specs.Lines.{StartsWith}
 use Rattle.syntax.specs.declared.size.DomainSize.{DomainSize}
-use Rattle.syntax.specs.declared.size.SizeCheck.TheVariants as size
+use Rattle.std.specs.Prelude.{Some, None}
 use Rattle.syntax.specs.Sizes.{checked_size}
 use Rattle.cases.specs.Reading.{size_found, size_after, case_of_tables}
 
@@ -33,17 +33,17 @@ size-byte b h =
 
 -- the size of a line, as the code finds it
 module _ (line : List ℕ) where
-  pub no_key : StartsWith line (bytes "size=") false → size.Refused ≡ size_after (after_key (bytes "size=") line)
+  pub no_key : StartsWith line (bytes "size=") false → None ≡ size_after (after_key (bytes "size=") line)
   no_key w = sym (ap size_after w.found)
 
   module _ (w : StartsWith line (bytes "size=") true) where
     after : after_key (bytes "size=") line ≡ some (drop 5 line)
     after = w.found
 
-    pub other_length : (length line ≡ 6 → ⊥) → size.Refused ≡ size_after (after_key (bytes "size=") line)
+    pub other_length : (length line ≡ 6 → ⊥) → None ≡ size_after (after_key (bytes "size=") line)
     other_length h = sym (ap size_after after ∙ go (drop 5 line) (λ e. h (omega (arith, length-drop 5 line, w.room refl))))
       where
-        go : (v : List ℕ) → (length v ≡ 1 → ⊥) → size_after (some v) ≡ size.Refused
+        go : (v : List ℕ) → (length v ≡ 1 → ⊥) → size_after (some v) ≡ None
         go [] h = refl
         go (b ∷ []) h = absurd (h refl)
         go (b ∷ c ∷ v) h = refl
@@ -61,13 +61,13 @@ module _ (line : List ℕ) where
           ∙ ap {B = Option (List ℕ)} some (one_byte (drop 5 line) (omega (arith, length-drop 5 line)))
           ∙ ap (λ (b : ℕ). some (b ∷ [])) (get_or-drop 5 line 0 0))
 
-      pub no_digit : get_or line 5 0 < 48 → size.Refused ≡ size_after (after_key (bytes "size=") line)
+      pub no_digit : get_or line 5 0 < 48 → None ≡ size_after (after_key (bytes "size=") line)
       no_digit h = sym (digit ∙ ap (λ (b : Bool). size_found (cond (b && ltb (get_or line 5 0) 57) (some (get_or line 5 0 - 48)) none)) (lt-leb 49 (get_or line 5 0) (omega arith)))
 
       pub digit-checked : 48 ≤ get_or line 5 0 → checked_size (get_or line 5 0 - 48) ≡ size_after (after_key (bytes "size=") line)
       digit-checked h = found (is_size (get_or line 5 0 - 48)) ∙ ap (λ (b : Bool). size_found (cond b (some (get_or line 5 0 - 48)) none)) (size-byte (get_or line 5 0) h) ∙ sym digit
         where
-          found : (b : Bool) → cond b (size.Is (record { 0 = get_or line 5 0 - 48 })) size.Refused ≡ size_found (cond b (some (get_or line 5 0 - 48)) none)
+          found : (b : Bool) → cond b (Some (record { 0 = get_or line 5 0 - 48 })) None ≡ size_found (cond b (some (get_or line 5 0 - 48)) none)
           found true = refl
           found false = refl
 
@@ -83,25 +83,25 @@ size_of-within (b ∷ []) s e = go (leb 49 b && ltb b 57) refl e
     go false h e = let z : ◌≡◌ {A = ℕ} 0 1 = cc in absurd (omega arith)
 size_of-within (b ∷ c ∷ v) s e = let z : ◌≡◌ {A = ℕ} 0 1 = cc in absurd (omega arith)
 
-found-is : (o : Option ℕ) (s : DomainSize) → size_found o ≡ size.Is s → o ≡ some s.0
+found-is : (o : Option ℕ) (s : DomainSize) → size_found o ≡ Some s → o ≡ some s.0
 found-is none s e = let z : ◌≡◌ {A = ℕ} 0 1 = cc in absurd (omega arith)
 found-is (some t) s e = cc
 
-found_none : (o : Option ℕ) → size_found o ≡ size.Refused → o ≡ none
+found_none : (o : Option ℕ) → size_found o ≡ None → o ≡ none
 found_none none e = refl
 found_none (some t) e = let z : ◌≡◌ {A = ℕ} 0 1 = cc in absurd (omega arith)
 
-pub size-within : (o : Option (List ℕ)) (s : DomainSize) → size_after o ≡ size.Is s → (1 ≤ s.0) × (s.0 ≤ 8)
+pub size-within : (o : Option (List ℕ)) (s : DomainSize) → size_after o ≡ Some s → (1 ≤ s.0) × (s.0 ≤ 8)
 size-within none s e = let z : ◌≡◌ {A = ℕ} 0 1 = cc in absurd (omega arith)
 size-within (some v) s e = size_of-within v s.0 (found-is (size_of v) s e)
 
 -- going on with the size that follows the key
 module _ (r : Refusal) (k : ℕ → Answer Case) where
-  unsized : (o : Option (List ℕ)) → size_after o ≡ size.Refused → (or_refuse o r >>= λ v. (or_refuse (size_of v) r >>= k)) ≡ refused r
+  unsized : (o : Option (List ℕ)) → size_after o ≡ None → (or_refuse o r >>= λ v. (or_refuse (size_of v) r >>= k)) ≡ refused r
   unsized none z = bind-refused _ _ r refl
   unsized (some v) z = bind-step _ _ v _ refl (bind-refused _ _ r (or_refuse-of-none (size_of v) r (found_none (size_of v) z)))
 
-  sized : (o : Option (List ℕ)) (s : DomainSize) → size_after o ≡ size.Is s → (or_refuse o r >>= λ v. (or_refuse (size_of v) r >>= k)) ≡ k s.0
+  sized : (o : Option (List ℕ)) (s : DomainSize) → size_after o ≡ Some s → (or_refuse o r >>= λ v. (or_refuse (size_of v) r >>= k)) ≡ k s.0
   sized none s z = let z : ◌≡◌ {A = ℕ} 0 1 = cc in absurd (omega arith)
   sized (some v) s z = bind-step _ _ v _ refl (bind-step _ _ s.0 _ (or_refuse-of-some (size_of v) r s.0 (found-is (size_of v) s z)) refl)
 
@@ -124,14 +124,14 @@ module _ (g : Signature) (text : List ℕ) where
           (bind-step _ _ tt _ (check-of-true _ (at_line 12 1) h) (bind-refused _ _ (at_line 12 2) (or_refuse-of-none _ (at_line 12 2) k)))
 
       module _ (b tables : List ℕ) (k : cut_line rest ≡ some (b, tables)) where
-        pub no_size : size_after (after_key (bytes "size=") b) ≡ size.Refused → read_case g text ≡ refused (at_line 12 2)
+        pub no_size : size_after (after_key (bytes "size=") b) ≡ None → read_case g text ≡ refused (at_line 12 2)
         unfolding read_case
         no_size z =
             bind-step _ _ (a, rest) _ (or_refuse-of-some _ (at_line 12 1) (a, rest) e)
             (bind-step _ _ tt _ (check-of-true _ (at_line 12 1) h)
             (bind-step _ _ (b, tables) _ (or_refuse-of-some _ (at_line 12 2) (b, tables) k) (unsized (at_line 12 2) _ (after_key (bytes "size=") b) z)))
 
-        pub tables-left : (s : DomainSize) → size_after (after_key (bytes "size=") b) ≡ size.Is s → read_case g text ≡ case_of_tables s.0 g tables
+        pub tables-left : (s : DomainSize) → size_after (after_key (bytes "size=") b) ≡ Some s → read_case g text ≡ case_of_tables s.0 g tables
         unfolding read_case case_of_tables
         tables-left s z =
             bind-step _ _ (a, rest) _ (or_refuse-of-some _ (at_line 12 1) (a, rest) e)

@@ -37,7 +37,7 @@ unfolding case_length
 none-measured s y = record { within = omega arith; measured = λ sheet h. refl }
 
 pub one-measured : (s : ℕ) (y : Signature) (i n : ℕ) → i < y.count → s ^ (get_or y.symbols i blank).arity ≤ 512 → (get_or y.symbols i blank).length ≤ 16384 → Measured s y i n
-    → Measured s y (i + 1) (n + (get_or y.symbols i blank).length + 1 + 2 * s ^ (get_or y.symbols i blank).arity)
+    → Measured s y (i + 1) (n + ((get_or y.symbols i blank).length + 1 + 2 * s ^ (get_or y.symbols i blank).arity))
 one-measured s y i n h few short m =
     record {
       within = omega (arith, m.within);

@@ -13,7 +13,7 @@ use Rattle.theory.specs.Refusals.{Refusal, Answer, answer, refused, at_line, ◌
 use Rattle.theory.specs.CaseText.{read_table, read_tables}
 use Rattle.theory.proofs.Answers.{bind-step, bind-refused, check-of-true, check-of-false}
 use Rattle.theory.proofs.Numbering.{cell_base-suc, cell_base-length}
-use Rattle.cases.specs.declared.reading.TableLine.TheVariants.{Next, Fault}
+use Rattle.std.specs.Prelude.{Some, None}
 use Rattle.cases.specs.Reading.{case_of_tables, TableRead}
 
 -- the values vs before those that were read
@@ -58,7 +58,7 @@ module _ {s : ℕ} {g : Signature} {case : List ℕ} {at next base : ℕ} {cells
     symbols : drop i g ≡ f ∷ drop (suc i) g
     symbols = drop-cons g i no_symbol h ∙ ap (λ (f : Symbol). f ∷ drop (suc i) g) e
 
-    pub table-fault : {cells' : List ℕ} → TableRead s f case next base cells cells' Fault → refused (at_line 12 (3 + i)) ≡ case_of_tables s g (drop at case)
+    pub table-fault : {cells' : List ℕ} → TableRead s f case next base cells cells' None → refused (at_line 12 (3 + i)) ≡ case_of_tables s g (drop at case)
     unfolding case_of_tables
     table-fault w =
         sym (bind-refused _ _ (at_line 12 (3 + i))
@@ -66,7 +66,7 @@ module _ {s : ℕ} {g : Signature} {case : List ℕ} {at next base : ℕ} {cells
         ∙ ap (λ (fs : Signature). after (take base cells) (read_tables s fs (3 + i) (drop next case))) symbols
         ∙ ap (after (take base cells)) (no_table s f (drop (suc i) g) (3 + i) (drop next case) (at_line 12 (3 + i)) (sym (w.read (3 + i))))))
 
-    pub table-read : {cells' : List ℕ} (to : ℕ) → TableRead s f case next base cells cells' (Next to) → TablesRead s g case at to (base + table_size s f) cells' (i + 1)
+    pub table-read : {cells' : List ℕ} (to : ℕ) → TableRead s f case next base cells cells' (Some to) → TablesRead s g case at to (base + table_size s f) cells' (i + 1)
     table-read {cells'} to w =
         let us : List ℕ = take (table_size s f) (drop base cells') in
         let z : i + 1 ≡ suc i = omega arith in

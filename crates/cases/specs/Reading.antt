@@ -7,27 +7,24 @@ use Rattle.theory.specs.Cells.{table_size, cell_count}
 use Rattle.theory.specs.Refusals.{Answer, answer, refused, at_line, ◌>>=◌, check}
 use Rattle.theory.specs.CaseText.{equals_sign, read_table, read_tables, Case, size_of}
 use Rattle.syntax.specs.declared.signature.Symbol as declared
-use Rattle.syntax.specs.declared.size.SizeCheck.{SizeCheck}
-use Rattle.syntax.specs.declared.size.SizeCheck.TheVariants as size
-use Rattle.cases.specs.declared.reading.CaseReading.{CaseReading}
-use Rattle.cases.specs.declared.reading.CaseReading.TheVariants.{Read, Refused}
-use Rattle.cases.specs.declared.reading.TableLine.{TableLine}
-use Rattle.cases.specs.declared.reading.TableLine.TheVariants.{Next, Fault}
+use Rattle.std.specs.Prelude as rust
+use Rattle.std.specs.Prelude.{Some, None, Ok, Err}
+use Rattle.syntax.specs.declared.size.DomainSize.{DomainSize}
 use Rattle.cases.specs.Values.{values_after}
 
 -- the case that was read into the cells, or the refusal
-abbrev pub case_in : Signature → CaseReading → List ℕ → Answer Case
-case_in g (Read s) cells = answer (record { size = s.0; values = take (cell_count s.0 g) cells })
-case_in g (Refused l) cells = refused (at_line 12 l)
+abbrev pub case_in : Signature → rust.Result DomainSize ℕ → List ℕ → Answer Case
+case_in g (Ok s) cells = answer (record { size = s.0; values = take (cell_count s.0 g) cells })
+case_in g (Err l) cells = refused (at_line 12 l)
 
 -- the size found, if there is one
-abbrev pub size_found : Option ℕ → SizeCheck
-size_found none = size.Refused
-size_found (some s) = size.Is (record { 0 = s })
+abbrev pub size_found : Option ℕ → rust.Option DomainSize
+size_found none = None
+size_found (some s) = Some (record { 0 = s })
 
 -- the size that follows the key
-abbrev pub size_after : Option (List ℕ) → SizeCheck
-size_after none = size.Refused
+abbrev pub size_after : Option (List ℕ) → rust.Option DomainSize
+size_after none = None
 size_after (some v) = size_found (size_of v)
 
 -- the case of size s whose symbols' lines are the text
@@ -43,14 +40,14 @@ pub record ValuesRead (s : ℕ) (k : Kind) (n : ℕ) (bytes : List ℕ) (base : 
   pub front : take base cells' ≡ take base cells
 
 -- what the line l, from which the values vs were read, is read to
-abbrev pub table_line_in : List ℕ → ℕ → List ℕ → TableLine → Answer ((List ℕ) × List ℕ)
-table_line_in case l vs (Next after) = answer (vs, drop after case)
-table_line_in case l vs Fault = refused (at_line 12 l)
+abbrev pub table_line_in : List ℕ → ℕ → List ℕ → rust.Option ℕ → Answer ((List ℕ) × List ℕ)
+table_line_in case l vs (Some after) = answer (vs, drop after case)
+table_line_in case l vs None = refused (at_line 12 l)
 
 -- the next line starts within n bytes
-abbrev pub NextTableWithin : ℕ → TableLine → Type 0
-NextTableWithin n (Next after) = after ≤ n
-NextTableWithin n Fault = Unit {0}
+abbrev pub NextTableWithin : ℕ → rust.Option ℕ → Type 0
+NextTableWithin n (Some after) = after ≤ n
+NextTableWithin n None = Unit {0}
 
 -- a symbol of the sheet, a line that starts within the case, and room for the symbol's table in the cells from `base` on
 pub record TableLineLent (s : ℕ) (sheet : List ℕ) (y : declared.Symbol) (case : List ℕ) (at base : ℕ) (cells : List ℕ) : Type 0 where
@@ -62,7 +59,7 @@ pub record TableLineLent (s : ℕ) (sheet : List ℕ) (y : declared.Symbol) (cas
   pub room : base + s ^ y.arity ≤ length cells
 
 -- r is what the symbol's line from `at` on is read to
-pub record TableRead (s : ℕ) (f : Symbol) (case : List ℕ) (at base : ℕ) (cells cells' : List ℕ) (r : TableLine) : Type 0 where
+pub record TableRead (s : ℕ) (f : Symbol) (case : List ℕ) (at base : ℕ) (cells cells' : List ℕ) (r : rust.Option ℕ) : Type 0 where
   pub read : (l : ℕ) → table_line_in case l (take (table_size s f) (drop base cells')) r ≡ read_table s f l (drop at case)
   pub front : take base cells' ≡ take base cells
   pub within : NextTableWithin (length case) r

@@ -11,22 +11,8 @@ use crate::values::{is_value, least_byte, separator, value_count};
 use indices::Cell;
 use interpretation::vector::power;
 use syntax::signature::{Signature, Symbol};
-use syntax::size::{DomainSize, SizeCheck};
-use text::lines::{line_end, same, starts_with};
-
-// The size of a case whose cells were read, or the first line that is not as laid out.
-#[derive(Drop)]
-pub enum CaseReading {
-    Read(DomainSize),
-    Refused(usize),
-}
-
-// The place of the next line, or a line not as laid out.
-#[derive(Drop)]
-pub enum TableLine {
-    Next(usize),
-    Fault,
-}
+use syntax::size::DomainSize;
+use text::lines::{line_end, starts_with};
 
 // `count` values, each after its separator, into the cells from `base` on.
 fn read_values(
@@ -43,8 +29,7 @@ fn read_values(
     let least = least_byte(function);
     let most = value_count(function, size);
     let from = base.0;
-    let mut i: usize = 0;
-    while i < count {
+    for i in 0..count {
         if bytes[2 * i] != separator(i) {
             return false;
         }
@@ -53,12 +38,12 @@ fn read_values(
             return false;
         }
         cells[from + i] = b - least;
-        i += 1;
     }
     true
 }
 
-// A symbol's line: its name, and its values into the cells from `base` on.
+// A symbol's line: its name, and its values into the cells from `base` on; the place of the next line, if this one is as
+// laid out.
 fn read_table(
     case: &[u8],
     at: usize,
@@ -67,31 +52,31 @@ fn read_table(
     size: DomainSize,
     cells: &mut [u8],
     base: Cell,
-) -> TableLine
+) -> Option<usize>
     requires { TableLineLent size.0 sheet.now symbol case.now at base.0 cells.old }
     ensures { TableRead size.0 (symbol_in sheet.now symbol) case.now at base.0 cells.old cells.new result }
 {
     let end = line_end(case, at);
     if end == case.len() {
-        return TableLine::Fault;
+        return None;
     }
     let name = symbol.name;
     let name_end = name + symbol.length;
     if !starts_with(&case[at..end], &sheet[name..name_end]) {
-        return TableLine::Fault;
+        return None;
     }
     let from = at + symbol.length;
     let count = power(size.0, symbol.arity as usize);
     if end - from != 2 * count {
-        return TableLine::Fault;
+        return None;
     }
     if !read_values(&case[from..end], symbol.function, size, count, cells, base) {
-        return TableLine::Fault;
+        return None;
     }
-    TableLine::Next(end + 1)
+    Some(end + 1)
 }
 
-// The symbols' lines from `at` on, and nothing after them.
+// The symbols' lines from `at` on, and nothing after them; or the first line that is not as laid out.
 fn read_tables(
     case: &[u8],
     at: usize,
@@ -99,66 +84,62 @@ fn read_tables(
     signature: Signature,
     size: DomainSize,
     cells: &mut [u8],
-) -> CaseReading
+) -> Result<DomainSize, usize>
     requires { (at ≤ length case.now) × (Readable sheet.now signature × ((1 ≤ size.0) × ((size.0 ≤ 8) × (max_cells ≤ length cells.old)))) }
     ensures { case_in (signature_in sheet.now signature) result cells.new
         ≡ case_of_tables size.0 (signature_in sheet.now signature) (drop at case.now) }
 {
     let mut next = at;
     let mut base: usize = 0;
-    let mut i: usize = 0;
-    while i < signature.count {
+    for i in 0..signature.count {
         let symbol = signature.symbols[i];
-        let TableLine::Next(after) = read_table(case, next, sheet, symbol, size, cells, Cell(base))
-        else {
-            return CaseReading::Refused(3 + i);
-        };
-        next = after;
-        base = base + power(size.0, symbol.arity as usize);
-        i += 1;
+        next = read_table(case, next, sheet, symbol, size, cells, Cell(base)).ok_or(3 + i)?;
+        base += power(size.0, symbol.arity as usize);
     }
     if next != case.len() {
-        return CaseReading::Refused(3 + i);
+        return Err(3 + signature.count);
     }
-    CaseReading::Read(size)
+    Ok(size)
 }
 
 // The size of a line `size=d`.
-fn size_of(line: &[u8]) -> SizeCheck
+fn size_of(line: &[u8]) -> Option<DomainSize>
     ensures { result ≡ size_after (after_key (bytes "size=") line.now) }
 {
     if !starts_with(line, b"size=") {
-        return SizeCheck::Refused;
+        return None;
     }
     if line.len() != 6 {
-        return SizeCheck::Refused;
+        return None;
     }
-    let b = line[5];
-    if b < DomainSize::ZERO_DIGIT {
-        return SizeCheck::Refused;
-    }
-    DomainSize::checked((b - DomainSize::ZERO_DIGIT) as usize)
+    let digit = line[5].checked_sub(DomainSize::ZERO_DIGIT)?;
+    DomainSize::checked(digit as usize)
 }
 
-// The cells of a case text of a signature whose names stand in the sheet.
-pub fn read_case(case: &[u8], sheet: &[u8], signature: Signature, cells: &mut [u8]) -> CaseReading
+// The size of a case text of a signature whose names stand in the sheet, its cells read; or the first line that is not as
+// laid out.
+pub fn read_case(
+    case: &[u8],
+    sheet: &[u8],
+    signature: Signature,
+    cells: &mut [u8],
+) -> Result<DomainSize, usize>
     requires { Readable sheet.now signature × (max_cells ≤ length cells.old) }
     ensures { case_in (signature_in sheet.now signature) result cells.new ≡ read_case (signature_in sheet.now signature) case.now }
 {
     let first = line_end(case, 0);
     if first == case.len() {
-        return CaseReading::Refused(1);
+        return Err(1);
     }
-    if !same(&case[0..first], b"case=1") {
-        return CaseReading::Refused(1);
+    let heading: &[u8] = b"case=1";
+    if &case[0..first] != heading {
+        return Err(1);
     }
     let from = first + 1;
     let second = line_end(case, from);
     if second == case.len() {
-        return CaseReading::Refused(2);
+        return Err(2);
     }
-    let SizeCheck::Is(size) = size_of(&case[from..second]) else {
-        return CaseReading::Refused(2);
-    };
+    let size = size_of(&case[from..second]).ok_or(2_usize)?;
     read_tables(case, second + 1, sheet, signature, size, cells)
 }

@@ -11,20 +11,14 @@ use syntax::size::DomainSize;
 pub fn separator(i: usize) -> u8
     ensures { result ≡ separator_at i }
 {
-    if i == 0 {
-        return 61;
-    }
-    32
+    if i == 0 { b'=' } else { b' ' }
 }
 
 // The byte of a cell's least value.
 pub fn least_byte(function: bool) -> u8
     ensures { result ≡ least_byte (kind_of function) }
 {
-    if function {
-        return 49;
-    }
-    48
+    if function { b'1' } else { b'0' }
 }
 
 // How many values a cell may have.
@@ -32,18 +26,12 @@ pub fn value_count(function: bool, size: DomainSize) -> u8
     requires { size.0 ≤ 8 }
     ensures { result ≡ value_count size.0 (kind_of function) }
 {
-    if function {
-        return size.0 as u8;
-    }
-    2
+    if function { size.0 as u8 } else { 2 }
 }
 
 // Whether the byte is one of `count` from `least` on.
 pub fn is_value(b: u8, least: u8, count: u8) -> bool
     ensures { result ≡ (leb least b && ltb (b - least) count) }
 {
-    if b < least {
-        return false;
-    }
-    b - least < count
+    least <= b && b - least < count
 }

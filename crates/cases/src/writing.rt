@@ -19,11 +19,9 @@ pub fn case_length(signature: Signature, size: DomainSize) -> usize
     ensures { (sheet : List ℕ) → Readable sheet signature → result ≡ case_length size.0 (signature_in sheet signature) }
 {
     let mut n: usize = 14;
-    let mut i: usize = 0;
-    while i < signature.count {
+    for i in 0..signature.count {
         let symbol = signature.symbols[i];
-        n = n + symbol.length + 1 + 2 * power(size.0, symbol.arity as usize);
-        i += 1;
+        n += symbol.length + 1 + 2 * power(size.0, symbol.arity as usize);
     }
     n
 }
@@ -36,7 +34,7 @@ pub fn put_heading(out: &mut [u8], size: DomainSize) -> usize
 {
     let at = put_bytes(out, 0, b"case=1\nsize=");
     out[at] = DomainSize::ZERO_DIGIT + size.0 as u8;
-    out[at + 1] = 10;
+    out[at + 1] = b'\n';
     at + 2
 }
 
@@ -59,13 +57,11 @@ fn put_values(out: &mut [u8], at: usize, least: u8, table: &[u8]) -> usize
     ensures place { result ≡ at + (2 * length table.now + 1) }
 {
     let mut e = at;
-    let mut i: usize = 0;
-    while i < table.len() {
+    for (i, value) in table.iter().enumerate() {
         out[e] = separator(i);
-        out[e + 1] = least + table[i];
+        out[e + 1] = least + *value;
         e += 2;
-        i += 1;
     }
-    out[e] = 10;
+    out[e] = b'\n';
     e + 1
 }

@@ -2,16 +2,16 @@
 use Prim.Native.Nat.{ℕ, suc, ◌+◌, ◌-◌, ◌≤◌, ◌<◌}
 use mathlib.Core.Path.{◌≡◌, refl, sym, ap, ◌∙◌}
 use mathlib.Core.Logic.{◌⊎◌, inl, inr}
-use mathlib.Core.Bool.{Bool, true, false, cond, ◌&&◌, ◌||◌}
+use mathlib.Core.Bool.{Bool, true, false, ◌&&◌, ◌||◌}
 use mathlib.Core.Option.{Option, none, some}
 use mathlib.Core.List.{List}
 use native.Mathlib.Omega.{arith}
 use lib.Dec.{eqb, ltb, leb}
 use lib.ListN.{get_or}
-use borrow.Author.Tests.{eqb-true, ltb-true, leb-true, ne_eqb}
+use borrow.Author.Tests.{eqb-true, ltb-true, leb-true}
 use Rattle.theory.specs.Syntax.{Kind, symbol_at}
 use Rattle.theory.specs.Syntax as theory
-use Rattle.theory.specs.Grammar.{Word, equals, symbol, letter, terms, atom, Due, due_after_function, due_after_predicate, due_after}
+use Rattle.theory.specs.Grammar.{Word, symbol, terms, atom, Due, due_after_function, due_after_predicate, due_after}
 use Rattle.theory.proofs.Tests.{or_cases, and_left}
 use Rattle.syntax.specs.declared.signature.Signature.{Signature}
 use Rattle.syntax.specs.Signatures.{max_in_all, kind_of, signature_in}
@@ -20,21 +20,6 @@ use Rattle.syntax.proofs.Codes.{word_of-symbol, word_of-letter}
 use Rattle.clauses.specs.Names.{Limited}
 use Rattle.clauses.specs.Words.{is_fixed_code, is_code}
 use Rattle.clauses.proofs.Held.{blank, symbol_at-signature_in}
-
--- where nothing is due, no word but a sign can stand
-pub no_sign : (g : theory.Signature) (c : ℕ) → (c ≡ plus_code → ⊥) → (c ≡ minus_code → ⊥) → none ≡ due_after g (terms 0) (code_word c)
-no_sign g c h k = rw (ne_eqb c plus_code h, ne_eqb c minus_code k) (go (eqb c equals_code) (ltb c letter_code))
-  where
-    go : (e s : Bool) → none ≡ due_after g (terms 0) (cond e equals (cond s (symbol c) (letter (c - letter_code))))
-    go true s = refl
-    go false true = refl
-    go false false = refl
-
-pub plus-sign : (g : theory.Signature) (c : ℕ) → c ≡ plus_code → some atom ≡ due_after g (terms 0) (code_word c)
-plus-sign g c e = ap (λ (n : ℕ). due_after g (terms 0) (code_word n)) (sym e)
-
-pub minus-sign : (g : theory.Signature) (c : ℕ) → c ≡ minus_code → some atom ≡ due_after g (terms 0) (code_word c)
-minus-sign g c e = ap (λ (n : ℕ). due_after g (terms 0) (code_word n)) (sym e)
 
 -- the codes of words
 pub code-cases : {P : Type 0} (n c : ℕ) → (c < n → P) → (c ≡ plus_code → P) → (c ≡ minus_code → P) → (c ≡ equals_code → P) → (letter_code ≤ c → P) → is_code n c ≡ true → P

@@ -5,7 +5,7 @@ use mathlib.Core.Bool.{Bool, true, false, cond, ◌&&◌}
 use mathlib.Core.Option.{Option, none, some, some-injective}
 use mathlib.Core.List.{List, [], ◌∷◌, map}
 use native.Mathlib.Omega.{arith}
-use lib.Dec.{eqb, leb, eqb-suc-zero}
+use lib.Dec.{leb}
 use lib.ListN.{length}
 use lib.Seq.{take_all}
 use borrow.Author.Tests.{le-leb, lt-leb}
@@ -14,7 +14,7 @@ use Rattle.theory.specs.Syntax.{Kind, function, predicate, Signature, symbol_at,
 use Rattle.theory.specs.Grammar.{Word, sign, equals, symbol, letter, Due, terms, atom, due_after, Grammar, clause, misplaced, unfinished, grammar_from, grammar, read_symbol, read_words, clause_if, read_clause}
 use Rattle.theory.specs.Lines.{words_of}
 use Rattle.theory.specs.Flattening.{flatten, variable_count}
-use Rattle.theory.specs.Refusals.{Answer, answer, refused, at_line, ◌>>=◌, check, or_refuse}
+use Rattle.theory.specs.Refusals.{Answer, answer, at_line, ◌>>=◌, check, or_refuse}
 use Rattle.theory.specs.Problem.{max_words, max_literals, max_variables, read_all, within_limits, clause_of}
 use Rattle.theory.specs.Claims.Grammar.{is_declared}
 use Rattle.theory.specs.WellFormed.{is_known_letter}
@@ -24,11 +24,12 @@ use Rattle.theory.proofs.Answers.{bind-step, bind-refused, or_refuse-of-some, or
 use Rattle.theory.proofs.Parsing.{read_all-known}
 use Rattle.syntax.specs.declared.words.ClauseWords.{ClauseWords}
 use Rattle.syntax.specs.declared.signature.Signature as declared
+use Rattle.std.specs.Prelude.{Ok, Err}
+use Rattle.syntax.specs.declared.faults.Fault.TheVariants as fault
 use Rattle.syntax.specs.Signatures.{signature_in, Arities, Small}
 use Rattle.syntax.specs.Codes.{words_in, clause_in, is_known, IsClause}
 use Rattle.shallow.specs.Flattenable.{Flattenable}
 use Rattle.clauses.specs.declared.clause.Words.{Words}
-use Rattle.clauses.specs.declared.clause.ClauseLine.{ClauseLine}
 use Rattle.clauses.specs.Grammar.{due_in, due_after_all, is_finished}
 use Rattle.clauses.specs.Names.{Limited}
 use Rattle.clauses.specs.Clauses.{sign_count, Passed, codes_of, WholeClause, AcceptedWords, ClauseRead}
@@ -147,13 +148,12 @@ module _ (g : Signature) (ws : List Word) (w : Words) (p : Passed g ws w) (c : C
 
 module _ (g : Signature) (value : List ℕ) where
   -- a word is unknown
-  pub unknown-word : (r : ClauseLine) → read_all g (words_of value) ≡ none → r.fault ≡ 5 → ClauseRead g value r
+  pub unknown-word : read_all g (words_of value) ≡ none → ClauseRead g value (Err fault.Word)
   unfolding clause_of
-  unknown-word r e h =
+  unknown-word e =
       record {
-        read = λ l. ap (λ (f : ℕ). cond (eqb f 0) (answer (clause_in g r.words)) (refused (at_line f l))) h
-            ∙ sym (bind-refused (or_refuse (read_all g (words_of value)) (at_line 5 l)) _ (at_line 5 l) (or_refuse-of-none (read_all g (words_of value)) (at_line 5 l) e));
-        accepted = λ z. absurd (omega arith);
+        read = λ l. sym (bind-refused (or_refuse (read_all g (words_of value)) (at_line 5 l)) _ (at_line 5 l) (or_refuse-of-none (read_all g (words_of value)) (at_line 5 l) e));
+        accepted = tt;
       }
 
   -- all words are known
@@ -171,12 +171,11 @@ module _ (g : Signature) (value : List ℕ) where
       clause-read b h = finished-clause g ws 0 (terms 0) (read_words g ws).clause ∙ ap (λ (b : Bool). cond b (some (read_words g ws).clause) none) (ap is_finished (sym p.due) ∙ h)
 
       -- they are no clause
-      pub no-clause : (r : ClauseLine) → is_finished (due_in w.due) ≡ false → r.fault ≡ 6 → ClauseRead g value r
-      no-clause r h k =
+      pub no-clause : is_finished (due_in w.due) ≡ false → ClauseRead g value (Err fault.Clause)
+      no-clause h =
           record {
-            read = λ l. ap (λ (f : ℕ). cond (eqb f 0) (answer (clause_in g r.words)) (refused (at_line f l))) k
-                ∙ sym (words-read l _ (bind-refused (or_refuse (read_clause g ws) (at_line 6 l)) _ (at_line 6 l) (or_refuse-of-none (read_clause g ws) (at_line 6 l) (clause-read false h))));
-            accepted = λ z. absurd (omega arith);
+            read = λ l. sym (words-read l _ (bind-refused (or_refuse (read_clause g ws) (at_line 6 l)) _ (at_line 6 l) (or_refuse-of-none (read_clause g ws) (at_line 6 l) (clause-read false h))));
+            accepted = tt;
           }
 
       -- they are the clause c
@@ -184,19 +183,18 @@ module _ (g : Signature) (value : List ℕ) where
         held_to : (l : ℕ) (a : Answer Clause) → (check (within_limits ws c) (at_line 7 l) >>= λ _. answer c) ≡ a → clause_of g l value ≡ a
         held_to l a k = words-read l a (bind-step (or_refuse (read_clause g ws) (at_line 6 l)) _ c a (or_refuse-of-some (read_clause g ws) (at_line 6 l) c read) k)
 
-        pub over : (r : ClauseLine) → within_limits ws c ≡ false → r.fault ≡ 7 → ClauseRead g value r
-        over r h k =
+        pub over : within_limits ws c ≡ false → ClauseRead g value (Err fault.ClauseLimits)
+        over h =
             record {
-              read = λ l. ap (λ (f : ℕ). cond (eqb f 0) (answer (clause_in g r.words)) (refused (at_line f l))) k
-                  ∙ sym (held_to l _ (bind-refused (check (within_limits ws c) (at_line 7 l)) _ (at_line 7 l) (check-of-false (within_limits ws c) (at_line 7 l) h)));
-              accepted = λ z. absurd (omega arith);
+              read = λ l. sym (held_to l _ (bind-refused (check (within_limits ws c) (at_line 7 l)) _ (at_line 7 l) (check-of-false (within_limits ws c) (at_line 7 l) h)));
+              accepted = tt;
             }
 
-        pub within : within_limits ws c ≡ true → ClauseRead g value (record { words = codes_of w; fault = 0 })
+        pub within : within_limits ws c ≡ true → ClauseRead g value (Ok (codes_of w))
         within h =
             record {
               read = λ l. ap answer (accepted-clause g ws w p c read known-words h) ∙ sym (held_to l _ (bind-step (check (within_limits ws c) (at_line 7 l)) _ tt _ (check-of-true (within_limits ws c) (at_line 7 l) h) refl));
-              accepted = λ _. accepted g ws w p c read known-words h;
+              accepted = accepted g ws w p c read known-words h;
             }
 
 -- the words of a line that are a clause
@@ -205,8 +203,3 @@ abbrev pub whole-clause : (sheet : List ℕ) (signature : declared.Signature) �
 whole-clause sheet signature limited value ws e w p h =
     let g : Signature = signature_in sheet signature in
     record { sheet = sheet; limited = limited; words = ws; passed = p; known = known-words g value ws e; clause = (read_words g ws).clause; read = clause-read g value ws e w p true h }
-
--- n terms due are none
-pub finished-terms : (n : ℕ) → eqb n 0 ≡ is_finished (some (terms n))
-finished-terms zero = refl
-finished-terms (suc n) = eqb-suc-zero n

@@ -21,12 +21,6 @@ fixed-length [] e = absurd (false≢true e)
 fixed-length (b ∷ []) e = refl
 fixed-length (b ∷ c ∷ w) e = absurd (false≢true e)
 
--- a word of another length is none of them
-pub fixed-other : (w : List ℕ) → (length w ≡ 1 → ⊥) → false ≡ is_fixed_word w
-fixed-other [] h = refl
-fixed-other (b ∷ []) h = absurd (h refl)
-fixed-other (b ∷ c ∷ w) h = refl
-
 pub fixed-one : (w : List ℕ) → length w ≡ 1 → is_fixed (get_or w 0 0) ≡ is_fixed_word w
 fixed-one [] e = absurd (omega arith)
 fixed-one (b ∷ []) e = refl

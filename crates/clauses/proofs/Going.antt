@@ -1,7 +1,8 @@
 -- A clause line's words, read one after the other from a place in the line.
 use Prim.Native.Nat.{ℕ, ◌+◌, ◌*◌, ◌≤◌, ◌<◌}
 use mathlib.Core.Path.{◌≡◌, refl, sym, ap, ◌∙◌}
-use mathlib.Core.Bool.{Bool, true, false, cond, true≢false, false≢true}
+use mathlib.Core.Bool.{Bool, cond}
+use Rattle.std.specs.Prelude.{Some, None}
 use mathlib.Core.Option.{Option, none, some}
 use mathlib.Core.List.{List, [], ◌∷◌, ◌++◌, append_assoc, append-nil}
 use native.Mathlib.Omega.{arith}
@@ -26,7 +27,6 @@ joined ws (some xs) = some (ws ++ xs)
 pub record Going (g : Signature) (value : List ℕ) (w : Words) (at : ℕ) : Type 0 where
   pub words : List Word
   pub passed : Passed g words w
-  pub known : w.unknown ≡ false
   pub room : 2 * w.count ≤ at
   pub within : at ≤ length value + 1
   pub rest : read_all g (cut_words value) ≡ joined words (read_all g (words_left value at))
@@ -47,7 +47,6 @@ module _ (g : Signature) (value : List ℕ) where
       record {
         words = [];
         passed = passed_none g;
-        known = refl;
         room = omega arith;
         within = omega arith;
         rest = alone (read_all g (cut_words value)) ∙ ap (λ (b : Bool). joined [] (read_all g (cond b (cut_words value) []))) (sym (le-leb 0 (length value) (omega arith)));
@@ -57,7 +56,7 @@ module _ (g : Signature) (value : List ℕ) where
       alone none = refl
       alone (some xs) = refl
 
-  module _ (w r : Words) (at : ℕ) (word : List ℕ) (z : Going g value w at) (f : FirstWord value at word) (t : WordAdded g word w r) where
+  module _ (w : Words) (at : ℕ) (word : List ℕ) (z : Going g value w at) (f : FirstWord value at word) where
     -- the words behind the one taken
     abbrev after : List (List ℕ)
     after = words_left value (at + length word + 1)
@@ -66,51 +65,39 @@ module _ (g : Signature) (value : List ℕ) where
     first o h = ap (λ (o : Option Word). elim o as (λ _. Option (List Word)) [ some x ↦ prefix x (read_all g after) | none ↦ none ]) h
 
     -- an unknown word ends the reading
-    pub stops : r.unknown ≡ true → WordsRead g (cut_words value) r
-    stops k =
-        record {
-          unknown = λ _. z.rest ∙ ap (λ (vs : List (List ℕ)). joined z.words (read_all g vs)) f.first ∙ ap (joined z.words) (first none (t.unknown k));
-          known = λ h. absurd (true≢false (sym k ∙ h));
-        }
+    pub stops : WordAdded g word w None → WordsRead g (cut_words value) None
+    stops k = z.rest ∙ ap (λ (vs : List (List ℕ)). joined z.words (read_all g vs)) f.first ∙ ap (joined z.words) (first none k)
 
     -- a known word goes on
-    pub goes_on : r.unknown ≡ false → Going g value r (at + length word + 1)
-    goes_on k = go (t.known k)
+    pub goes_on : (r : Words) → WordAdded g word w (Some r) → Going g value r (at + length word + 1)
+    goes_on r y =
+        let x = y.0 in
+        let p : Passed g (z.words ++ (x ∷ [])) r = y.2 z.words z.passed in
+        record {
+          words = z.words ++ (x ∷ []);
+          passed = p;
+          room = omega (arith, p.count, z.passed.count, length-append z.words (x ∷ []), z.room, known-filled g word x y.1);
+          within = omega (arith, f.within);
+          rest = z.rest ∙ ap (λ (vs : List (List ℕ)). joined z.words (read_all g vs)) f.first ∙ ap (joined z.words) (first (some x) y.1) ∙ more x (read_all g after);
+        }
       where
         more : (x : Word) (o : Option (List Word)) → joined z.words (prefix x o) ≡ joined (z.words ++ (x ∷ [])) o
         more x none = refl
         more x (some xs) = ap some (sym (append_assoc z.words (x ∷ []) xs))
 
-        go : (x : Word) × (word_of g word ≡ some x) × ((ws : List Word) → Passed g ws w → Passed g (ws ++ (x ∷ [])) r) → Going g value r (at + length word + 1)
-        go y =
-            let x = y.0 in
-            let p : Passed g (z.words ++ (x ∷ [])) r = y.2 z.words z.passed in
-            record {
-              words = z.words ++ (x ∷ []);
-              passed = p;
-              known = k;
-              room = omega (arith, p.count, z.passed.count, length-append z.words (x ∷ []), z.room, known-filled g word x y.1);
-              within = omega (arith, f.within);
-              rest = z.rest ∙ ap (λ (vs : List (List ℕ)). joined z.words (read_all g vs)) f.first ∙ ap (joined z.words) (first (some x) y.1) ∙ more x (read_all g after);
-            }
-
   -- the line's end
-  pub ends : (w : Words) (at : ℕ) → Going g value w at → length value < at → WordsRead g (cut_words value) w
-  ends w at z l =
-      record {
-        unknown = λ k. absurd (true≢false (sym k ∙ z.known));
-        known = λ _. (
-          z.words,
-          z.rest
-              ∙ ap (λ (b : Bool). joined z.words (read_all g (cond b (cut_words (drop at value)) []))) (lt-leb at (length value) l)
-              ∙ ap some (append-nil z.words),
-          z.passed,
-        );
-      }
+  pub ends : (w : Words) (at : ℕ) → Going g value w at → length value < at → WordsRead g (cut_words value) (Some w)
+  ends w at z l = (
+    z.words,
+    z.rest
+        ∙ ap (λ (b : Bool). joined z.words (read_all g (cond b (cut_words (drop at value)) []))) (lt-leb at (length value) l)
+        ∙ ap some (append-nil z.words),
+    z.passed,
+  )
 
 -- an empty line has no words
-pub nothing : (g : Signature) (value : List ℕ) → length value ≡ 0 → WordsRead g (words_of value) no_words
-nothing g [] e = record { unknown = λ k. absurd (false≢true k); known = λ _. ([], refl, passed_none g) }
+pub nothing : (g : Signature) (value : List ℕ) → length value ≡ 0 → WordsRead g (words_of value) (Some no_words)
+nothing g [] e = ([], refl, passed_none g)
 nothing g (b ∷ v) e = absurd (omega arith)
 
 -- any other has those between its spaces

@@ -6,3 +6,4 @@ pub mod Automaton
 pub mod Passing
 pub mod Going
 pub mod Finished
+pub mod Refused

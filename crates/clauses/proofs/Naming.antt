@@ -58,7 +58,15 @@ module _ (name sheet : List ℕ) (s : declared.Signature) (h : Limited s) (i : �
   same_at b l e = ap (λ (f : Symbol). same name f.name) (symbol_at-signature_in s h sheet i l) ∙ e
 
   -- the answer for all symbols
-  pub found : NameFrom name (signature_in sheet s) 0 i → place_of_name name (signature_in sheet s) ≡ cond (ltb i s.count) (some i) none
+  found : NameFrom name (signature_in sheet s) 0 i → place_of_name name (signature_in sheet s) ≡ cond (ltb i s.count) (some i) none
   found z =
       let e : i - 0 ≡ i = omega arith in
       z.place ∙ ap (λ (n : ℕ). cond (ltb i (length (signature_in sheet s))) (some n) none) e ∙ ap (λ (n : ℕ). cond (ltb i n) (some i) none) (count-signature_in s h sheet)
+
+  -- the first symbol that has the name
+  pub found-here : i < s.count → NameFrom name (signature_in sheet s) 0 i → some i ≡ place_of_name name (signature_in sheet s)
+  found-here l z = sym (found z ∙ ap (λ (b : Bool). cond b (some i) none) (lt-ltb i s.count l))
+
+  -- no symbol has it
+  pub found-none : s.count ≤ i → NameFrom name (signature_in sheet s) 0 i → none ≡ place_of_name name (signature_in sheet s)
+  found-none l z = sym (found z ∙ ap (λ (b : Bool). cond b (some i) none) (le-ltb i s.count l))

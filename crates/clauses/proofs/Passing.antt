@@ -1,27 +1,25 @@
 -- What was read of the words of a clause line, one word after the other.
-use Prim.Native.Nat.{ℕ, ◌+◌, ◌*◌, ◌-◌, ◌≤◌, ◌<◌}
+use Prim.Native.Nat.{ℕ, ◌+◌, ◌*◌, ◌≤◌, ◌<◌}
 use mathlib.Core.Path.{◌≡◌, refl, sym, ap, ◌∙◌}
-use mathlib.Core.Bool.{Bool, true, false, cond, true≢false}
+use mathlib.Core.Bool.{Bool, true, false}
 use mathlib.Core.Option.{Option, some}
 use mathlib.Core.List.{List, [], ◌∷◌, ◌++◌, map, map-append}
 use native.Mathlib.Nat.{add-zero}
 use native.Mathlib.Numerals.{add-one}
 use native.Mathlib.Omega.{arith}
-use lib.Dec.{eqb, ltb}
+use lib.Dec.{ltb}
 use lib.ListN.{length, take, set, length-append, length-set}
 use lib.Seq.{take-suc-set, take_all, set_out, take-append-le}
-use borrow.Author.Tests.{ltb-true, ltb-false, ne_eqb}
+use borrow.Author.Tests.{ltb-true, ltb-false}
 use Rattle.theory.specs.Lists.{sum}
 use Rattle.theory.specs.Syntax.{Signature}
 use Rattle.theory.specs.Grammar.{Word, sign, equals, symbol, letter, terms, Due}
 use Rattle.theory.specs.Problem.{max_words}
 use Rattle.theory.proofs.Lists.{sum-map-append}
-use Rattle.syntax.specs.Codes.{plus_code, minus_code, equals_code, letter_code, code_word}
+use Rattle.syntax.specs.Codes.{code_word}
 use Rattle.clauses.specs.declared.clause.Words.{Words}
-use Rattle.clauses.specs.declared.words.Word.TheVariants.{Code, Unknown}
-use Rattle.clauses.specs.Words.{WordRead}
 use Rattle.clauses.specs.Grammar.{due_in, pending, due_next, due_after_all}
-use Rattle.clauses.specs.Clauses.{sign_count, WordsBounded, Passed, WordAdded}
+use Rattle.clauses.specs.Clauses.{sign_count, WordsBounded, Passed}
 
 due_after_all-more : (g : Signature) (d : Option Due) (ws : List Word) (x : Word) → due_after_all g d (ws ++ (x ∷ [])) ≡ due_next g (due_after_all g d ws) x
 unfolding due_after_all
@@ -30,18 +28,6 @@ due_after_all-more g d (w ∷ ws) x = due_after_all-more g (due_next g d w) ws x
 
 signs-more : (ws : List Word) (x : Word) → sum (map sign_count (ws ++ (x ∷ []))) ≡ sum (map sign_count ws) + sign_count x
 signs-more ws x = sum-map-append sign_count ws (x ∷ []) ∙ ap (λ (n : ℕ). sum (map sign_count ws) + n) (add-zero (sign_count x))
-
--- the signs have two codes
-pub sign-code : (c k : ℕ) → 1 ≡ sign_count (code_word k) → c ≡ k → 1 ≡ sign_count (code_word c)
-sign-code c k h e = h ∙ ap (λ (n : ℕ). sign_count (code_word n)) (sym e)
-
-pub no-sign-code : (c : ℕ) → (c ≡ plus_code → ⊥) → (c ≡ minus_code → ⊥) → 0 ≡ sign_count (code_word c)
-no-sign-code c h k = rw (ne_eqb c plus_code h, ne_eqb c minus_code k) (go (eqb c equals_code) (ltb c letter_code))
-  where
-    go : (e s : Bool) → 0 ≡ sign_count (cond e equals (cond s (symbol c) (letter (c - letter_code))))
-    go true s = refl
-    go false true = refl
-    go false false = refl
 
 -- the codes with one more, of which 64 are held
 codes-more : (ws : List Word) (cs : List ℕ) (n c : ℕ) → n ≡ length ws → length cs ≡ max_words → map code_word (take n cs) ≡ take max_words ws
@@ -95,11 +81,3 @@ signs-bounded (w ∷ ws) = omega (arith, sign_small w, signs-bounded ws)
 
 pub passed-bounded : (g : Signature) (ws : List Word) (w : Words) → Passed g ws w → 2 * w.count < 9223372036854775808 → WordsBounded w
 passed-bounded g ws w p h = record { count = h; literals = omega (arith, p.literals, p.count, signs-bounded ws); pending = p.pending }
-
--- a word that was read to its code, and one that was not
-module _ (g : Signature) (word : List ℕ) (w r : Words) where
-  pub taken-code : (c : ℕ) → WordRead g word (Code c) → r.unknown ≡ false → ((ws : List Word) → Passed g ws w → Passed g (ws ++ (code_word c ∷ [])) r) → WordAdded g word w r
-  taken-code c h e p = record { unknown = λ k. absurd (true≢false (sym k ∙ e)); known = λ _. (code_word c, sym h.read, p) }
-
-  pub taken-unknown : WordRead g word Unknown → r.unknown ≡ true → WordAdded g word w r
-  taken-unknown h e = record { unknown = λ _. sym h.read; known = λ k. absurd (true≢false (sym e ∙ k)) }

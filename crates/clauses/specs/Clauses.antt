@@ -1,5 +1,7 @@
 -- What was read of a clause line's words.
 use Rattle.std.specs.Prelude.{ℕ, ◌*◌, ◌≤◌, ◌<◌, ◌≡◌, true, false, cond, List, [], ◌∷◌, ◌++◌, map, eqb, length, take, replicate}
+use Rattle.std.specs.Prelude.{Ok, Err, IfOk, Some, None}
+use Rattle.std.specs.Prelude as rust
 use Rattle.std.proofs.Math.Option.{none, some}
 use Rattle.theory.specs.Lists.{all, sum}
 use Rattle.theory.specs.Syntax.{Signature, Clause}
@@ -14,7 +16,8 @@ use Rattle.syntax.specs.Signatures.{signature_in}
 use Rattle.syntax.specs.Codes.{code_word, is_known, clause_in, IsClause}
 use Rattle.clauses.specs.declared.grammar.Due.TheVariants.{Terms}
 use Rattle.clauses.specs.declared.clause.Words.{Words}
-use Rattle.clauses.specs.declared.clause.ClauseLine.{ClauseLine}
+use Rattle.syntax.specs.declared.faults.Fault.{Fault}
+use Rattle.syntax.specs.Faults.{number_of}
 use Rattle.clauses.specs.Names.{Limited}
 use Rattle.clauses.specs.Grammar.{due_in, pending, due_after_all}
 
@@ -44,19 +47,19 @@ pub record Passed (g : Signature) (ws : List Word) (w : Words) : Type 0 where
 abbrev pub Extends : Signature → Words → Word → Words → Type 0
 Extends g w x r = (ws : List Word) → Passed g ws w → Passed g (ws ++ (x ∷ [])) r
 
--- r is what was read after one word more than w
-pub record WordAdded (g : Signature) (word : List ℕ) (w r : Words) : Type 0 where
-  pub unknown : r.unknown ≡ true → theory.word_of g word ≡ none
-  pub known : r.unknown ≡ false → (x : Word) × (theory.word_of g word ≡ some x) × Extends g w x r
+-- r is what was read after one word more than w, if the word is known
+abbrev pub WordAdded : Signature → List ℕ → Words → rust.Option Words → Type 0
+WordAdded g word w (Some r) = (x : Word) × (theory.word_of g word ≡ some x) × Extends g w x r
+WordAdded g word w None = theory.word_of g word ≡ none
 
 -- what was read of no words
 abbrev pub no_words : Words
-no_words = record { words = replicate max_words 0; count = 0; literals = 0; due = Terms 0; unknown = false }
+no_words = record { words = replicate max_words 0; count = 0; literals = 0; due = Some (Terms 0) }
 
--- r is what was read of a line's words
-pub record WordsRead (g : Signature) (line : List (List ℕ)) (r : Words) : Type 0 where
-  pub unknown : r.unknown ≡ true → read_all g line ≡ none
-  pub known : r.unknown ≡ false → (ws : List Word) × (read_all g line ≡ some ws) × Passed g ws r
+-- r is what was read of a line's words, if all are known
+abbrev pub WordsRead : Signature → List (List ℕ) → rust.Option Words → Type 0
+WordsRead g line (Some r) = (ws : List Word) × (read_all g line ≡ some ws) × Passed g ws r
+WordsRead g line None = read_all g line ≡ none
 
 -- the codes that were kept of the words
 abbrev pub codes_of : Words → ClauseWords
@@ -73,8 +76,9 @@ pub record WholeClause (signature : declared.Signature) (w : Words) : Type 0 whe
   pub read : read_clause (signature_in sheet signature) words ≡ some clause
 
 -- what the value of line l was read to
-abbrev pub clause_value_in : Signature → ℕ → ClauseLine → Answer Clause
-clause_value_in g l r = cond (eqb r.fault 0) (answer (clause_in g r.words)) (refused (at_line r.fault l))
+abbrev pub clause_value_in : Signature → ℕ → rust.Result ClauseWords Fault → Answer Clause
+clause_value_in g l (Ok w) = answer (clause_in g w)
+clause_value_in g l (Err f) = refused (at_line (number_of f) l)
 
 -- the clause words are a clause within the limits
 pub record AcceptedWords (g : Signature) (w : ClauseWords) : Type 0 where
@@ -83,6 +87,6 @@ pub record AcceptedWords (g : Signature) (w : ClauseWords) : Type 0 where
   pub variables : variable_count (flatten (clause_in g w)) ≤ max_variables
 
 -- r is what the value is read to, whatever the number of its line
-pub record ClauseRead (g : Signature) (value : List ℕ) (r : ClauseLine) : Type 0 where
+pub record ClauseRead (g : Signature) (value : List ℕ) (r : rust.Result ClauseWords Fault) : Type 0 where
   pub read : (l : ℕ) → clause_value_in g l r ≡ clause_of g l value
-  pub accepted : r.fault ≡ 0 → AcceptedWords g r.words
+  pub accepted : IfOk r (AcceptedWords g)

@@ -5,8 +5,8 @@ use Rattle.theory.specs.Syntax.{Signature}
 use Rattle.theory.specs.Grammar as theory
 use Rattle.theory.specs.Problem.{word_of}
 use Rattle.syntax.specs.Codes as codes
-use Rattle.clauses.specs.declared.words.Word.{Word}
-use Rattle.clauses.specs.declared.words.Word.TheVariants.{Code, Unknown}
+use Rattle.std.specs.Prelude as rust
+use Rattle.std.specs.Prelude.{Some, None}
 
 -- the byte of +, -, = or a variable letter
 abbrev pub is_fixed : ℕ → Bool
@@ -27,16 +27,16 @@ abbrev pub is_code : ℕ → ℕ → Bool
 is_code n c = ltb c n || is_fixed_code c
 
 -- the same of what was read
-abbrev pub is_coded : ℕ → Word → Bool
-is_coded n (Code c) = is_code n c
-is_coded n Unknown = true
+abbrev pub is_coded : ℕ → (rust.Option ℕ) → Bool
+is_coded n (Some c) = is_code n c
+is_coded n None = true
 
 -- the word that was read, if it is one
-abbrev pub word_in : Word → Option theory.Word
-word_in (Code c) = some (codes.code_word c)
-word_in Unknown = none
+abbrev pub word_in : rust.Option ℕ → Option theory.Word
+word_in (Some c) = some (codes.code_word c)
+word_in None = none
 
 -- r is the word that the bytes are
-pub record WordRead (g : Signature) (word : List ℕ) (r : Word) : Type 0 where
+pub record WordRead (g : Signature) (word : List ℕ) (r : rust.Option ℕ) : Type 0 where
   pub read : word_in r ≡ word_of g word
   pub coded : is_coded (length g) r ≡ true

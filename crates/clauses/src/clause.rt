@@ -9,50 +9,37 @@ ghost use Rattle.clauses.specs.Words.{is_code};
 ghost use Rattle.clauses.specs.Clauses.{sign_count, WordsBounded, Extends, no_words, codes_of, WordAdded, WordsRead, WholeClause, ClauseRead};
 
 use crate::grammar::{Due, after, is_finished};
-use crate::words::{Word, word_of};
+use crate::words::word_of;
 use flattening::flat::variable_count;
+use syntax::faults::Fault;
 use syntax::limits::Problem;
 use syntax::signature::Signature;
 use syntax::words::ClauseWords;
 use word_reader::WordReader;
 
-// What was read of a line: the codes of its first words, up to the limit, how many words and signs, what is due, whether a word was unknown.
+// What was read of a line: the codes of its first words, up to the limit, how many words and signs, and what is due; none where a word stands where it cannot.
 #[derive(Clone, Copy)]
 pub struct Words {
     pub words: [u8; Problem::MAX_WORDS],
     pub count: usize,
     pub literals: usize,
-    pub due: Due,
-    pub unknown: bool,
+    pub due: Option<Due>,
 }
 
-// A clause's words, or the number of the refusal, 5 to 7; 0 for none.
-#[derive(Drop)]
-pub struct ClauseLine {
-    pub words: ClauseWords,
-    pub fault: u8,
-}
-
-// The clause of what follows a clause line's key.
-pub fn read_clause(sheet: &[u8], signature: Signature, value: &[u8]) -> ClauseLine
+// The clause of what follows a clause line's key, or 5 to 7.
+pub fn read_clause(sheet: &[u8], signature: Signature, value: &[u8]) -> Result<ClauseWords, Fault>
     requires { Readable sheet.now signature }
     ensures { ClauseRead (signature_in sheet.now signature) value.now result }
 {
-    let w = read_words(sheet, signature, value);
-    if w.unknown {
-        return refused(5);
-    }
+    let w = read_words(sheet, signature, value).ok_or(Fault::Word)?;
     let due = w.due;
     if !is_finished(due) {
-        return refused(6);
+        return Err(Fault::Clause);
     }
     if !within_limits(signature, w) {
-        return refused(7);
+        return Err(Fault::ClauseLimits);
     }
-    ClauseLine {
-        words: kept_codes(w),
-        fault: 0,
-    }
+    Ok(kept_codes(w))
 }
 
 // Whether the words of a clause are within the limits.
@@ -81,31 +68,19 @@ pub fn kept_codes(w: Words) -> ClauseWords
     }
 }
 
-fn refused(fault: u8) -> ClauseLine
-    ensures { result.fault ≡ fault }
-{
-    ClauseLine {
-        words: ClauseWords {
-            words: [0; Problem::MAX_WORDS],
-            count: 0,
-        },
-        fault,
-    }
-}
-
-// The words of a line: none where it is empty.
-pub fn read_words(sheet: &[u8], signature: Signature, value: &[u8]) -> Words
+// The words of a line, if all are known; an empty line has none.
+pub fn read_words(sheet: &[u8], signature: Signature, value: &[u8]) -> Option<Words>
     requires { Readable sheet.now signature }
     ensures { WordsRead (signature_in sheet.now signature) (words_of value.now) result }
 {
     if value.len() == 0 {
-        return no_words();
+        return Some(no_words());
     }
     take_words(sheet, signature, value)
 }
 
 // The words between a line's spaces, however many: one reader hands them out, from the first to the last.
-fn take_words(sheet: &[u8], signature: Signature, value: &[u8]) -> Words
+fn take_words(sheet: &[u8], signature: Signature, value: &[u8]) -> Option<Words>
     requires { Readable sheet.now signature }
     ensures { WordsRead (signature_in sheet.now signature) (cut_words value.now) result }
 {
@@ -113,13 +88,10 @@ fn take_words(sheet: &[u8], signature: Signature, value: &[u8]) -> Words
     let mut reader = WordReader::new(value);
     while reader.has_word() {
         let step = reader.next();
-        w = with_word(sheet, signature, w, step.word);
-        if w.unknown {
-            return w;
-        }
+        w = with_word(sheet, signature, w, step.word)?;
         reader = step.rest;
     }
-    w
+    Some(w)
 }
 
 // Nothing was read.
@@ -130,34 +102,23 @@ pub fn no_words() -> Words
         words: [0; Problem::MAX_WORDS],
         count: 0,
         literals: 0,
-        due: Due::Terms(0),
-        unknown: false,
+        due: Some(Due::Terms(0)),
     }
 }
 
-// One word more.
-fn with_word(sheet: &[u8], signature: Signature, w: Words, word: &[u8]) -> Words
+// One word more, if it is known.
+fn with_word(sheet: &[u8], signature: Signature, w: Words, word: &[u8]) -> Option<Words>
     requires { Readable sheet.now signature × WordsBounded w }
     ensures { WordAdded (signature_in sheet.now signature) word.now w result }
 {
-    match word_of(sheet, signature, word) {
-        Word::Code(code) => with_code(signature, w, code),
-        Word::Unknown => with_unknown(w),
-    }
-}
-
-fn with_unknown(mut w: Words) -> Words
-    ensures { result.unknown ≡ true }
-{
-    w.unknown = true;
-    w
+    let code = word_of(sheet, signature, word)?;
+    Some(with_code(signature, w, code))
 }
 
 // One more word, by its code.
 pub fn with_code(signature: Signature, w: Words, code: u8) -> Words
     requires { Limited signature × ((is_code signature.count code ≡ true) × WordsBounded w) }
-    ensures known { result.unknown ≡ false }
-    ensures extended { (sheet : List ℕ) → Extends (signature_in sheet signature) w (code_word code) result }
+    ensures { (sheet : List ℕ) → Extends (signature_in sheet signature) w (code_word code) result }
 {
     let words = w.words;
     let due = w.due;
@@ -166,7 +127,6 @@ pub fn with_code(signature: Signature, w: Words, code: u8) -> Words
         count: w.count + 1,
         literals: w.literals + signs(code),
         due: after(signature, due, code),
-        unknown: false,
     }
 }
 
@@ -174,10 +134,9 @@ pub fn with_code(signature: Signature, w: Words, code: u8) -> Words
 fn stored(mut words: [u8; Problem::MAX_WORDS], n: usize, code: u8) -> [u8; Problem::MAX_WORDS]
     ensures { result ≡ set words n code }
 {
-    if Problem::MAX_WORDS <= n {
-        return words;
+    if n < Problem::MAX_WORDS {
+        words[n] = code;
     }
-    words[n] = code;
     words
 }
 
@@ -185,11 +144,8 @@ fn stored(mut words: [u8; Problem::MAX_WORDS], n: usize, code: u8) -> [u8; Probl
 fn signs(code: u8) -> usize
     ensures { result ≡ sign_count (code_word code) }
 {
-    if code == ClauseWords::PLUS {
-        return 1;
+    match code {
+        ClauseWords::PLUS | ClauseWords::MINUS => 1,
+        _ => 0,
     }
-    if code == ClauseWords::MINUS {
-        return 1;
-    }
-    0
 }

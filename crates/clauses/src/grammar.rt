@@ -17,36 +17,29 @@ pub enum Due {
     Terms(usize),
     // an atom, after a sign
     Atom,
-    // nothing that could follow: a word stands where it cannot
-    Nothing,
 }
 
 // Whether the words may end there.
-pub fn is_finished(due: Due) -> bool
+pub fn is_finished(due: Option<Due>) -> bool
     ensures { result ≡ is_finished (due_in due) }
 {
-    match due {
-        Due::Terms(n) => n == 0,
-        Due::Atom => false,
-        Due::Nothing => false,
-    }
+    matches!(due, Some(Due::Terms(0)))
 }
 
-// What is due after one word more.
-pub fn after(signature: Signature, due: Due, code: u8) -> Due
+// What is due after one word more; nothing where the word cannot stand there.
+pub fn after(signature: Signature, due: Option<Due>, code: u8) -> Option<Due>
     requires { Limited signature × ((is_code signature.count code ≡ true) × (pending due + 3 < 2 ^ 64)) }
     ensures due { (sheet : List ℕ) → due_in result ≡ due_next (signature_in sheet signature) (due_in due) (code_word code) }
     ensures pending { pending result ≤ pending due + 3 }
 {
-    match due {
+    match due? {
         Due::Terms(n) => after_terms(signature, n, code),
         Due::Atom => after_sign(signature, code),
-        Due::Nothing => Due::Nothing,
     }
 }
 
 // Where n terms are due stands a letter or a function.
-fn after_terms(signature: Signature, n: usize, code: u8) -> Due
+fn after_terms(signature: Signature, n: usize, code: u8) -> Option<Due>
     requires { Limited signature × ((is_code signature.count code ≡ true) × (n + 3 < 2 ^ 64)) }
     ensures due { (sheet : List ℕ) → due_in result ≡ due_after (signature_in sheet signature) (terms n) (code_word code) }
     ensures pending { pending result ≤ n + 3 }
@@ -55,49 +48,46 @@ fn after_terms(signature: Signature, n: usize, code: u8) -> Due
         return after_literal(code);
     }
     if ClauseWords::LETTER <= code {
-        return Due::Terms(n - 1);
+        return Some(Due::Terms(n - 1));
     }
     if ClauseWords::PLUS <= code {
-        return Due::Nothing;
+        return None;
     }
     let i = code as usize;
     let symbol = signature.symbols[i];
     if symbol.function {
-        return Due::Terms(symbol.arity as usize + (n - 1));
+        return Some(Due::Terms(symbol.arity as usize + (n - 1)));
     }
-    Due::Nothing
+    None
 }
 
 // Where nothing is due stands a sign.
-fn after_literal(code: u8) -> Due
+fn after_literal(code: u8) -> Option<Due>
     ensures due { (g : theory.Signature) → due_in result ≡ due_after g (terms 0) (code_word code) }
     ensures pending { pending result ≤ 0 }
 {
-    if code == ClauseWords::PLUS {
-        return Due::Atom;
+    match code {
+        ClauseWords::PLUS | ClauseWords::MINUS => Some(Due::Atom),
+        _ => None,
     }
-    if code == ClauseWords::MINUS {
-        return Due::Atom;
-    }
-    Due::Nothing
 }
 
 // Where an atom is due stands = or a predicate.
-fn after_sign(signature: Signature, code: u8) -> Due
+fn after_sign(signature: Signature, code: u8) -> Option<Due>
     requires { Limited signature × (is_code signature.count code ≡ true) }
     ensures due { (sheet : List ℕ) → due_in result ≡ due_after (signature_in sheet signature) atom (code_word code) }
     ensures pending { pending result ≤ 3 }
 {
     if code == ClauseWords::EQUALS {
-        return Due::Terms(2);
+        return Some(Due::Terms(2));
     }
     if ClauseWords::PLUS <= code {
-        return Due::Nothing;
+        return None;
     }
     let i = code as usize;
     let symbol = signature.symbols[i];
     if symbol.function {
-        return Due::Nothing;
+        return None;
     }
-    Due::Terms(symbol.arity as usize)
+    Some(Due::Terms(symbol.arity as usize))
 }

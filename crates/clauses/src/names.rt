@@ -1,27 +1,25 @@
 // Names: the symbol that has one.
-ghost use Rattle.std.specs.Prelude.{◌≡◌, cond, ◌+◌, ◌≤◌, ltb, length};
-ghost use Rattle.std.proofs.Math.Option.{none, some};
+ghost use Rattle.std.specs.Prelude.{◌≡◌, ◌+◌, ◌≤◌, ◌<◌, length, IfSome};
 ghost use Rattle.theory.specs.Lists as lists;
+ghost use Rattle.theory.specs.Options.{told};
 ghost use Rattle.theory.specs.Problem.{place_of_name};
 ghost use Rattle.syntax.specs.Signatures.{symbol_in, signature_in};
 ghost use Rattle.clauses.specs.Names.{Readable};
 
 use syntax::signature::{Signature, Symbol};
-use text::lines::same;
 
-// The place of the symbol with this name, or the number of symbols.
-pub fn find_name(sheet: &[u8], signature: Signature, name: &[u8]) -> usize
+// The place of the symbol with this name, if one has it.
+pub fn find_name(sheet: &[u8], signature: Signature, name: &[u8]) -> Option<usize>
     requires { Readable sheet.now signature }
-    ensures { place_of_name name.now (signature_in sheet.now signature) ≡ cond (ltb result signature.count) (some result) none }
+    ensures place { told result ≡ place_of_name name.now (signature_in sheet.now signature) }
+    ensures within { IfSome result (λ i. i < signature.count) }
 {
-    let mut i: usize = 0;
-    while i < signature.count {
+    for i in 0..signature.count {
         if is_named(sheet, signature.symbols[i], name) {
-            return i;
+            return Some(i);
         }
-        i += 1;
     }
-    i
+    None
 }
 
 fn is_named(sheet: &[u8], symbol: Symbol, name: &[u8]) -> bool
@@ -30,5 +28,5 @@ fn is_named(sheet: &[u8], symbol: Symbol, name: &[u8]) -> bool
 {
     let from = symbol.name;
     let to = from + symbol.length;
-    same(name, &sheet[from..to])
+    name == &sheet[from..to]
 }

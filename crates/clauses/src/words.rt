@@ -12,53 +12,31 @@ use syntax::words::ClauseWords;
 // the byte after those of the variable letters
 const PAST_LETTERS: u8 = b'A' + Problem::MAX_LETTERS as u8;
 
-#[derive(Drop)]
-pub enum Word {
-    // the word's code: see ClauseWords
-    Code(u8),
-    Unknown,
-}
-
 // The word that these bytes are.
-pub fn word_of(sheet: &[u8], signature: Signature, word: &[u8]) -> Word
+pub fn word_of(sheet: &[u8], signature: Signature, word: &[u8]) -> Option<u8>
     requires { Readable sheet.now signature }
     ensures { WordRead (signature_in sheet.now signature) word.now result }
 {
     if word.len() == 0 {
-        return Word::Unknown;
+        return None;
     }
     if is_fixed_word(word) {
-        return Word::Code(ClauseWords::MAX_PLACES + word[0]);
+        return Some(ClauseWords::MAX_PLACES + word[0]);
     }
-    let i = find_name(sheet, signature, word);
-    if i < signature.count {
-        return Word::Code(i as u8);
-    }
-    Word::Unknown
+    let i = find_name(sheet, signature, word)?;
+    Some(i as u8)
 }
 
 // The word is +, -, = or a variable letter.
 fn is_fixed_word(word: &[u8]) -> bool
     ensures { result ≡ is_fixed_word word.now }
 {
-    if word.len() != 1 {
-        return false;
-    }
-    is_fixed(word[0])
+    matches!(word, [b] if is_fixed(*b))
 }
 
 // The byte is one of theirs.
 fn is_fixed(b: u8) -> bool
     ensures { result ≡ is_fixed b }
 {
-    if b == b'+' {
-        return true;
-    }
-    if b == b'-' {
-        return true;
-    }
-    if b == b'=' {
-        return true;
-    }
-    b'A' <= b && b < PAST_LETTERS
+    matches!(b, b'+' | b'-' | b'=' | b'A'..PAST_LETTERS)
 }

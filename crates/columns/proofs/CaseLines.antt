@@ -19,7 +19,7 @@ use Rattle.theory.specs.Columns.{byte_column, case_column, with_columns, placed_
 use Rattle.theory.proofs.Tests.{and_left, and_right, leb-true, ltb-true}
 use Rattle.text.specs.Lines.{part}
 use Rattle.text.proofs.Counts.{one_byte}
-use Rattle.columns.specs.declared.lines.LineSpan.{LineSpan}
+use Rattle.syntax.specs.declared.terms.Span.{Span}
 use Rattle.columns.specs.Lines.{LineAt}
 use Rattle.columns.specs.Cases.{due_at_size}
 
@@ -32,7 +32,7 @@ unfolding case_column
 lineless g case l e = ap (case_column g case) (sym e)
 
 -- the column of a line, by its good bytes
-pub line-told : (g : Signature) (case : List ℕ) (line s r : ℕ) (there : LineSpan) → (line ≡ 0 → ⊥) → LineAt case (line - 1) there → s ≡ size_on case
+pub line-told : (g : Signature) (case : List ℕ) (line s r : ℕ) (there : Span) → (line ≡ 0 → ⊥) → LineAt case (line - 1) there → s ≡ size_on case
     → r ≡ good_bytes (due_at_size s g (line - 1)) (part case there.from there.to) → 1 + r ≡ case_column g case line
 unfolding case_column due_in_case byte_column
 line-told g case line s r there h at e z =
@@ -95,6 +95,6 @@ module _ (line : List ℕ) where
 pub size-bounds : (b : ℕ) → true ≡ is_size_byte b → (49 ≤ b) × (b < 57)
 size-bounds b e = (leb-true 49 b (and_left (leb 49 b) (ltb b 57) (sym e)), ltb-true b 57 (and_right (leb 49 b) (ltb b 57) (sym e)))
 
-pub sized_on : (case : List ℕ) (r : ℕ) (there : LineSpan) → LineAt case 1 there → r ≡ or_zero (size_of (drop 5 (part case there.from there.to))) → r ≡ size_on case
+pub sized_on : (case : List ℕ) (r : ℕ) (there : Span) → LineAt case 1 there → r ≡ or_zero (size_of (drop 5 (part case there.from there.to))) → r ≡ size_on case
 unfolding size_on
 sized_on case r there at e = e ∙ ap (λ (l : List ℕ). or_zero (size_of (drop 5 l))) (sym at.line)

@@ -1,16 +1,15 @@
 -- The bytes of a line that are those of its key, one after the other; and what follows the key.
 use Prim.Native.Nat.{ℕ, suc, ◌+◌, ◌-◌, ◌≤◌, ◌<◌}
-use mathlib.Core.Path.{◌≡◌, refl, sym, ap, ◌∙◌}
+use mathlib.Core.Path.{◌≡◌, refl, sym, ap, ◌∙◌, subst}
 use mathlib.Core.Bool.{Bool, true, false, cond}
 use mathlib.Core.List.{List, [], ◌∷◌, ◌++◌, append-nil}
-use native.Mathlib.Numerals.{add-one}
 use native.Mathlib.Omega.{arith}
 use lib.Dec.{eqb, ltb}
-use lib.ListN.{length, get_or, drop, length-drop, drop_of_length-le}
-use lib.Seq.{drop-cons, take_all}
-use borrow.Author.Tests.{eq-eqb, ne_eqb}
+use lib.ListN.{length, drop, length-drop}
+use lib.Seq.{take_all}
+use Rattle.std.specs.List.{prefix_len, zip}
 use Rattle.theory.specs.LineForms.{ValueForm, no_bytes, declaration, any_words, good_value, good_line}
-use Rattle.theory.proofs.Tests.{ltb-true, ltb-false}
+use Rattle.theory.proofs.Tests.{eqb-sym, ltb-true, ltb-false}
 use Rattle.text.specs.Lines.{part}
 use Rattle.columns.specs.Good.{KeyMet}
 
@@ -18,62 +17,42 @@ use Rattle.columns.specs.Good.{KeyMet}
 pub lent-rest : (l : List ℕ) (n : ℕ) → part l n (length l) ≡ drop n l
 lent-rest l n = take_all (length l - n) (drop n l) (omega (arith, length-drop n l))
 
--- the first i bytes are those of the key: what is left of both gives what all give
-pub record KeyGone (line key : List ℕ) (i : ℕ) : Type 0 where
-  pub within : i ≤ length line
-  pub same : (more : List ℕ) (v : ValueForm) → good_line (key ++ more) v line ≡ i + good_line (drop i key ++ more) v (drop i line)
+-- a byte of both
+abbrev pub alike : ℕ × ℕ → Bool
+alike p = eqb p.0 p.1
 
-module _ (line key : List ℕ) where
-  pub none-met : KeyGone line key 0
-  none-met = record { within = omega arith; same = λ more v. omega arith }
+-- how many bytes of both are the same from the first on
+abbrev pub bytes_met : List ℕ → List ℕ → ℕ
+bytes_met line key = prefix_len alike (zip line key)
 
-  module _ (i : ℕ) (g : KeyGone line key i) where
-    pub key-met : length key ≤ i → KeyMet line key i
-    key-met h =
-        record {
-          within = g.within;
-          short = λ k. absurd (omega arith);
-          whole = λ _ more v. g.same more v ∙ ap (λ (ks : List ℕ). i + good_line (ks ++ more) v (drop i line)) (drop_of_length-le key {i = i} h);
-        }
-
-    -- nothing of the key is met further on
-    stops : i < length key → ((more : List ℕ) (v : ValueForm) → good_line (drop i key ++ more) v (drop i line) ≡ 0) → KeyMet line key i
-    stops h z =
-        record {
-          within = g.within;
-          short = λ _ more v. let n : good_line (drop i key ++ more) v (drop i line) ≡ 0 = z more v in let e = g.same more v in omega (arith, e, n);
-          whole = λ k. absurd (omega arith);
-        }
-
-    pub line-ended : i < length key → length line ≤ i → KeyMet line key i
-    unfolding good_line
-    line-ended h k = stops h (λ more v. ap (λ (ks : List ℕ). good_line (ks ++ more) v (drop i line)) (drop-cons key i 0 h) ∙ ap (good_line (get_or key i 0 ∷ (drop (suc i) key ++ more)) v) (drop_of_length-le line {i = i} k))
-
-    -- the next byte of both
-    next : i < length key → i < length line → (more : List ℕ) (v : ValueForm)
-        → good_line (drop i key ++ more) v (drop i line) ≡ cond (eqb (get_or key i 0) (get_or line i 0)) (suc (good_line (drop (suc i) key ++ more) v (drop (suc i) line))) 0
-    unfolding good_line
-    next h k more v =
-        ap (λ (ks : List ℕ). good_line (ks ++ more) v (drop i line)) (drop-cons key i 0 h) ∙ ap (good_line (get_or key i 0 ∷ (drop (suc i) key ++ more)) v) (drop-cons line i 0 k)
-
-    pub byte-other : i < length key → i < length line → (get_or line i 0 ≡ get_or key i 0 → ⊥) → KeyMet line key i
-    byte-other h k ne =
-        stops h (λ more v. next h k more v ∙ ap (λ (q : Bool). cond q (suc (good_line (drop (suc i) key ++ more) v (drop (suc i) line))) 0) (ne_eqb (get_or key i 0) (get_or line i 0) (λ e. ne (sym e))))
-
-    pub byte-met : i < length key → i < length line → get_or line i 0 ≡ get_or key i 0 → KeyGone line key (i + 1)
-    byte-met h k e =
+pub key-met : (line key : List ℕ) → KeyMet line key (bytes_met line key)
+unfolding good_line
+key-met [] [] = record { within = omega arith; short = λ k. absurd (omega arith); whole = λ _ more v. omega arith }
+key-met [] (k ∷ ks) = record { within = omega arith; short = λ _ more v. refl; whole = λ l. absurd (omega arith) }
+key-met (b ∷ bs) [] = record { within = omega arith; short = λ k. absurd (omega arith); whole = λ _ more v. omega arith }
+key-met (b ∷ bs) (k ∷ ks) = go (eqb b k) (eqb-sym k b) (key-met bs ks)
+  where
+    go : (q : Bool) → eqb k b ≡ q → KeyMet bs ks (bytes_met bs ks) → KeyMet (b ∷ bs) (k ∷ ks) (cond q (1 + bytes_met bs ks) 0)
+    go false e m =
         record {
           within = omega arith;
-          same = λ more v.
-              let rest : ℕ → ℕ = λ n. good_line (drop n key ++ more) v (drop n line) in
-              let q : rest i ≡ suc (rest (suc i)) =
-              next h k more v ∙ ap (λ (q : Bool). cond q (suc (good_line (drop (suc i) key ++ more) v (drop (suc i) line))) 0) (eq-eqb (get_or key i 0) (get_or line i 0) (sym e)) in
-              let m : rest (suc i) ≡ rest (i + 1) = ap rest (sym (add-one i)) in
-              let w : good_line (key ++ more) v line ≡ i + rest i = g.same more v in
-              let s : i + rest i ≡ i + 1 + rest (i + 1) = omega (arith, q, m) in
-              w ∙ s;
+          short = λ _ more v. ap (λ (q : Bool). cond q (suc (good_line (ks ++ more) v bs)) 0) e;
+          whole = λ l. absurd (omega arith);
+        }
+    go true e m =
+        let r : ℕ = bytes_met bs ks in
+        let n : suc r ≡ 1 + r = omega arith in
+        subst (λ (n : ℕ). KeyMet (b ∷ bs) (k ∷ ks) n) n
+        record {
+          within = omega (arith, m.within);
+          short = λ l more v. ap (λ (q : Bool). cond q (suc (good_line (ks ++ more) v bs)) 0) e ∙ ap suc (m.short (omega (arith, l)) more v);
+          whole = λ l more v.
+              let h = m.whole (omega (arith, l)) more v in
+              let z : suc (good_line (ks ++ more) v bs) ≡ suc r + good_line more v (drop r bs) = omega (arith, h) in
+              ap (λ (q : Bool). cond q (suc (good_line (ks ++ more) v bs)) 0) e ∙ z;
         }
 
+module _ (line key : List ℕ) where
   -- the good bytes of the line, by how many are the key's
   module _ (r : ℕ) (m : KeyMet line key r) where
     pub key-short : r < length key → (v : ValueForm) → r ≡ good_line key v line

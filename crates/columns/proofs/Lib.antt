@@ -10,5 +10,7 @@ pub mod WordPlaces
 pub mod LineColumns
 pub mod HeadSections
 pub mod SymbolsAgain
+pub mod FaultNumbers
 pub mod SheetRefused
 pub mod CaseLines
+pub mod CasesOpened

@@ -1,64 +1,20 @@
 -- What is due on a line of a sheet, by the counts that were read.
-use Prim.Native.Nat.{ℕ, ◌+◌, ◌*◌, ◌-◌, ◌≤◌, ◌<◌}
-use mathlib.Core.Path.{◌≡◌, refl, sym, ap, ◌∙◌}
-use mathlib.Core.Bool.{Bool, true, false, cond, not, ◌&&◌}
-use mathlib.Core.Option.{none, some}
-use mathlib.Core.List.{List, [], ◌∷◌}
+use Prim.Native.Nat.{ℕ, ◌+◌, ◌-◌, ◌≤◌, ◌<◌}
+use mathlib.Core.Path.{◌≡◌, sym, ap, ◌∙◌}
+use mathlib.Core.List.{List}
 use native.Mathlib.Omega.{arith}
-use lib.Dec.{eqb, leb, ltb}
-use lib.ListN.{length, get_or, drop, length-append, length-replicate, drop_of_length-le, get_or-eq_default}
+use lib.ListN.{length, get_or, drop, length-append, length-replicate, get_or-eq_default}
 use Rattle.theory.specs.Lists.{or_zero}
-use Rattle.theory.specs.Bytes.{bytes, is_digit}
+use Rattle.theory.specs.Bytes.{bytes}
 use Rattle.theory.specs.Lines.{count_of}
 use Rattle.theory.specs.LineForms.{no_bytes, count_digits, keyed, no_line}
 use Rattle.theory.specs.DueLines.{count_on, predicates_said, clauses_said, lines_with, due_in_sheet}
-use Rattle.theory.proofs.Tests.{and_left, and_right, ltb-true}
 use Rattle.theory.proofs.DueLines.{heading-due, function_form, predicate_count_form, predicate_form, clause_count_form, clause_form, due-fun, due-preds, due-pred, due-clauses, due-clause}
 use Rattle.text.specs.Lines.{part}
-use Rattle.text.specs.declared.numbers.Count.{Count}
-use Rattle.text.specs.declared.numbers.Count.TheVariants.{Number, Bad}
-use Rattle.text.specs.Numbers.{number_in}
-use Rattle.columns.specs.declared.lines.LineSpan.{LineSpan}
+use Rattle.syntax.specs.declared.terms.Span.{Span}
 use Rattle.columns.specs.Lines.{LineAt}
-use Rattle.columns.proofs.KeyBytes.{lent-rest}
 
--- a digit's number is below 10
-digit-small : (a : ℕ) → is_digit a ≡ true → a - 48 < 10
-digit-small a e = omega (arith, ltb-true a 58 (and_right (leb 48 a) (ltb a 58) e))
-
--- a count has at most two digits
-pub count_small : (v : List ℕ) → or_zero (count_of v) ≤ 99
-count_small [] = omega arith
-count_small (a ∷ []) = go (is_digit a) refl
-  where
-    go : (q : Bool) → is_digit a ≡ q → or_zero (cond q (some (a - 48)) none) ≤ 99
-    go true e = omega (arith, digit-small a e)
-    go false e = omega arith
-count_small (a ∷ b ∷ []) = go (is_digit a && is_digit b && not (eqb a 48)) refl
-  where
-    go : (q : Bool) → (is_digit a && is_digit b && not (eqb a 48)) ≡ q → or_zero (cond q (some ((a - 48) * 10 + (b - 48))) none) ≤ 99
-    go true e =
-        let both : (is_digit a && is_digit b) ≡ true = and_left (is_digit a && is_digit b) (not (eqb a 48)) e in
-        omega (arith, digit-small a (and_left (is_digit a) (is_digit b) both), digit-small b (and_right (is_digit a) (is_digit b) both))
-    go false e = omega arith
-count_small (a ∷ b ∷ c ∷ v) = omega arith
-
--- a line that ends before its value has no count
-pub no_value : (line : List ℕ) (n : ℕ) → length line < n → 0 ≡ or_zero (count_of (drop n line))
-no_value line n h = ap (λ (v : List ℕ). or_zero (count_of v)) (sym (drop_of_length-le line {i = n} (omega arith)))
-
--- the count of what is behind its first n bytes
-module _ (line : List ℕ) (n : ℕ) (r : Count) (e : number_in r ≡ count_of (part line n (length line))) where
-  behind : or_zero (number_in r) ≡ or_zero (count_of (drop n line))
-  behind = ap or_zero e ∙ ap (λ (v : List ℕ). or_zero (count_of v)) (lent-rest line n)
-
-  pub number_behind : (m : ℕ) → r ≡ Number m → m ≡ or_zero (count_of (drop n line))
-  number_behind m h = ap (λ (r : Count). or_zero (number_in r)) (sym h) ∙ behind
-
-  pub none-behind : r ≡ Bad → 0 ≡ or_zero (count_of (drop n line))
-  none-behind h = ap (λ (r : Count). or_zero (number_in r)) (sym h) ∙ behind
-
-pub counted-on : (text key : List ℕ) (n r : ℕ) (line : LineSpan) → LineAt text n line → r ≡ or_zero (count_of (drop (length key) (part text line.from line.to))) → r ≡ count_on key n text
+pub counted-on : (text key : List ℕ) (n r : ℕ) (line : Span) → LineAt text n line → r ≡ or_zero (count_of (drop (length key) (part text line.from line.to))) → r ≡ count_on key n text
 unfolding count_on
 counted-on text key n r line l e = e ∙ ap (λ (v : List ℕ). or_zero (count_of (drop (length key) v))) (sym l.line)
 

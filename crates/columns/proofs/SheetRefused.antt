@@ -1,10 +1,11 @@
 -- A sheet that is refused: what its number says of the line, and its column.
 use Prim.Native.Nat.{ℕ, zero, suc, ◌-◌, ◌≤◌, ◌<◌}
 use mathlib.Core.Path.{◌≡◌, refl, sym, ap, ◌∙◌, subst}
-use mathlib.Core.Logic.{inl, inr}
+use mathlib.Core.Logic.{inl, inr, ⊎_elim}
 use mathlib.Core.Bool.{Bool, true, false, cond}
 use mathlib.Core.List.{List}
 use native.Mathlib.Omega.{arith}
+use lib.Dec.{leb}
 use lib.ListN.{length}
 use borrow.Author.Tests.{eq-eqb, ne_eqb}
 use Rattle.theory.specs.Syntax.{Signature}
@@ -14,7 +15,7 @@ use Rattle.theory.specs.LineForms.{LineForm}
 use Rattle.theory.specs.DueLines.{first_line, from_line, due_in_sheet, sheet_symbols}
 use Rattle.theory.specs.Columns.{is_declaration, line_words, line_column, sheet_column, with_columns, placed_problem}
 use Rattle.theory.specs.Claims.Columns.{OverNumber}
-use Rattle.theory.proofs.Tests.{both_false}
+use Rattle.theory.proofs.Tests.{both_false, true-or-false, leb-true, leb-false}
 use Rattle.theory.proofs.SheetFaults.{HasFault, LineFault, sheet-fault, clause-due}
 use Rattle.naming.specs.NamedReading.{read_named, named_column, placed_named}
 use Rattle.naming.specs.NamedOperations.{read_problem_in}
@@ -24,7 +25,7 @@ use Rattle.syntax.specs.declared.signature.Signature as declared
 use Rattle.syntax.specs.Signatures.{signature_in}
 use Rattle.columns.specs.declared.due.SheetLine.{SheetLine}
 use Rattle.columns.specs.declared.due.SheetLine.TheVariants.{Clause}
-use Rattle.columns.specs.declared.lines.LineSpan.{LineSpan}
+use Rattle.syntax.specs.declared.terms.Span.{Span}
 use Rattle.columns.specs.Lines.{LineAt}
 use Rattle.columns.specs.Due.{form_of}
 use Rattle.columns.specs.Sheets.{ByteRefused, LineRefused, SymbolsFound, KnownFrom6, WordsRefused}
@@ -83,7 +84,7 @@ unfolding placed_named
 named-placed sheet n l c e h = ap (with_columns (named_column sheet)) e ∙ ap (λ (c : ℕ). refused (at_place n (record { line = l; column = c }))) (sym h)
 
 -- a sheet that is refused on a line
-module _ (sheet : List ℕ) (n line : ℕ) (there : LineSpan) (e : LineRefused sheet n line) (h : line ≡ 0 → ⊥) (at : LineAt sheet (line - 1) there) where
+module _ (sheet : List ℕ) (n line : ℕ) (there : Span) (e : LineRefused sheet n line) (h : line ≡ 0 → ⊥) (at : LineAt sheet (line - 1) there) where
   abbrev bytes : List ℕ
   bytes = part sheet there.from there.to
 
@@ -101,6 +102,13 @@ module _ (sheet : List ℕ) (n line : ℕ) (there : LineSpan) (e : LineRefused s
       ∙ ap (λ (d : LineForm). line_column (sheet_symbols sheet) d bytes n) q
       ∙ ap (λ (l : List ℕ). line_column (sheet_symbols sheet) (due_in_sheet sheet (line - 1)) l n) (sym at.line)
       ∙ ap (sheet_column sheet n) (sym next)
+
+  -- none of 5 to 7 is one of 1 to 4
+  pub early : (n ≡ 5 → ⊥) → (n ≡ 6 → ⊥) → (n ≡ 7 → ⊥) → n < 5
+  early h₅ h₆ h₇ = ⊎_elim (λ e. late (leb-true 5 n e)) (λ e. leb-false 5 n e) (true-or-false (leb 5 n))
+    where
+      late : 5 ≤ n → n < 5
+      late h = let w : n ≤ 7 = (late-words sheet (line - 1) n h fault).0 in omega (arith, h, w, h₅, h₆, h₇)
 
   module _ (due : SheetLine) (q : form_of due ≡ due_in_sheet sheet (line - 1)) where
     pub byte-refused : n < 5 → ByteRefused due n bytes

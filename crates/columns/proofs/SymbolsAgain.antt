@@ -1,10 +1,9 @@
 -- The symbols of a sheet that is refused for a clause, read again section by section.
 use Prim.Native.Nat.{ℕ, ◌+◌, ◌≤◌}
 use mathlib.Core.Path.{◌≡◌, refl, sym, ap, ◌∙◌}
-use mathlib.Core.Bool.{Bool, true, false, cond}
+use mathlib.Core.Bool.{Bool, true, false}
 use mathlib.Core.List.{List, []}
 use native.Mathlib.Omega.{arith}
-use lib.Dec.{eqb}
 use lib.ListN.{drop}
 use Rattle.theory.specs.Bytes.{bytes}
 use Rattle.theory.specs.Syntax.{function, predicate}
@@ -22,17 +21,18 @@ use Rattle.problem.specs.Sections.{Rest, lines_from, section_from, SectionRead}
 use Rattle.columns.specs.Lines.{LineStart}
 use Rattle.columns.specs.Sheets.{ClauseRefused, SymbolsFound}
 use Rattle.columns.proofs.HeadSections.{head-sections}
+use Rattle.problem.specs.declared.sections.SheetFault.{SheetFault}
+use Rattle.syntax.specs.Faults.{number_of}
+use Rattle.std.specs.Prelude.{Ok, Err}
+use Rattle.std.specs.Prelude as rust
 
 -- what the code holds of a section that was answered
-section-held : (sheet : List ℕ) (most last : ℕ) (a : Answer Rest) (r : Section) (x : Rest) → SectionRead sheet most last a r → a ≡ answer x → (signature_in sheet r.signature, r.line, drop r.next sheet) ≡ x
-section-held sheet most last a r x h e = go (eqb r.fault 0) (h.read ∙ e)
-  where
-    held : Rest
-    held = (signature_in sheet r.signature, r.line, drop r.next sheet)
+section-held : (sheet : List ℕ) (most last : ℕ) (a : Answer Rest) (r : Section) (x : Rest) → SectionRead sheet most last a (Ok r) → a ≡ answer x → (signature_in sheet r.signature, r.line, drop r.next sheet) ≡ x
+section-held sheet most last a r x h e = answer-inj _ x (h.read ∙ e)
 
-    go : (b : Bool) → cond b (answer held) (refused (at_line r.fault r.line)) ≡ answer x → held ≡ x
-    go true z = answer-inj held x z
-    go false z = absurd (answer≢refused x (at_line r.fault r.line) (sym z))
+-- it is not refused
+section-kept : (sheet : List ℕ) (most last : ℕ) (a : Answer Rest) (f : SheetFault) (x : Rest) → SectionRead sheet most last a (Err f) → a ≡ answer x → ⊥
+section-kept sheet most last a f x h e = answer≢refused x (at_line (number_of f.fault) f.line) (sym (h.read ∙ e))
 
 module _ (sheet : List ℕ) (s : SectionsRead sheet) where
   -- the number of the line behind the functions
@@ -54,21 +54,25 @@ module _ (sheet : List ℕ) (s : SectionsRead sheet) where
   second-line : from_line 1 sheet ≡ s.heading.1
   second-line = (at_next sheet 0 (bytes "sheet=1") sheet s.heading.0 s.heading.1 (record { cuts = tt; here = refl }) (key-cut (bytes "sheet=1") 1 sheet s.heading s.headed)).here
 
-  module _ (at most last most' last' : ℕ) (f p : Section) (start : LineStart sheet 1 at)
-      (functions : SectionRead sheet most last (section_from (bytes "funs=") (bytes "fun=") function [] 2 (drop at sheet)) f)
-      (predicates : SectionRead sheet most' last' (section_from (bytes "preds=") (bytes "pred=") predicate (signature_in sheet f.signature) f.line (drop f.next sheet)) p) where
-    held : ◌≡◌ {A = Rest} (signature_in sheet f.signature, f.line, drop f.next sheet) (s.functions.0, after, s.functions.1)
-    held =
-        section-held sheet most last _ f _ functions
-        (ap (section_from (bytes "funs=") (bytes "fun=") function [] 2) (sym start.here ∙ second-line) ∙ functions-answered)
+  module _ (at most last : ℕ) (start : LineStart sheet 1 at) where
+    functions-there : section_from (bytes "funs=") (bytes "fun=") function [] 2 (drop at sheet) ≡ answer (s.functions.0, after, s.functions.1)
+    functions-there = ap (section_from (bytes "funs=") (bytes "fun=") function [] 2) (sym start.here ∙ second-line) ∙ functions-answered
 
-    all_held : ◌≡◌ {A = Rest} (signature_in sheet p.signature, p.line, drop p.next sheet) (s.symbols.0, after + 1 + s.predicate_count.0, s.symbols.1)
-    all_held =
-        section-held sheet most' last' _ p _ predicates
-        (ap (λ (x : Rest). section_from (bytes "preds=") (bytes "pred=") predicate x.0 x.1 x.2) held ∙ predicates-answered)
+    kept : (f : SheetFault) → SectionRead sheet most last (section_from (bytes "funs=") (bytes "fun=") function [] 2 (drop at sheet)) (Err f) → ⊥
+    kept f h = section-kept sheet most last _ f _ h functions-there
 
-    found : SymbolsFound sheet p.signature
-    found = record { readable = predicates.readable; symbols = ap (λ (x : Rest). x.0) all_held ∙ (sections-said sheet s).symbols }
+    module _ (most' last' : ℕ) (f : Section) (functions : SectionRead sheet most last (section_from (bytes "funs=") (bytes "fun=") function [] 2 (drop at sheet)) (Ok f)) where
+      predicates-there : section_from (bytes "preds=") (bytes "pred=") predicate (signature_in sheet f.signature) f.line (drop f.next sheet) ≡ answer (s.symbols.0, after + 1 + s.predicate_count.0, s.symbols.1)
+      predicates-there =
+          let held : ◌≡◌ {A = Rest} (signature_in sheet f.signature, f.line, drop f.next sheet) (s.functions.0, after, s.functions.1) = section-held sheet most last _ f _ functions functions-there in
+          ap (λ (x : Rest). section_from (bytes "preds=") (bytes "pred=") predicate x.0 x.1 x.2) held ∙ predicates-answered
+
+      all_kept : (e : SheetFault) → SectionRead sheet most' last' (section_from (bytes "preds=") (bytes "pred=") predicate (signature_in sheet f.signature) f.line (drop f.next sheet)) (Err e) → ⊥
+      all_kept e h = section-kept sheet most' last' _ e _ h predicates-there
+
+      found : (p : Section) → SectionRead sheet most' last' (section_from (bytes "preds=") (bytes "pred=") predicate (signature_in sheet f.signature) f.line (drop f.next sheet)) (Ok p) → SymbolsFound sheet p.signature
+      found p predicates =
+          record { readable = predicates.held.readable; symbols = ap (λ (x : Rest). x.0) (section-held sheet most' last' _ p _ predicates predicates-there) ∙ (sections-said sheet s).symbols }
 
 -- the sections of a sheet that is refused with 5 or more were read, in both modes
 sections-in : (sheet : List ℕ) (n l : ℕ) → 5 ≤ n → (named : Bool) → read_problem_in named sheet ≡ refused (at_line n l) → SectionsRead sheet
@@ -77,8 +81,18 @@ sections-in sheet n l late true e =
     unrefused (head sheet) named_rest (at_line n l) (sym (named-parts sheet) ∙ e) (λ h. sections-refused sheet n l late (head-refused sheet (at_line n l) h))
     λ (h : Head) k _. head-sections sheet h k
 
-pub symbols-found : (sheet : List ℕ) (at most last most' last' : ℕ) (f p : Section) → ClauseRefused sheet → LineStart sheet 1 at
-    → SectionRead sheet most last (section_from (bytes "funs=") (bytes "fun=") function [] 2 (drop at sheet)) f
-    → SectionRead sheet most' last' (section_from (bytes "preds=") (bytes "pred=") predicate (signature_in sheet f.signature) f.line (drop f.next sheet)) p → SymbolsFound sheet p.signature
-symbols-found sheet at most last most' last' f p c start functions predicates =
-    found sheet (sections-in sheet c.number c.line c.late c.refusal.named c.refusal.refusal) at most last most' last' f p start functions predicates
+module _ (sheet : List ℕ) (at most last : ℕ) (c : ClauseRefused sheet) (start : LineStart sheet 1 at) where
+  sections : SectionsRead sheet
+  sections = sections-in sheet c.number c.line c.late c.refusal.named c.refusal.refusal
+
+  pub functions-kept : (r : rust.Result Section SheetFault) → SectionRead sheet most last (section_from (bytes "funs=") (bytes "fun=") function [] 2 (drop at sheet)) r → ((f : Section) → r ≡ Ok f → ⊥) → ⊥
+  functions-kept (Ok f) h other = other f refl
+  functions-kept (Err e) h other = kept sheet sections at most last start e h
+
+  module _ (most' last' : ℕ) (f : Section) (functions : SectionRead sheet most last (section_from (bytes "funs=") (bytes "fun=") function [] 2 (drop at sheet)) (Ok f)) where
+    pub symbols-kept : (r : rust.Result Section SheetFault) → SectionRead sheet most' last' (section_from (bytes "preds=") (bytes "pred=") predicate (signature_in sheet f.signature) f.line (drop f.next sheet)) r → ((p : Section) → r ≡ Ok p → ⊥) → ⊥
+    symbols-kept (Ok p) h other = other p refl
+    symbols-kept (Err e) h other = all_kept sheet sections at most last start most' last' f functions e h
+
+    pub symbols-found : (p : Section) → SectionRead sheet most' last' (section_from (bytes "preds=") (bytes "pred=") predicate (signature_in sheet f.signature) f.line (drop f.next sheet)) (Ok p) → SymbolsFound sheet p.signature
+    symbols-found = found sheet sections at most last start most' last' f functions

@@ -12,25 +12,18 @@ use borrow.Author.Tests.{eq-eqb, ne_eqb, lt-ltb, le-ltb}
 use Rattle.theory.specs.Syntax.{Signature}
 use Rattle.theory.specs.Grammar.{Due}
 use Rattle.theory.specs.Problem.{max_words, max_literals, word_of}
-use Rattle.theory.specs.LineForms.{is_some}
 use Rattle.theory.proofs.Tests.{or_left, or_right, or-false-join}
 use Rattle.syntax.specs.Codes.{code_word}
-use Rattle.clauses.specs.declared.words.Word.TheVariants.{Code, Unknown}
+use Rattle.std.specs.Prelude.{Some, None}
 use Rattle.clauses.specs.Grammar.{due_next}
 use Rattle.clauses.specs.Words.{WordRead}
-use Rattle.columns.specs.Words.{is_known_word, due_then, due_after_word, is_stuck, signs_in, with_word, are_over}
+use Rattle.columns.specs.Words.{due_then, due_after_word, is_stuck, signs_in, with_word, are_over}
 
 module _ (g : Signature) (word : List ℕ) where
-  pub code-known : (n : ℕ) → WordRead g word (Code n) → true ≡ is_known_word g word
-  code-known n r = ap is_some r.read
-
-  pub unknown-unknown : WordRead g word Unknown → false ≡ is_known_word g word
-  unknown-unknown r = ap is_some r.read
-
-  pub due-after-code : (n : ℕ) (d e : Option Due) → WordRead g word (Code n) → e ≡ due_next g d (code_word n) → e ≡ due_after_word g d word
+  pub due-after-code : (n : ℕ) (d e : Option Due) → WordRead g word (Some n) → e ≡ due_next g d (code_word n) → e ≡ due_after_word g d word
   due-after-code n d e r h = h ∙ ap (due_then g d) r.read
 
-  pub due-after-unknown : (d : Option Due) → WordRead g word Unknown → none ≡ due_after_word g d word
+  pub due-after-unknown : (d : Option Due) → WordRead g word None → none ≡ due_after_word g d word
   due-after-unknown d r = ap (due_then g d) r.read
 
 -- no bytes are no word, so nothing can follow them

@@ -4,3 +4,4 @@ pub mod Good
 pub mod Words
 pub mod Sheets
 pub mod Cases
+pub mod Opened

@@ -9,8 +9,9 @@ use Rattle.theory.specs.Problem.{max_words, max_literals, word_of}
 use Rattle.theory.specs.LineForms.{is_some}
 use Rattle.theory.specs.Columns.{word_start}
 use Rattle.clauses.specs.Grammar.{due_next}
-use Rattle.columns.specs.declared.words.WordPlace.{WordPlace}
-use Rattle.columns.specs.declared.words.WordPlace.TheVariants.{At, Nothing}
+use Rattle.std.specs.Prelude as rust
+use Rattle.std.specs.Prelude.{Some, None}
+use Rattle.theory.specs.Options.{told}
 
 -- the place of the first word after which the state is at fault
 abbrev pub first_stop : {S : Type 0} → (S → List ℕ → S) → (S → Bool) → S → List (List ℕ) → Option ℕ
@@ -22,19 +23,14 @@ abbrev pub start_from : ℕ → List (List ℕ) → Option ℕ → Option ℕ
 start_from at ws none = none
 start_from at ws (some i) = some (at + word_start i ws)
 
--- where the word found starts, if one was
-abbrev pub start_in : WordPlace → Option ℕ
-start_in (At n) = some n
-start_in Nothing = none
-
 -- it starts within n bytes
-abbrev pub StartWithin : ℕ → WordPlace → Type 0
-StartWithin n (At m) = m ≤ n
-StartWithin n Nothing = Unit {0}
+abbrev pub StartWithin : ℕ → rust.Option ℕ → Type 0
+StartWithin n (Some m) = m ≤ n
+StartWithin n None = Unit {0}
 
 -- r is the first word of the value after which the state is at fault
-pub record Stopped {S : Type 0} (next : S → List ℕ → S) (fault : S → Bool) (s : S) (value : List ℕ) (r : WordPlace) : Type 0 where
-  pub start : start_in r ≡ start_from 0 (cut_words value) (first_stop next fault s (cut_words value))
+pub record Stopped {S : Type 0} (next : S → List ℕ → S) (fault : S → Bool) (s : S) (value : List ℕ) (r : rust.Option ℕ) : Type 0 where
+  pub start : told r ≡ start_from 0 (cut_words value) (first_stop next fault s (cut_words value))
   pub within : StartWithin (length value) r
 
 -- the word is known

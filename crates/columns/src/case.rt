@@ -15,6 +15,7 @@ use crate::cells::good_table;
 use crate::good::{good_key, good_size, is_size};
 use crate::lines::line_at;
 use answers::{Refusal, at_place};
+use syntax::faults::Fault;
 use syntax::signature::Signature;
 use syntax::size::DomainSize;
 
@@ -23,7 +24,11 @@ pub fn case_refusal(case: &[u8], sheet: &[u8], signature: Signature, line: usize
     requires { Readable sheet.now signature × (read_case (signature_in sheet.now signature) case.now ≡ refused (at_line 12 line)) }
     ensures { placed_case (signature_in sheet.now signature) case.now ≡ refused (refusal_in result) }
 {
-    at_place(12, line, case_column(case, sheet, signature, line))
+    at_place(
+        Fault::CaseLine,
+        line,
+        case_column(case, sheet, signature, line),
+    )
 }
 
 fn case_column(case: &[u8], sheet: &[u8], signature: Signature, line: usize) -> usize

@@ -46,8 +46,7 @@ fn good_cells(bytes: &[u8], function: bool, size: DomainSize, count: usize) -> u
 {
     let least = least_byte(function);
     let most = value_count(function, size);
-    let mut i: usize = 0;
-    while i < count {
+    for i in 0..count {
         if bytes.len() <= 2 * i {
             return 2 * i;
         }
@@ -63,7 +62,6 @@ fn good_cells(bytes: &[u8], function: bool, size: DomainSize, count: usize) -> u
         if bytes[2 * i + 1] != b' ' {
             return 2 * i + 1;
         }
-        i += 1;
     }
-    2 * i
+    2 * count
 }

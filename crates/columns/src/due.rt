@@ -7,7 +7,7 @@ ghost use Rattle.theory.specs.Columns.{key_length, is_declaration};
 ghost use Rattle.columns.specs.Due.{form_of};
 
 use crate::lines::line_at;
-use text::numbers::{Count, count_of};
+use text::numbers::count_of;
 
 // The lines of a sheet in order, and the end after them.
 #[derive(Clone, Copy)]
@@ -71,10 +71,7 @@ fn count_behind(line: &[u8], n: usize) -> usize
     if line.len() < n {
         return 0;
     }
-    match count_of(&line[n..]) {
-        Count::Number(m) => m,
-        Count::Bad => 0,
-    }
+    count_of(&line[n..]).unwrap_or(0)
 }
 
 // The length of the key that is due.
@@ -97,14 +94,5 @@ pub fn key_length(due: SheetLine) -> usize
 pub fn is_declaration(due: SheetLine) -> bool
     ensures { result ≡ is_declaration (form_of due) }
 {
-    match due {
-        SheetLine::Heading => false,
-        SheetLine::FunctionCount => false,
-        SheetLine::Function => true,
-        SheetLine::PredicateCount => false,
-        SheetLine::Predicate => true,
-        SheetLine::ClauseCount => false,
-        SheetLine::Clause => false,
-        SheetLine::End => false,
-    }
+    matches!(due, SheetLine::Function | SheetLine::Predicate)
 }

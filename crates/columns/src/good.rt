@@ -75,17 +75,7 @@ pub fn good_size(line: &[u8]) -> usize
 pub fn key_bytes(line: &[u8], key: &[u8]) -> usize
     ensures { KeyMet line.now key.now result }
 {
-    let mut i: usize = 0;
-    while i < key.len() {
-        if line.len() <= i {
-            return i;
-        }
-        if line[i] != key[i] {
-            return i;
-        }
-        i += 1;
-    }
-    i
+    line.iter().zip(key).take_while(|(b, k)| **b == **k).count()
 }
 
 // How many bytes of a value can begin a count: after 0 nothing, after another digit one digit.
@@ -114,5 +104,5 @@ fn count_digits(value: &[u8]) -> usize
 pub fn is_size(b: u8) -> bool
     ensures { result ≡ is_size_byte b }
 {
-    49 <= b && b < 57
+    b'1' <= b && b < b'9'
 }

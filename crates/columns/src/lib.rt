@@ -5,6 +5,7 @@ pub mod case;
 mod cells;
 mod due;
 mod good;
-mod lines;
+pub mod lines;
+pub mod opened;
 pub mod sheet;
 mod words;

@@ -32,8 +32,8 @@ use Rattle.counts.specs.declared.Counts.{Counts}
 use Rattle.counts.specs.Totals.{TotalOf, clauses_of, literals_of, ConstantsTotal}
 
 -- nothing yet
-pub none-total : TotalOf [] 0 (record { instances = 0; literals = 0 })
-none-total = record { instances = refl; literals = refl; few-instances = omega arith; few-literals = omega arith }
+pub none-total : (r : Counts) → r.instances ≡ 0 → r.literals ≡ 0 → TotalOf [] 0 r
+none-total r i l = record { instances = i; literals = l; few-instances = omega arith; few-literals = omega arith }
 
 -- some parts after others
 pub both-total : (ps qs : List Part) (m n : ℕ) (a b r : Counts) → TotalOf ps m a → TotalOf qs n b
@@ -145,8 +145,8 @@ sum_more f i =
     ap (λ (l : List ℕ). sum (map f l)) (sym (up_from-append 1 i 1)) ∙ sum-map-append f (up_from 1 i) (up_from (1 + i) 1) ∙ omega (arith, ap f e)
 
 -- no constant yet, and one more
-pub no-constant : (s : ℕ) → ConstantsTotal s 0 (record { instances = 0; literals = 0 })
-no-constant s = record { instances = refl; literals = refl; few-instances = omega arith; few-literals = omega arith }
+pub no-constant : (s : ℕ) (r : Counts) → r.instances ≡ 0 → r.literals ≡ 0 → ConstantsTotal s 0 r
+no-constant s r i l = record { instances = i; literals = l; few-instances = omega arith; few-literals = omega arith }
 
 pub one-constant : (s i : ℕ) (a b r : Counts) → ConstantsTotal s i a → b.instances ≡ clauses_of s (i + 1) → b.literals ≡ literals_of s (i + 1) → b.instances ≤ 2 ^ 9 → b.literals ≤ 2 ^ 9
     → r.instances ≡ a.instances + b.instances → r.literals ≡ a.literals + b.literals → ConstantsTotal s (i + 1) r
@@ -181,7 +181,7 @@ module _ (g : Signature) (c : Clause) (r : FlatClause) (e : flat_in g r ≡ plac
   flat-count : r.count ≡ length (flatten c).literals
   unfolding flat_in placed
   flat-count =
-      sym (length-map (up_to r.count) (literal_in g r.literals r.arguments) ∙ length-up_from 0 r.count)
+      sym (length-map (up_to r.count) (literal_in g r.literals) ∙ length-up_from 0 r.count)
       ∙ ap (λ (f : flat.FlatClause). length f.literals) e
       ∙ length-map (flatten c).literals (placed_literal (flatten c).owns)
 

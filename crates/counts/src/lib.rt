@@ -15,11 +15,10 @@ use problem::clause_lines::clause_words;
 use syntax::limits::Problem;
 use syntax::signature::{Signature, Symbol};
 use syntax::size::DomainSize;
-use twins::constant_clauses::smaller;
 use twins::constants::constant_count;
 
 // I and L.
-#[derive(Drop)]
+#[derive(Default, Drop)]
 pub struct Counts {
     pub instances: usize,
     pub literals: usize,
@@ -47,15 +46,10 @@ fn function_counts(signature: Signature, size: DomainSize) -> Counts
     requires { Limited signature × (size.0 ≤ 8) }
     ensures { (sheet : List ℕ) → TotalOf (map (function_part size.0 (signature_in sheet signature)) (function_places (signature_in sheet signature))) (2 ^ 30) result }
 {
-    let mut total = Counts {
-        instances: 0,
-        literals: 0,
-    };
-    let mut i: usize = 0;
-    while i < signature.count {
+    let mut total = Counts::default();
+    for i in 0..signature.count {
         let one = symbol_counts(signature.symbols[i], size);
         total = plus(total, one);
-        i += 1;
     }
     total
 }
@@ -68,10 +62,7 @@ fn symbol_counts(symbol: Symbol, size: DomainSize) -> Counts
     ensures small { (result.instances ≤ 2 ^ 15) × (result.literals ≤ 2 ^ 15) }
 {
     if !symbol.function {
-        return Counts {
-            instances: 0,
-            literals: 0,
-        };
+        return Counts::default();
     }
     let arity = symbol.arity as usize;
     let s = size.0;
@@ -89,10 +80,7 @@ fn twin_counts(p: Problem, size: DomainSize) -> Counts
     ensures { (sheet : List ℕ) → TotalOf (cond p.symmetry (constant_parts size.0 (signature_in sheet p.signature)) []) (2 ^ 15) result }
 {
     if !p.symmetry {
-        return Counts {
-            instances: 0,
-            literals: 0,
-        };
+        return Counts::default();
     }
     let n = constant_count(p.signature);
     all_constant_counts(n, size)
@@ -103,15 +91,10 @@ fn all_constant_counts(n: usize, size: DomainSize) -> Counts
     requires { (n ≤ max_in_all) × (1 ≤ size.0) × (size.0 ≤ 8) }
     ensures { ConstantsTotal size.0 n result }
 {
-    let mut total = Counts {
-        instances: 0,
-        literals: 0,
-    };
-    let mut i: usize = 0;
-    while i < n {
+    let mut total = Counts::default();
+    for i in 0..n {
         let one = constant_counts(i + 1, size);
         total = plus(total, one);
-        i += 1;
     }
     total
 }
@@ -123,7 +106,7 @@ fn constant_counts(i: usize, size: DomainSize) -> Counts
     ensures literals { result.literals ≡ literals_of size.0 i }
     ensures small { (result.instances ≤ 2 ^ 9) × (result.literals ≤ 2 ^ 9) }
 {
-    let most = smaller(i, size.0);
+    let most = i.min(size.0);
     Counts {
         instances: most,
         literals: most + (most - 1) * i,
@@ -135,15 +118,10 @@ fn all_clause_counts(sheet: &[u8], p: Problem, size: DomainSize) -> Counts
     requires { Accepted sheet.now p × (size.0 ≤ 8) }
     ensures { TotalOf (map (clause_part size.0 (signature_in sheet.now p.signature)) (problem_in sheet.now p).clauses) (3 * 2 ^ 40 - 1) result }
 {
-    let mut total = Counts {
-        instances: 0,
-        literals: 0,
-    };
-    let mut k: usize = 0;
-    while k < p.count {
+    let mut total = Counts::default();
+    for k in 0..p.count {
         let one = clause_counts(sheet, p, k, size);
         total = plus(total, one);
-        k += 1;
     }
     total
 }
@@ -164,6 +142,7 @@ fn clause_counts(sheet: &[u8], p: Problem, k: usize, size: DomainSize) -> Counts
     }
 }
 
+// The counts of two parts together.
 fn plus(a: Counts, b: Counts) -> Counts
     requires { (a.instances + b.instances < 2 ^ 64) × (a.literals + b.literals < 2 ^ 64) }
     ensures instances { result.instances ≡ a.instances + b.instances }

@@ -7,7 +7,10 @@ use mathlib.Core.List.{List, ◌++◌}
 use native.Mathlib.Omega.{arith}
 use lib.Dec.{eqb, ltb, leb}
 use lib.ListN.{length, get_or}
-use borrow.Author.Tests.{lt-ltb, not-false}
+use borrow.Author.Tests.{not-false}
+use Rattle.std.specs.Prelude.{Some, None, Ok, Err}
+use Rattle.theory.specs.Options.{told}
+use Rattle.syntax.specs.declared.faults.Fault.TheVariants as fault
 use Rattle.theory.specs.Lists.{or_zero}
 use Rattle.theory.specs.Syntax.{is_function, Signature, no_symbol, symbol_at, functions, predicates}
 use Rattle.theory.specs.Syntax as theory
@@ -54,11 +57,6 @@ module _ (text : List ℕ) (t : Symbols) (h : LimitedTable text t) where
   few-of-kind X T true = (says text X t h T).few-functions
   few-of-kind X T false = (says text X t h T).few-predicates
 
-  -- a table with room for one more of a kind
-  pub has_room : (fn : Bool) → count_of_kind t fn < 12 → (t.functions ≤ t.signature.count) × (t.signature.count < 24)
-  has_room true k = (h.ordered, omega (arith, h.predicates, h.ordered))
-  has_room false k = (h.ordered, omega (arith, h.functions, h.ordered))
-
   module _ (start end : ℕ) (fn : Bool) (arity : ℕ) where
     abbrev w : List ℕ
     w = part text start end
@@ -81,126 +79,124 @@ module _ (text : List ℕ) (t : Symbols) (h : LimitedTable text t) where
         or-false-join (ltb 3 arity || not (is_name w)) (leb 12 n) (or-false-join (ltb 3 arity) (not (is_name w)) (ltb-of-≤ 3 arity small) (ap not good)) (leb-of-< 12 n low)
 
     -- the first fault, by the two tests
-    told : (g : Signature) (xs : List (List ℕ)) (b c : Bool) → differs (entry g w) ≡ b → exceeds (place_in_kind g (kind_of fn) w) ≡ c
+    tells : (g : Signature) (xs : List (List ℕ)) (b c : Bool) → differs (entry g w) ≡ b → exceeds (place_in_kind g (kind_of fn) w) ≡ c
         → first_fault (occurrence_faults g xs o) ≡ first_fault (fault_if b 16 start ++ fault_if c 17 start)
-    told g xs b c p q =
+    tells g xs b c p q =
         ap (λ (x : Bool). first_fault (fault_if x 16 start ++ fault_if (exceeds (place_in_kind g (kind_of fn) w)) 17 start)) p
         ∙ ap (λ (x : Bool). first_fault (fault_if b 16 start ++ fault_if x 17 start)) q
 
-    module _ (i : ℕ) (found : place_of_name w g₀ ≡ cond (ltb i t.signature.count) (some i) none) where
-      -- a name that has appeared
-      module _ (below : i < t.signature.count) where
-        abbrev y : Symbol
-        y = get_or t.signature.symbols i blank
+    -- a name that has appeared
+    module _ (i : ℕ) (found : told (Some i) ≡ place_of_name w g₀) (below : i < t.signature.count) where
+      abbrev y : Symbol
+      y = get_or t.signature.symbols i blank
 
-        there : place_of_name w g₀ ≡ some i
-        there = found ∙ ap (λ (b : Bool). cond b (some i) none) (lt-ltb i t.signature.count below)
+      there : place_of_name w g₀ ≡ some i
+      there = sym found
 
-        module _ (X : List theory.Symbol) (T : TableOf text X t) where
-          abbrev next : Signature
-          next = signature_by (X ++ declares o)
+      module _ (X : List theory.Symbol) (T : TableOf text X t) where
+        abbrev next : Signature
+        next = signature_by (X ++ declares o)
 
-          stays : next ≡ signature_by X
-          stays = signature-again X self (sym (named-alike X w) ∙ ap (is_named w) (sym T.symbols) ∙ name-found w g₀ i t.signature.count found below)
+        stays : next ≡ signature_by X
+        stays = signature-again X self (sym (named-alike X w) ∙ ap (is_named w) (sym T.symbols) ∙ name-found w g₀ (Some i) found refl)
 
-          entry_known : entry next w ≡ symbol_in text y
-          entry_known =
-              ap (λ (g : Signature). entry g w) (stays ∙ sym T.symbols)
-              ∙ ap (λ (o : Option ℕ). symbol_at g₀ (or_zero o)) there
-              ∙ symbol_at-signature_in t.signature h.readable.limited text i below
+        entry_known : entry next w ≡ symbol_in text y
+        entry_known =
+            ap (λ (g : Signature). entry g w) (stays ∙ sym T.symbols)
+            ∙ ap (λ (o : Option ℕ). symbol_at g₀ (or_zero o)) there
+            ∙ symbol_at-signature_in t.signature h.readable.limited text i below
 
-          differs-known : differs (entry next w) ≡ is_other y fn arity
-          differs-known = ap differs entry_known ∙ ap (λ (b : Bool). not b || not (eqb arity y.arity)) (same-kinds fn y.function)
+        differs-known : differs (entry next w) ≡ is_other y fn arity
+        differs-known = ap differs entry_known ∙ ap (λ (b : Bool). not b || not (eqb arity y.arity)) (same-kinds fn y.function)
 
-          -- kept by its first appearance
-          kept-known : is_other y fn arity ≡ false → exceeds (place_in_kind next (kind_of fn) w) ≡ false
-          kept-known e =
-              let same-arity : arity ≡ y.arity = eqb-true arity y.arity (not-false (eqb arity y.arity) (or-false-right (not (beq fn y.function)) (not (eqb arity y.arity)) e)) in
-              let small : arity ≤ 3 = omega (arith, arity-at t.signature h.readable.limited i below) in
-              let p = named-place g₀ w i there in
-              let good : is_name w ≡ true = ap is_name p.1 ∙ and_right (leb (symbol_at g₀ i).arity 3) (is_name (symbol_at g₀ i).name) (all-at symbol_ok no_symbol g₀ i h.symbols-ok p.0) in
-              let low : place_in_kind (signature_by X) (kind_of fn) w < 12 = place-below w (cond (is_function (kind_of fn)) (functions (signature_by X)) (predicates (signature_by X))) (few-of-kind X T fn) in
-              within small good (place_in_kind next (kind_of fn) w) (subst (λ (g : Signature). place_in_kind g (kind_of fn) w < 12) (sym stays) low)
+        -- kept by its first appearance
+        kept-known : is_other y fn arity ≡ false → exceeds (place_in_kind next (kind_of fn) w) ≡ false
+        kept-known e =
+            let same-arity : arity ≡ y.arity = eqb-true arity y.arity (not-false (eqb arity y.arity) (or-false-right (not (beq fn y.function)) (not (eqb arity y.arity)) e)) in
+            let small : arity ≤ 3 = omega (arith, arity-at t.signature h.readable.limited i below) in
+            let p = named-place g₀ w i there in
+            let good : is_name w ≡ true = ap is_name p.1 ∙ and_right (leb (symbol_at g₀ i).arity 3) (is_name (symbol_at g₀ i).name) (all-at symbol_ok no_symbol g₀ i h.symbols-ok p.0) in
+            let low : place_in_kind (signature_by X) (kind_of fn) w < 12 = place-below w (cond (is_function (kind_of fn)) (functions (signature_by X)) (predicates (signature_by X))) (few-of-kind X T fn) in
+            within small good (place_in_kind next (kind_of fn) w) (subst (λ (g : Signature). place_in_kind g (kind_of fn) w < 12) (sym stays) low)
 
-        pub known-other : is_other y fn arity ≡ true → SymbolDeclared text t start o (record { table = t; fault = 16 })
-        known-other e =
+      pub known-other : is_other y fn arity ≡ true → SymbolDeclared text t start o (Err fault.SymbolUse)
+      known-other e =
+          record {
+            fault = λ X xs T. tells (signature_by (X ++ declares o)) xs true _ (differs-known X T ∙ e) refl;
+            taken = tt;
+          }
+
+      pub known_same : is_other y fn arity ≡ false → SymbolDeclared text t start o (Ok t)
+      known_same e =
+          record {
+            fault = λ X xs T. tells (signature_by (X ++ declares o)) xs false false (differs-known X T ∙ e) (kept-known X T e);
+            taken = record {
+              limited = h;
+              table = λ X T. record { symbols = T.symbols ∙ sym (stays X T); functions = T.functions ∙ ap (λ (g : Signature). length (functions g)) (sym (stays X T)) };
+            };
+          }
+
+    -- a new name
+    module _ (absent : told {A = ℕ} None ≡ place_of_name w g₀) where
+      module _ (X : List theory.Symbol) (T : TableOf text X t) where
+        new : is_named w X ≡ false
+        new = sym (named-alike X w) ∙ ap (is_named w) (sym T.symbols) ∙ name-not-found w g₀ None absent refl
+
+        abbrev g₁ : Signature
+        g₁ = signature_by X
+
+        differs-new : differs (entry (signature_by (X ++ declares o)) w) ≡ false
+        differs-new =
+            ap (λ (g : Signature). differs (entry g w)) (signature-more X self new)
+            ∙ ap differs (entry_more g₁ self (cond (is_function (kind_of fn)) (length (functions g₁)) (length g₁)) (named-alike X w ∙ new))
+            ∙ or-false-join (not (same_symbol_kind (kind_of fn) (kind_of fn))) (not (eqb arity arity)) (ap not (beq_same (is_function (kind_of fn)))) (ap not (eqb_same arity))
+
+        exceeds-new : exceeds (place_in_kind (signature_by (X ++ declares o)) (kind_of fn) w) ≡ exceeds (count_of_kind t fn)
+        exceeds-new =
+            ap exceeds (place-more X self new)
+            ∙ ap (λ (b : Bool). exceeds (cond b (length (functions g₁)) (length (predicates g₁)))) (kind-back fn)
+            ∙ ap exceeds (kind-count text X t h T fn)
+
+      over : exceeds (count_of_kind t fn) ≡ true → SymbolDeclared text t start o (Err fault.TextLimits)
+      over e =
+          record {
+            fault = λ X xs T. tells (signature_by (X ++ declares o)) xs false true (differs-new X T) (exceeds-new X T ∙ e);
+            taken = tt;
+          }
+
+      pub over-arity : 3 < arity → SymbolDeclared text t start o (Err fault.TextLimits)
+      over-arity k = over (or_left (ltb 3 arity || not (is_name w)) (leb 12 (count_of_kind t fn)) (or_left (ltb 3 arity) (not (is_name w)) (ltb-of-< 3 arity k)))
+
+      pub over-name : is_name w ≡ false → SymbolDeclared text t start o (Err fault.TextLimits)
+      over-name e = over (or_left (ltb 3 arity || not (is_name w)) (leb 12 (count_of_kind t fn)) (or_right (ltb 3 arity) (not (is_name w)) (ap not e)))
+
+      pub over-count : 12 ≤ count_of_kind t fn → SymbolDeclared text t start o (Err fault.TextLimits)
+      over-count k = over (or_right (ltb 3 arity || not (is_name w)) (leb 12 (count_of_kind t fn)) (leb-of-≤ 12 (count_of_kind t fn) k))
+
+      module _ (r : Symbols) (a : WithSymbol t (record { function = fn; helper = false; arity = arity; name = start; length = end - start }) r) where
+        abbrev at : ℕ
+        at = cond fn t.functions t.signature.count
+
+        table-new : (X : List theory.Symbol) → TableOf text X t → TableOf text (X ++ declares o) r
+        table-new X T =
+            let n : at ≡ cond (is_function (kind_of fn)) (length (functions (signature_by X))) (length (signature_by X)) =
+            ap (λ (n : ℕ). cond fn n t.signature.count) T.functions
+            ∙ ap (λ (n : ℕ). cond fn (length (functions (signature_by X))) n) (all-count text X t h T)
+            ∙ ap (λ (b : Bool). cond b (length (functions (signature_by X))) (length (signature_by X))) (sym (kind-back fn)) in
             record {
-              fault = λ X xs T. told (signature_by (X ++ declares o)) xs true _ (differs-known X T ∙ e) refl;
-              limited = λ z. absurd (omega arith);
-              table = λ z. absurd (omega arith);
+              symbols = inserted-in text t.signature at _ r.signature a.signature
+                  ∙ ap (insert_at at self) T.symbols
+                  ∙ ap (λ (n : ℕ). insert_at n self (signature_by X)) n
+                  ∙ sym (signature-more X self (new X T));
+              functions = a.functions
+                  ∙ ap (λ (n : ℕ). cond fn (n + 1) n) T.functions
+                  ∙ ap (λ (b : Bool). cond b (length (functions (signature_by X)) + 1) (length (functions (signature_by X)))) (sym (kind-back fn))
+                  ∙ sym (functions-count X self (new X T));
             }
 
-        pub known_same : is_other y fn arity ≡ false → SymbolDeclared text t start o (record { table = t; fault = 0 })
-        known_same e =
+        pub new-taken : start ≤ end → end ≤ length text → arity ≤ 3 → is_name w ≡ true → count_of_kind t fn < 12 → SymbolDeclared text t start o (Ok r)
+        new-taken ordered inside small good room =
             record {
-              fault = λ X xs T. told (signature_by (X ++ declares o)) xs false false (differs-known X T ∙ e) (kept-known X T e);
-              limited = λ z. h;
-              table = λ z X T. record { symbols = T.symbols ∙ sym (stays X T); functions = T.functions ∙ ap (λ (g : Signature). length (functions g)) (sym (stays X T)) };
+              fault = λ X xs T. tells (signature_by (X ++ declares o)) xs false false (differs-new X T) (exceeds-new X T ∙ within small good (count_of_kind t fn) room);
+              taken = record { limited = tabled-more text t h _ r a small (omega arith) good room; table = table-new };
             }
-
-      -- a new name
-      module _ (past : t.signature.count ≤ i) where
-        module _ (X : List theory.Symbol) (T : TableOf text X t) where
-          new : is_named w X ≡ false
-          new = sym (named-alike X w) ∙ ap (is_named w) (sym T.symbols) ∙ name-not-found w g₀ i t.signature.count found past
-
-          abbrev g₁ : Signature
-          g₁ = signature_by X
-
-          differs-new : differs (entry (signature_by (X ++ declares o)) w) ≡ false
-          differs-new =
-              ap (λ (g : Signature). differs (entry g w)) (signature-more X self new)
-              ∙ ap differs (entry_more g₁ self (cond (is_function (kind_of fn)) (length (functions g₁)) (length g₁)) (named-alike X w ∙ new))
-              ∙ or-false-join (not (same_symbol_kind (kind_of fn) (kind_of fn))) (not (eqb arity arity)) (ap not (beq_same (is_function (kind_of fn)))) (ap not (eqb_same arity))
-
-          exceeds-new : exceeds (place_in_kind (signature_by (X ++ declares o)) (kind_of fn) w) ≡ exceeds (count_of_kind t fn)
-          exceeds-new =
-              ap exceeds (place-more X self new)
-              ∙ ap (λ (b : Bool). exceeds (cond b (length (functions g₁)) (length (predicates g₁)))) (kind-back fn)
-              ∙ ap exceeds (kind-count text X t h T fn)
-
-        over : exceeds (count_of_kind t fn) ≡ true → SymbolDeclared text t start o (record { table = t; fault = 17 })
-        over e =
-            record {
-              fault = λ X xs T. told (signature_by (X ++ declares o)) xs false true (differs-new X T) (exceeds-new X T ∙ e);
-              limited = λ z. absurd (omega arith);
-              table = λ z. absurd (omega arith);
-            }
-
-        pub over-arity : 3 < arity → SymbolDeclared text t start o (record { table = t; fault = 17 })
-        over-arity k = over (or_left (ltb 3 arity || not (is_name w)) (leb 12 (count_of_kind t fn)) (or_left (ltb 3 arity) (not (is_name w)) (ltb-of-< 3 arity k)))
-
-        pub over-name : is_name w ≡ false → SymbolDeclared text t start o (record { table = t; fault = 17 })
-        over-name e = over (or_left (ltb 3 arity || not (is_name w)) (leb 12 (count_of_kind t fn)) (or_right (ltb 3 arity) (not (is_name w)) (ap not e)))
-
-        pub over-count : 12 ≤ count_of_kind t fn → SymbolDeclared text t start o (record { table = t; fault = 17 })
-        over-count k = over (or_right (ltb 3 arity || not (is_name w)) (leb 12 (count_of_kind t fn)) (leb-of-≤ 12 (count_of_kind t fn) k))
-
-        module _ (r : Symbols) (a : WithSymbol t (record { function = fn; helper = false; arity = arity; name = start; length = end - start }) r) where
-          abbrev at : ℕ
-          at = cond fn t.functions t.signature.count
-
-          table-new : (X : List theory.Symbol) → TableOf text X t → TableOf text (X ++ declares o) r
-          table-new X T =
-              let n : at ≡ cond (is_function (kind_of fn)) (length (functions (signature_by X))) (length (signature_by X)) =
-              ap (λ (n : ℕ). cond fn n t.signature.count) T.functions
-              ∙ ap (λ (n : ℕ). cond fn (length (functions (signature_by X))) n) (all-count text X t h T)
-              ∙ ap (λ (b : Bool). cond b (length (functions (signature_by X))) (length (signature_by X))) (sym (kind-back fn)) in
-              record {
-                symbols = inserted-in text t.signature at _ r.signature a.signature
-                    ∙ ap (insert_at at self) T.symbols
-                    ∙ ap (λ (n : ℕ). insert_at n self (signature_by X)) n
-                    ∙ sym (signature-more X self (new X T));
-                functions = a.functions
-                    ∙ ap (λ (n : ℕ). cond fn (n + 1) n) T.functions
-                    ∙ ap (λ (b : Bool). cond b (length (functions (signature_by X)) + 1) (length (functions (signature_by X)))) (sym (kind-back fn))
-                    ∙ sym (functions-count X self (new X T));
-              }
-
-          pub new-taken : start ≤ end → end ≤ length text → arity ≤ 3 → is_name w ≡ true → count_of_kind t fn < 12 → SymbolDeclared text t start o (record { table = r; fault = 0 })
-          new-taken ordered inside small good room =
-              record {
-                fault = λ X xs T. told (signature_by (X ++ declares o)) xs false false (differs-new X T) (exceeds-new X T ∙ within small good (count_of_kind t fn) room);
-                limited = λ z. tabled-more text t h _ r a small (omega arith) good room;
-                table = λ z. table-new;
-              }

@@ -1,35 +1,40 @@
--- An element put into a list, the later ones moved up one by one.
-use Prim.Native.Nat.{ℕ, suc, ◌+◌, ◌≤◌, ◌<◌}
+-- An element put into a list, the later ones moved up by one.
+use Prim.Native.Nat.{ℕ, ◌+◌, ◌-◌, ◌≤◌, ◌<◌}
 use mathlib.Core.Path.{◌≡◌, sym, ap, ◌∙◌}
 use mathlib.Core.Bool.{Bool, true}
 use mathlib.Core.List.{List, [], ◌∷◌, ◌++◌, map, map-append}
 use native.Mathlib.Numerals.{add-one}
 use native.Mathlib.Omega.{arith}
 use lib.ListN.{length, get_or, take, drop, set, length-append, length-take, length-drop, drop_of_length-le}
-use lib.Seq.{append_snoc, drop-cons, drop-set-lt, take-suc-set, take-set-lt, get_or-take, length-take-le, take_all}
+use lib.Seq.{append_snoc, take-suc, take-set-lt, take-paste, take-take, set_at, take_all, length-take-le}
+use Rattle.std.specs.List.{copy_within}
+use Rattle.std.proofs.lemmas.List.{drop-take}
 use Rattle.theory.specs.Lists.{all}
 use Rattle.theory.proofs.Tests.{and-join}
 use Rattle.theory.proofs.Lists.{all_append, all_take, all_drop, map-take, map-drop}
 use Rattle.declaring.specs.Tables.{insert_at}
 
 module _ {A : Type 0} where
-  -- the element that stood at a place goes on to the next one
-  insert-on : (l : List A) (i : ℕ) (x d : A) → i < length l → insert_at (suc i) (get_or l i d) (set l i x) ≡ insert_at i x l
-  insert-on l i x d h =
-      ap (λ (k : List A). k ++ (get_or l i d ∷ drop (suc i) (set l i x))) (take-suc-set l i x h)
-      ∙ append_snoc (take i l) x (get_or l i d ∷ drop (suc i) (set l i x))
-      ∙ ap (λ (k : List A). take i l ++ (x ∷ (get_or l i d ∷ k))) (drop-set-lt (suc i) l i x (omega arith))
-      ∙ ap (λ (k : List A). take i l ++ (x ∷ k)) (sym (drop-cons l i d h))
+  -- an element stored at a place of the first n, those from there on moved up by one
+  pub moved-up : (l : List A) (at n : ℕ) (x d : A) → at ≤ n → n < length l → take (n + 1) (set (copy_within l at n (at + 1)) at x) ≡ insert_at at x (take n l)
+  moved-up l at n x d h k =
+      let m : ℕ = n - at in
+      let e : at + 1 + (n - at) ≡ n + 1 = omega arith in
+      let f : at + (n - at) ≡ n = omega arith in
+      let g : length (take at l) ≡ at = length-take-le at l (omega arith) in
+      let rest : List A = take (n - at) (drop at l) in
+      take-set-lt (n + 1) (copy_within l at n (at + 1)) at x (omega arith)
+      ∙ ap (λ (k : List A). set k at x)
+      (ap (λ (i : ℕ). take i (copy_within l at n (at + 1))) (sym e)
+      ∙ take-paste l (at + 1) (drop at l) (n - at) (omega arith) (omega (arith, length-drop at l))
+      ∙ ap (λ (i : ℕ). take i l ++ rest) (add-one at)
+      ∙ ap (λ (k : List A). k ++ rest) (take-suc l at d (omega arith))
+      ∙ append_snoc (take at l) (get_or l at d) rest)
+      ∙ set_at (take at l) (get_or l at d) rest x at g
+      ∙ ap (λ (k : List A). k ++ (x ∷ rest)) (sym (take-take at n l h))
+      ∙ ap (λ (k : List A). take at (take n l) ++ (x ∷ k)) (sym (drop-take at (n - at) l) ∙ ap (λ (i : ℕ). drop at (take i l)) f)
 
-  -- the same of the first n elements
-  pub insert-moves : (l : List A) (n i : ℕ) (x d : A) → n ≤ length l → i < n → insert_at (i + 1) (get_or l i d) (take n (set l i x)) ≡ insert_at i x (take n l)
-  insert-moves l n i x d h k =
-      ap (λ (j : ℕ). insert_at j (get_or l i d) (take n (set l i x))) (add-one i)
-      ∙ ap (insert_at (suc i) (get_or l i d)) (take-set-lt n l i x k)
-      ∙ ap (λ (y : A). insert_at (suc i) y (set (take n l) i x)) (sym (get_or-take n l i d k))
-      ∙ insert-on (take n l) i x d (omega (arith, length-take-le n l h))
-
-  -- at the end none is left to move
+  -- behind the last
   pub insert-last : (l : List A) (n : ℕ) (x : A) → length l ≤ n → insert_at n x l ≡ l ++ (x ∷ [])
   insert-last l n x h = ap (λ (k : List A). k ++ (x ∷ drop n l)) (take_all n l h) ∙ ap (λ (k : List A). l ++ (x ∷ k)) (drop_of_length-le l {i = n} h)
 

@@ -1,8 +1,8 @@
 -- The table of symbols: empty, with one symbol more, and what it says of the symbols that have appeared.
 use Prim.Native.Nat.{ℕ, ◌+◌, ◌-◌, ◌≤◌, ◌<◌}
-use mathlib.Core.Path.{◌≡◌, refl, sym, ap, ◌∙◌, subst}
+use mathlib.Core.Path.{◌≡◌, refl, sym, ap, ◌∙◌}
 use mathlib.Core.Bool.{Bool, true, false, cond}
-use mathlib.Core.List.{List, [], ◌∷◌, ◌++◌, map}
+use mathlib.Core.List.{List, [], map}
 use native.Mathlib.Omega.{arith}
 use lib.Dec.{eqb, leb}
 use lib.ListN.{length, take, drop, length-take}
@@ -23,7 +23,7 @@ use Rattle.tptp.proofs.Fresh.{first-fresh, parts-fresh, fresh-differ, self-named
 use Rattle.declaring.specs.declared.symbols.Symbols.{Symbols}
 use Rattle.declaring.specs.Tables.{TableOf, LimitedTable, TableSays, count_of_kind, held_in, insert_at, Inserted, WithSymbol}
 use Rattle.declaring.proofs.Signatures.{named-alike, kinds-count, functions-first, predicates-last}
-use Rattle.declaring.proofs.Inserting.{insert-last, length-insert, all_insert, map-insert}
+use Rattle.declaring.proofs.Inserting.{length-insert, all_insert, map-insert}
 
 -- no symbols
 module _ (text : List ℕ) (s : syntax.Signature) (e : s.count ≡ 0) where
@@ -54,27 +54,6 @@ module _ (text : List ℕ) (s : syntax.Signature) (e : s.count ≡ 0) where
 
   pub none-table : TableOf text [] (record { signature = s; functions = 0 })
   none-table = record { symbols = none-there; functions = refl }
-
--- a symbol put in where its kind ends
-module _ (t : Symbols) (y : Symbol) (s : syntax.Signature) where
-  abbrev place : Bool → ℕ
-  place b = cond b t.functions t.signature.count
-
-  pub added-function : y.function ≡ true → Inserted t.signature t.functions y s → WithSymbol t y (record { signature = s; functions = t.functions + 1 })
-  added-function e h =
-      record {
-        signature = subst (λ (b : Bool). Inserted t.signature (place b) y s) (sym e) h;
-        functions = ap (λ (b : Bool). cond b (t.functions + 1) t.functions) (sym e);
-      }
-
-  pub added-predicate : y.function ≡ false → s.count ≡ t.signature.count + 1 → held_in s ≡ held_in t.signature ++ (y ∷ []) → WithSymbol t y (record { signature = s; functions = t.functions })
-  added-predicate e n h =
-      let last : held_in s ≡ insert_at t.signature.count y (held_in t.signature) =
-      h ∙ sym (insert-last (held_in t.signature) t.signature.count y (omega (arith, length-take t.signature.count t.signature.symbols))) in
-      record {
-        signature = subst (λ (b : Bool). Inserted t.signature (place b) y s) (sym e) (record { count = n; symbols = last });
-        functions = ap (λ (b : Bool). cond b (t.functions + 1) t.functions) (sym e);
-      }
 
 -- the signature with the symbol put in
 pub inserted-in : (text : List ℕ) (s : syntax.Signature) (n : ℕ) (y : Symbol) (r : syntax.Signature) → Inserted s n y r → signature_in text r ≡ insert_at n (symbol_in text y) (signature_in text s)

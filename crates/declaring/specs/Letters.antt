@@ -1,7 +1,7 @@
 -- The variables of a clause that have appeared, and what one occurrence more leaves.
-use Rattle.std.specs.Prelude.{ℕ, ◌+◌, ◌≤◌, ◌<◌, ◌≡◌, true, cond, List, [], ◌∷◌, ◌++◌, map, ltb, leb, length, take, drop}
-use Rattle.std.proofs.Math.Option.{none, some}
-use Rattle.theory.specs.Lists.{all, same, place_that}
+use Rattle.std.specs.Prelude.{ℕ, ◌+◌, ◌≤◌, ◌<◌, ◌≡◌, true, List, [], ◌∷◌, ◌++◌, map, leb, length, take, drop, Some, None, IfSome}
+use Rattle.std.specs.Prelude as rust
+use Rattle.theory.specs.Lists.{all}
 use Rattle.text.specs.Lines.{part}
 use Rattle.tptp.specs.Symbols.{Occurrence, of_variable, first_of_name, letter_of_name}
 use Rattle.tptp.specs.Tptp.{max_letters}
@@ -31,14 +31,18 @@ LettersOf text U v = letters_in text v ≡ first_of_name (λ y. y) U
 abbrev pub variable_occurrence : List ℕ → ℕ → ℕ → Occurrence
 variable_occurrence text start end = of_variable (record { bytes = part text start end; place = start })
 
--- r is the place of the variable x, or the number of variables
-pub record LetterPlace (text : List ℕ) (v : Letters) (x : List ℕ) (r : ℕ) : Type 0 where
-  pub within : r ≤ v.count
-  pub place : place_that (same x) (letters_in text v) ≡ cond (ltb r v.count) (some r) none
+-- the number of a letter, that of a ninth being 8
+abbrev pub letter_number : rust.Option Lettering → ℕ
+letter_number (Some r) = r.place
+letter_number None = max_letters
+
+-- r are the variables with x, whose letter is no ninth
+pub record LetteredWith (text : List ℕ) (v : Letters) (x : List ℕ) (r : Lettering) : Type 0 where
+  pub within : r.place < max_letters
+  pub lettered : Lettered text r.letters
+  pub letters : (U : List (List ℕ)) → LettersOf text U v → LettersOf text (U ++ (x ∷ [])) r.letters
 
 -- r is what an occurrence of the variable x makes of the variables: the number of its letter, and the variables with x where that is no ninth
-pub record LetterFound (text : List ℕ) (v : Letters) (x : List ℕ) (r : Lettering) : Type 0 where
-  pub within : r.place ≤ max_letters
-  pub place : (U : List (List ℕ)) → LettersOf text U v → r.place ≡ letter_of_name (first_of_name (λ y. y) (U ++ (x ∷ []))) x
-  pub lettered : Lettered text r.letters
-  pub letters : r.place < max_letters → (U : List (List ℕ)) → LettersOf text U v → LettersOf text (U ++ (x ∷ [])) r.letters
+pub record LetterFound (text : List ℕ) (v : Letters) (x : List ℕ) (r : rust.Option Lettering) : Type 0 where
+  pub number : (U : List (List ℕ)) → LettersOf text U v → letter_number r ≡ letter_of_name (first_of_name (λ y. y) (U ++ (x ∷ []))) x
+  pub taken : IfSome r (λ l. LetteredWith text v x l)

@@ -1,5 +1,6 @@
 -- The table of the symbols that have appeared, and what one occurrence more leaves.
-use Rattle.std.specs.Prelude.{ℕ, ◌+◌, ◌-◌, ◌≤◌, ◌≡◌, Bool, true, cond, not, ◌||◌, List, ◌∷◌, ◌++◌, eqb, length, take, drop}
+use Rattle.std.specs.Prelude.{ℕ, ◌+◌, ◌-◌, ◌≤◌, ◌≡◌, Bool, true, cond, not, ◌||◌, List, ◌∷◌, ◌++◌, eqb, length, take, drop, Ok, Err, IfOk}
+use Rattle.std.specs.Prelude as rust
 use Rattle.std.specs.Bool.{beq}
 use Rattle.std.proofs.Math.Option.{Option, none, some}
 use Rattle.theory.specs.Lists.{all}
@@ -13,10 +14,11 @@ use Rattle.syntax.specs.declared.signature.Signature.{Signature}
 use Rattle.syntax.specs.Signatures.{kind_of, signature_in}
 use Rattle.clauses.specs.Names.{Readable}
 use Rattle.tptp.specs.Symbols.{Occurrence, of_symbol, declares}
+use Rattle.syntax.specs.declared.faults.Fault as syntax
+use Rattle.syntax.specs.Faults.{number_of}
 use Rattle.tptp.specs.Tptp.{Fault, occurrence_faults}
 use Rattle.tptp.specs.Claims.Order.{first_fault, signature_by}
 use Rattle.declaring.specs.declared.symbols.Symbols.{Symbols}
-use Rattle.declaring.specs.declared.symbols.Declaring.{Declaring}
 
 -- the table has the symbols that X would declare
 pub record TableOf (text : List ℕ) (X : List theory.Symbol) (t : Symbols) : Type 0 where
@@ -49,15 +51,20 @@ pub record TableSays (text : List ℕ) (X : List theory.Symbol) (t : Symbols) : 
 abbrev pub symbol_occurrence : List ℕ → ℕ → ℕ → Bool → ℕ → Occurrence
 symbol_occurrence text start end function arity = of_symbol (record { bytes = part text start end; place = start }) (kind_of function) arity
 
--- the fault that a number tells, 0 being none
-abbrev pub fault_at : ℕ → ℕ → Option Fault
-fault_at n place = cond (eqb n 0) none (some (record { number = n; place = place }))
+-- the fault that a result tells
+abbrev pub fault_at : {A : Type 0} → rust.Result A syntax.Fault → ℕ → Option Fault
+fault_at (Ok a) place = none
+fault_at (Err f) place = some (record { number = number_of f; place = place })
+
+-- r is the table with the symbol that an occurrence declares
+pub record Declared (text : List ℕ) (t : Symbols) (o : Occurrence) (r : Symbols) : Type 0 where
+  pub limited : LimitedTable text r
+  pub table : (X : List theory.Symbol) → TableOf text X t → TableOf text (X ++ declares o) r
 
 -- r is what an occurrence makes of the table: its first fault, or the table with the symbol that it declares
-pub record SymbolDeclared (text : List ℕ) (t : Symbols) (start : ℕ) (o : Occurrence) (r : Declaring) : Type 0 where
-  pub fault : (X : List theory.Symbol) (xs : List (List ℕ)) → TableOf text X t → first_fault (occurrence_faults (signature_by (X ++ declares o)) xs o) ≡ fault_at r.fault start
-  pub limited : r.fault ≡ 0 → LimitedTable text r.table
-  pub table : r.fault ≡ 0 → (X : List theory.Symbol) → TableOf text X t → TableOf text (X ++ declares o) r.table
+pub record SymbolDeclared (text : List ℕ) (t : Symbols) (start : ℕ) (o : Occurrence) (r : rust.Result Symbols syntax.Fault) : Type 0 where
+  pub fault : (X : List theory.Symbol) (xs : List (List ℕ)) → TableOf text X t → first_fault (occurrence_faults (signature_by (X ++ declares o)) xs o) ≡ fault_at r start
+  pub taken : IfOk r (λ s. Declared text t o s)
 
 -- the symbol is not of this kind or not of this arity
 abbrev pub is_other : Symbol → Bool → ℕ → Bool

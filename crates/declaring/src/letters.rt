@@ -1,12 +1,13 @@
 // The variables of one clause in order of first appearance: the first becomes A, the next B.
 ghost use Rattle.std.specs.Prelude.{◌≡◌, List, [], ◌∷◌, ◌++◌, ℕ, ◌+◌, ◌≤◌, ◌<◌, length, take};
 ghost use Rattle.theory.specs.Lists as lists;
+ghost use Rattle.theory.specs.Lists.{place_that};
 ghost use Rattle.text.specs.Lines.{part};
 ghost use Rattle.tptp.specs.Tptp.{max_letters};
-ghost use Rattle.declaring.specs.Letters.{letter_in, Lettered, LettersOf, LetterPlace, LetterFound};
+ghost use Rattle.theory.specs.Options.{told};
+ghost use Rattle.declaring.specs.Letters.{letter_in, letters_in, Lettered, LettersOf, LetterFound};
 
 use syntax::limits::Problem;
-use text::lines::same;
 
 // The place and length of a variable's name in the text.
 #[derive(Clone, Copy)]
@@ -21,8 +22,8 @@ pub struct Letters {
     pub count: usize,
 }
 
-// The variables after an occurrence, and the place of its own among them: MAX_LETTERS where it is the ninth, which is not put in.
-#[derive(Drop)]
+// The variables after an occurrence, and the place of its own among them.
+#[derive(Clone, Copy)]
 pub struct Lettering {
     pub letters: Letters,
     pub place: usize,
@@ -39,41 +40,37 @@ pub fn none() -> Letters
     }
 }
 
-// An occurrence of the variable whose name stands from `start` up to `end`.
-pub fn letter_of(text: &[u8], letters: Letters, start: usize, end: usize) -> Lettering
+// An occurrence of the variable whose name stands from `start` up to `end`; none where it is the ninth, which is not put in.
+pub fn letter_of(text: &[u8], letters: Letters, start: usize, end: usize) -> Option<Lettering>
     requires { Lettered text.now letters × ((start ≤ end) × (end ≤ length text.now)) }
     ensures { LetterFound text.now letters (part text.now start end) result }
 {
-    let place = find_letter(text, letters, &text[start..end]);
-    if place < letters.count {
-        return Lettering { letters, place };
+    if let Some(place) = find_letter(text, letters, &text[start..end]) {
+        return Some(Lettering { letters, place });
     }
+    let place = letters.count;
     if Problem::MAX_LETTERS <= place {
-        return Lettering { letters, place };
+        return None;
     }
     let letter = Letter {
         name: start,
         length: end - start,
     };
-    Lettering {
+    Some(Lettering {
         letters: with_letter(letters, letter),
         place,
-    }
+    })
 }
 
-// The place of the variable with this name, or the number of variables.
-fn find_letter(text: &[u8], letters: Letters, name: &[u8]) -> usize
+// The place of the variable with this name, if one has it.
+fn find_letter(text: &[u8], letters: Letters, name: &[u8]) -> Option<usize>
     requires { Lettered text.now letters }
-    ensures { LetterPlace text.now letters name.now result }
+    ensures { told result ≡ place_that (lists.same name.now) (letters_in text.now letters) }
 {
-    let mut i: usize = 0;
-    while i < letters.count {
-        if is_named(text, letters.names[i], name) {
-            return i;
-        }
-        i += 1;
-    }
-    i
+    let known = &letters.names[..letters.count];
+    known
+        .iter()
+        .position(|letter| is_named(text, *letter, name))
 }
 
 fn is_named(text: &[u8], letter: Letter, name: &[u8]) -> bool
@@ -82,7 +79,7 @@ fn is_named(text: &[u8], letter: Letter, name: &[u8]) -> bool
 {
     let from = letter.name;
     let to = from + letter.length;
-    same(name, &text[from..to])
+    name == &text[from..to]
 }
 
 // The variables with one more.

@@ -5,6 +5,7 @@ ghost use Rattle.declaring.specs.Tables.{TableOf, LimitedTable, symbol_occurrenc
 
 use clauses::names::find_name;
 use problem::symbols::is_name;
+use syntax::faults::Fault;
 use syntax::limits::Problem;
 use syntax::signature::{Signature, Symbol};
 
@@ -13,13 +14,6 @@ use syntax::signature::{Signature, Symbol};
 pub struct Symbols {
     pub signature: Signature,
     pub functions: usize,
-}
-
-// The table after an occurrence; or the number of the occurrence's fault, else 0.
-#[derive(Drop)]
-pub struct Declaring {
-    pub table: Symbols,
-    pub fault: u8,
 }
 
 // The table before the first occurrence.
@@ -41,26 +35,25 @@ pub fn declare(
     end: usize,
     function: bool,
     arity: usize,
-) -> Declaring
+) -> Result<Symbols, Fault>
     requires { LimitedTable text.now table × ((start ≤ end) × (end ≤ length text.now)) }
     ensures { SymbolDeclared text.now table start (symbol_occurrence text.now start end function arity) result }
 {
     let signature = table.signature;
-    let place = find_name(text, signature, &text[start..end]);
-    if place < signature.count {
+    if let Some(place) = find_name(text, signature, &text[start..end]) {
         if is_other(signature.symbols[place], function, arity) {
-            return Declaring { table, fault: 16 };
+            return Err(Fault::SymbolUse);
         }
-        return Declaring { table, fault: 0 };
+        return Ok(table);
     }
     if Problem::MAX_ARITY < arity {
-        return Declaring { table, fault: 17 };
+        return Err(Fault::TextLimits);
     }
     if !is_name(&text[start..end]) {
-        return Declaring { table, fault: 17 };
+        return Err(Fault::TextLimits);
     }
     if Problem::MAX_OF_A_KIND <= count_of_kind(table, function) {
-        return Declaring { table, fault: 17 };
+        return Err(Fault::TextLimits);
     }
     let symbol = Symbol {
         function,
@@ -69,21 +62,14 @@ pub fn declare(
         name: start,
         length: end - start,
     };
-    Declaring {
-        table: with_symbol(table, symbol),
-        fault: 0,
-    }
+    Ok(with_symbol(table, symbol))
 }
 
 // Whether the symbol has another kind or another arity.
 fn is_other(symbol: Symbol, function: bool, arity: usize) -> bool
     ensures { result ≡ is_other symbol function arity }
 {
-    if function != symbol.function {
-        return true;
-    }
-    let first = symbol.arity as usize;
-    arity != first
+    function != symbol.function || arity != symbol.arity as usize
 }
 
 // How many symbols of a kind there are.
@@ -120,13 +106,9 @@ fn insert(mut signature: Signature, at: usize, symbol: Symbol) -> Signature
     requires { (at ≤ signature.count) × (signature.count < 2 * max_symbols) }
     ensures { Inserted signature at symbol result }
 {
-    let mut moved = symbol;
-    let mut i = at;
-    while i < signature.count {
-        let next = signature.symbols[i];
-        signature.symbols[i] = moved;
-        moved = next;
-        i += 1;
-    }
-    signature.with(moved)
+    let count = signature.count;
+    signature.symbols.copy_within(at..count, at + 1);
+    signature.symbols[at] = symbol;
+    signature.count = count + 1;
+    signature
 }

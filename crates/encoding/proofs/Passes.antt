@@ -2,7 +2,7 @@
 use Prim.Native.Nat.{ℕ, ◌+◌, ◌*◌, ◌^◌, ◌≤◌, ◌<◌}
 use mathlib.Core.Path.{◌≡◌, refl, sym, subst}
 use mathlib.Core.Bool.{true}
-use mathlib.Core.List.{List, [], append-nil}
+use mathlib.Core.List.{List, []}
 use native.Mathlib.Omega.{arith}
 use lib.ListN.{length}
 use Rattle.theory.specs.Lists.{all}
@@ -15,103 +15,82 @@ use Rattle.text.specs.Put.{put-none}
 use Rattle.loading.specs.Filling.{area_end}
 use Rattle.loading.specs.Loading.{Tallied, Entered}
 use Rattle.stream.specs.Literals.{all_codes}
-use Rattle.stream.specs.declared.consumer.Mode.{Mode}
-use Rattle.stream.specs.declared.consumer.Mode.TheVariants.{Measure, Write, Tally, Enter}
-use Rattle.stream.specs.Consuming.{texts, Stream, State, state, After, Room, Fits, Consumes, Consumed}
-use Rattle.encoding.specs.Passes.{all_of}
+use Rattle.stream.specs.declared.consumer.Measuring.{Measuring}
+use Rattle.stream.specs.declared.consumer.Writing.{Writing}
+use Rattle.stream.specs.declared.consumer.Tallying.{Tallying}
+use Rattle.stream.specs.declared.consumer.Entering.{Entering}
+use Rattle.stream.specs.Consuming.{texts, Consumes, Consumed}
+use Rattle.stream.specs.Consumers.{Measured, measuring, Written, writing, AreNumbered, CanCount, Counted, tallying, CanEnter, EnteredFirst, entering}
+use Rattle.stream.proofs.Streams.{stream-begins, stream-ends}
 use Rattle.encoding.proofs.Bounds.{clauses-short, clauses-few, literals-few, area-few, all-numbered, texts-few}
 
 module _ (sheet : List ℕ) (p : Problem) (h : Accepted sheet p) (s : ℕ) (high : s ≤ 8)
-    (few : instance_count_with p.symmetry s (problem_in sheet p).symbols (problem_in sheet p).clauses ≤ 1000000) (low : 1 ≤ s)
-    (v : ℕ) (e : v ≡ prop_count s (problem_in sheet p).symbols) (output work : List ℕ) where
+    (few : instance_count_with p.symmetry s (problem_in sheet p).symbols (problem_in sheet p).clauses ≤ 1000000) (low : 1 ≤ s) where
   -- all clauses, in written order
   abbrev written : List PropClause
   written = prop_clauses_with p.symmetry s (problem_in sheet p).symbols (problem_in sheet p).clauses
 
-  abbrev whole : ℕ → Stream
-  whole start = all_of p.symmetry s (problem_in sheet p) v start output work
+  written-numbered : (v : ℕ) → v ≡ prop_count s (problem_in sheet p).symbols → AreNumbered v written
+  written-numbered v e = subst (λ (n : ℕ). all (all (is_numbered n)) written ≡ true) (sym e) (all-numbered sheet p h s high few low)
 
-  -- the state before the first clause
-  abbrev first : ℕ → State
-  first start = state (record { at = start; count = 0 }) output work
-
-  fitting : (mode : Mode) (start : ℕ) → Room mode (whole start) → Fits mode (whole start)
-  fitting mode start r =
-      record {
-        numbered = subst (λ (n : ℕ). all (all (is_numbered n)) written ≡ true) (sym e) (all-numbered sheet p h s high few low);
-        count = omega (arith, clauses-few sheet p h s high few low);
-        room = r;
-      }
-
-  begins : (mode : Mode) (start : ℕ) → Fits mode (whole start) → After mode (whole start) [] (first start) → Consumes mode v written (first start)
-  begins mode start f a =
-      record {
-        stream = whole start;
-        before = [];
-        after = [];
-        variables = refl;
-        split = sym (append-nil written);
-        so_far = a;
-        fits = f;
-      }
-
-  ends : (mode : Mode) (start : ℕ) → Fits mode (whole start) → After mode (whole start) [] (first start) → (y : State)
-      → Consumed mode v written (first start) y → After mode (whole start) written y
-  ends mode start f a y c = c (whole start) [] [] refl (sym (append-nil written)) f a
+  count-small : length written < 2 ^ 64
+  count-small = omega (arith, clauses-few sheet p h s high few low)
 
   -- Measuring: a start that leaves room is all that is asked.
-  module _ (start : ℕ) (room : start < 2 ^ 43) where
-    measure-fits : Fits Measure (whole start)
-    measure-fits = fitting Measure start (omega (arith, texts-few sheet p h s high few low))
+  module _ (x : Measuring) (room : x.at < 2 ^ 43) (count : x.count ≡ 0) where
+    measure-first : Measured x [] x
+    measure-first = record { at = omega arith; count = count }
 
-    measure-first : After Measure (whole start) [] (first start)
-    measure-first = record { at = omega arith; count = refl; output = refl; work = refl; long = refl }
+    measure-fits : (length written < 2 ^ 64) × (x.at + length (texts written) < 2 ^ 64)
+    measure-fits = (count-small, omega (arith, texts-few sheet p h s high few low))
 
-    pub measure-begins : Consumes Measure v written (first start)
-    measure-begins = begins Measure start measure-fits measure-first
+    pub measure-begins : Consumes measuring written x
+    measure-begins = stream-begins measuring written x measure-fits measure-first
 
-    pub measure-ends : (y : State) → Consumed Measure v written (first start) y → After Measure (whole start) written y
-    measure-ends = ends Measure start measure-fits measure-first
+    pub measure-ends : (y : Measuring) → Consumed measuring written x y → Measured x written y
+    measure-ends = stream-ends measuring written x measure-fits measure-first
 
   -- Writing: the text fits in the output.
-  module _ (start : ℕ) (room : start + length (texts written) ≤ length output) where
-    write-fits : Fits Write (whole start)
-    write-fits = fitting Write start room
+  module _ (x : Writing) (room : x.at + length (texts written) ≤ length x.output.now) (count : x.count ≡ 0) where
+    write-first : Written x [] x
+    write-first = record { same_reference = refl; at = omega arith; count = count; output = sym (put-none x.output.now x.at) }
 
-    write-first : After Write (whole start) [] (first start)
-    write-first = record { at = omega arith; count = refl; output = sym (put-none output start); work = refl; long = refl }
+    pub write-begins : Consumes writing written x
+    write-begins = stream-begins writing written x (count-small, room) write-first
 
-    pub write-begins : Consumes Write v written (first start)
-    write-begins = begins Write start write-fits write-first
-
-    pub write-ends : (y : State) → Consumed Write v written (first start) y → After Write (whole start) written y
-    write-ends = ends Write start write-fits write-first
+    pub write-ends : (y : Writing) → Consumed writing written x y → Written x written y
+    write-ends = stream-ends writing written x (count-small, room) write-first
 
   -- Counting: no clause is counted yet.
-  module _ (start : ℕ) (room : 7 * v ≤ length work) (none : Tallied v [] work) where
-    tally-fits : Fits Tally (whole start)
-    tally-fits = fitting Tally start (room, omega (arith, literals-few sheet p h s high few low))
+  module _ (x : Tallying) (e : x.variables ≡ prop_count s (problem_in sheet p).symbols) (count : x.count ≡ 0) (room : 7 * x.variables ≤ length x.work.now) (none : Tallied x.variables [] x.work.now) where
+    tally-first : Counted x [] x
+    tally-first = record { same_reference = refl; variables = refl; count = count; work = none; long = refl }
 
-    tally-first : After Tally (whole start) [] (first start)
-    tally-first = record { at = omega arith; count = refl; output = refl; work = none; long = refl }
+    tally-fits : CanCount written x
+    tally-fits = record { numbered = written-numbered x.variables e; count = count-small; room = room; few = omega (arith, literals-few sheet p h s high few low) }
 
-    pub tally-begins : Consumes Tally v written (first start)
-    tally-begins = begins Tally start tally-fits tally-first
+    pub tally-begins : Consumes tallying written x
+    tally-begins = stream-begins tallying written x tally-fits tally-first
 
-    pub tally-ends : (y : State) → Consumed Tally v written (first start) y → After Tally (whole start) written y
-    tally-ends = ends Tally start tally-fits tally-first
+    pub tally-ends : (y : Tallying) → Consumed tallying written x y → Counted x written y
+    tally-ends = stream-ends tallying written x tally-fits tally-first
 
   -- Entering: the blocks are laid out, and no clause is entered yet.
-  module _ (start : ℕ) (none : Entered v (all_codes written) [] work) where
-    enter-fits : Fits Enter (whole start)
+  module _ (x : Entering) (e : x.variables ≡ prop_count s (problem_in sheet p).symbols) (count : x.count ≡ 0) (none : Entered x.variables (all_codes written) [] x.work.now) where
+    enter-first : EnteredFirst written x [] x
+    enter-first = record { same_reference = refl; variables = refl; count = count; work = none; long = refl }
+
+    enter-fits : CanEnter written x
     enter-fits =
-        fitting Enter start (clauses-short sheet p h s high, subst (λ (n : ℕ). area_end n (all_codes written) < 2 ^ 32) (sym e) (area-few sheet p h s high few low))
+        record {
+          numbered = written-numbered x.variables e;
+          count = count-small;
+          short = clauses-short sheet p h s high;
+          room = subst (λ (n : ℕ). area_end n (all_codes written) < 2 ^ 32) (sym e) (area-few sheet p h s high few low);
+        }
 
-    enter-first : After Enter (whole start) [] (first start)
-    enter-first = record { at = omega arith; count = refl; output = refl; work = none; long = refl }
+    pub enter-begins : Consumes entering written x
+    enter-begins = stream-begins entering written x enter-fits enter-first
 
-    pub enter-begins : Consumes Enter v written (first start)
-    enter-begins = begins Enter start enter-fits enter-first
-
-    pub enter-ends : (y : State) → Consumed Enter v written (first start) y → After Enter (whole start) written y
-    enter-ends = ends Enter start enter-fits enter-first
+    pub enter-ends : (y : Entering) → Consumed entering written x y → EnteredFirst written x written y
+    enter-ends = stream-ends entering written x enter-fits enter-first

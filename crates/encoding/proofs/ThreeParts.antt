@@ -20,8 +20,7 @@ use Rattle.syntax.specs.Signatures.{symbol_in, signature_in}
 use Rattle.clauses.specs.Names.{Limited}
 use Rattle.clauses.proofs.Held.{count-signature_in, symbol_at-signature_in}
 use Rattle.problem.specs.Problems.{problem_in}
-use Rattle.stream.specs.declared.consumer.Mode.{Mode}
-use Rattle.stream.specs.Consuming.{State, Consumes, Consumed}
+use Rattle.stream.specs.Consuming.{Effect, Consumes, Consumed}
 use Rattle.stream.proofs.Streams.{both-consumed, first-consumes, rest-consumes, consumes-same, consumed-same}
 use Rattle.grounding.specs.CellPart.{cell_part}
 use Rattle.valuations.specs.declared.numbering.Numbering.{Numbering}
@@ -48,7 +47,7 @@ three-parts b s q =
     (concat_map-append clauses twins rest ∙ ap₂ (λ (xs ys : List PropClause). xs ++ ys) (twins-used b s g) (concat_map-map clauses (clause_part s g) q.clauses))
 
 -- Taking all clauses, as those three parts.
-module _ (sheet : List ℕ) (p : limits.Problem) (mode : Mode) (s v : ℕ) where
+module _ {S : Type 0} (effect : Effect S) (sheet : List ℕ) (p : limits.Problem) (s : ℕ) where
   abbrev written : List PropClause
   written = prop_clauses_with p.symmetry s (problem_in sheet p).symbols (problem_in sheet p).clauses
 
@@ -65,21 +64,21 @@ module _ (sheet : List ℕ) (p : limits.Problem) (mode : Mode) (s v : ℕ) where
   unfolding problem_in
   whole = three-parts p.symmetry s (problem_in sheet p)
 
-  pub cells-first : (x : State) → Consumes mode v written x → Consumes mode v cells x
-  cells-first x h = first-consumes mode v cells (twins ++ rest) x (consumes-same mode v written (cells ++ (twins ++ rest)) x whole h)
+  pub cells-first : (x : S) → Consumes effect written x → Consumes effect cells x
+  cells-first x h = first-consumes effect cells (twins ++ rest) x (consumes-same effect written (cells ++ (twins ++ rest)) x whole h)
 
-  after-cells : (x y : State) → Consumes mode v written x → Consumed mode v cells x y → Consumes mode v (twins ++ rest) y
-  after-cells x y h c = rest-consumes mode v cells (twins ++ rest) x y (consumes-same mode v written (cells ++ (twins ++ rest)) x whole h) c
+  after-cells : (x y : S) → Consumes effect written x → Consumed effect cells x y → Consumes effect (twins ++ rest) y
+  after-cells x y h c = rest-consumes effect cells (twins ++ rest) x y (consumes-same effect written (cells ++ (twins ++ rest)) x whole h) c
 
-  pub twins-next : (x y : State) → Consumes mode v written x → Consumed mode v cells x y → Consumes mode v twins y
-  twins-next x y h c = first-consumes mode v twins rest y (after-cells x y h c)
+  pub twins-next : (x y : S) → Consumes effect written x → Consumed effect cells x y → Consumes effect twins y
+  twins-next x y h c = first-consumes effect twins rest y (after-cells x y h c)
 
-  pub instances-next : (x y z : State) → Consumes mode v written x → Consumed mode v cells x y → Consumed mode v twins y z → Consumes mode v rest z
-  instances-next x y z h c d = rest-consumes mode v twins rest y z (after-cells x y h c) d
+  pub instances-next : (x y z : S) → Consumes effect written x → Consumed effect cells x y → Consumed effect twins y z → Consumes effect rest z
+  instances-next x y z h c d = rest-consumes effect twins rest y z (after-cells x y h c) d
 
-  pub all-taken : (x y z w : State) → Consumed mode v cells x y → Consumed mode v twins y z → Consumed mode v rest z w → Consumed mode v written x w
+  pub all-taken : (x y z w : S) → Consumed effect cells x y → Consumed effect twins y z → Consumed effect rest z w → Consumed effect written x w
   all-taken x y z w c d e =
-      consumed-same mode v (cells ++ (twins ++ rest)) written x w (sym whole) (both-consumed mode v cells (twins ++ rest) x y w c (both-consumed mode v twins rest y z w d e))
+      consumed-same effect (cells ++ (twins ++ rest)) written x w (sym whole) (both-consumed effect cells (twins ++ rest) x y w c (both-consumed effect twins rest y z w d e))
 
 -- The signature of the same symbols in another sheet.
 module _ (y : declared.Signature) (h : Limited y) (a b : List ℕ) (s : ℕ) where

@@ -9,9 +9,8 @@ use Rattle.theory.specs.Operations.{Search}
 use Rattle.allowance.specs.AllowedFind.{Stoppable, allowed_answer, allowed_output, allowed_work}
 use Rattle.answers.specs.declared.Refusal.{Refusal}
 use Rattle.answers.specs.Answers.{refusal_in}
-use Rattle.finding.specs.declared.allowed.AllowedAnswer.{AllowedAnswer}
-use Rattle.finding.specs.declared.allowed.AllowedAnswer.TheVariants as find
-use Rattle.finding.specs.Calls.{allowed_in}
+use Rattle.std.specs.Prelude.{Err}
+use Rattle.finding.specs.Calls.{AllowedAnswer, allowed_in}
 use Rattle.finding.specs.Ending.{Ends}
 
 module _ (finds : ℕ → ℕ → Answer (Stoppable Search)) (r : AllowedAnswer) (work work' output output' : List ℕ) where
@@ -31,8 +30,8 @@ module _ (finds : ℕ → ℕ → Answer (Stoppable Search)) (r : AllowedAnswer)
 
 -- a refusal changes nothing
 pub ends-refused : (finds : ℕ → ℕ → Answer (Stoppable Search)) (r : Refusal) (q : theory.Refusal) (work output : List ℕ) → finds (length work) (length output) ≡ refused q → refusal_in r ≡ q
-    → Ends finds (find.Refused r) work work output output
-ends-refused finds r q work output e f = ends_by finds (find.Refused r) work work output output (refused q) e (ap (λ (q : theory.Refusal). refused q) f) refl refl
+    → Ends finds (Err r) work work output output
+ends-refused finds r q work output e f = ends_by finds (Err r) work work output output (refused q) e (ap (λ (q : theory.Refusal). refused q) f) refl refl
 
 -- a result that was found in a work area of the same length and written over the same output
 pub ends-whole : (finds : ℕ → ℕ → Answer (Stoppable Search)) (w : Stoppable Search) (r : AllowedAnswer) (work₀ work work' output₀ output output' : List ℕ)

@@ -15,17 +15,14 @@ use Rattle.loading.proofs.Ready.{zeros-tallied, area_end-codes}
 use Rattle.syntax.specs.declared.limits.Problem.{Problem}
 use Rattle.syntax.specs.Signatures.{signature_in}
 use Rattle.problem.specs.Problems.{problem_in}
-use Rattle.stream.specs.declared.consumer.Mode.TheVariants.{Tally, Enter}
-use Rattle.stream.specs.declared.consumer.Progress.{Progress}
+use Rattle.stream.specs.declared.consumer.Tallying.{Tallying}
+use Rattle.stream.specs.declared.consumer.Entering.{Entering}
 use Rattle.stream.specs.Literals.{all_codes}
-use Rattle.stream.specs.Consuming.{state, Consumes, Consumed}
+use Rattle.stream.specs.Consuming.{Consumes, Consumed}
+use Rattle.stream.specs.Consumers.{Counted, tallying, EnteredFirst, entering}
 use Rattle.encoding.proofs.Bounds as bounds
 use Rattle.encoding.proofs.Passes as passes
 use Rattle.finding.specs.Searching.{Searchable, sheet_clauses}
-
--- before the first clause
-abbrev start : Progress
-start = record { at = 0; count = 0 }
 
 module _ (sheet : List ℕ) (p : Problem) (size n v : ℕ) (h : Searchable sheet p size n) (e : v ≡ prop_count size (signature_in sheet p.signature)) where
   abbrev cs : List PropClause
@@ -51,30 +48,27 @@ module _ (sheet : List ℕ) (p : Problem) (size n v : ℕ) (h : Searchable sheet
   pub area-room : 7 * v ≤ n
   area-room = omega (arith, area-within, area_end-codes v cs)
 
-  module _ (out work : List ℕ) where
-    -- the clauses are counted in a work area of zeros
-    module _ (m : ℕ) (zeros : work ≡ replicate m 0) (long : length work ≡ n) where
-      none-tallied : Tallied v [] work
-      none-tallied = subst (Tallied v []) (sym zeros) (zeros-tallied v m)
+  -- the clauses are counted in a work area of zeros
+  module _ (x : Tallying) (m : ℕ) (of : x.variables ≡ v) (count : x.count ≡ 0) (zeros : x.work.now ≡ replicate m 0) (long : length x.work.now ≡ n) where
+    none-tallied : Tallied x.variables [] x.work.now
+    none-tallied = subst (Tallied x.variables []) (sym zeros) (zeros-tallied x.variables m)
 
-      room : 7 * v ≤ length work
-      room = omega (arith, area-room)
+    room : 7 * x.variables ≤ length x.work.now
+    room = omega (arith, area-room)
 
-      pub tally-begins : Consumes Tally v cs (state start out work)
-      tally-begins = passes.tally-begins sheet p h.accepted size h.within h.instances h.positive v same_count out work 0 room none-tallied
+    pub tally-begins : Consumes tallying cs x
+    tally-begins = passes.tally-begins sheet p h.accepted size h.within h.instances h.positive x (of ∙ same_count) count room none-tallied
 
-      pub tally-ends : (r : Progress) (out' work' : List ℕ) → Consumed Tally v cs (state start out work) (state r out' work') → (length cs ≡ r.count) × Tallied v (all_codes cs) work'
-      tally-ends r out' work' d =
-          let a = passes.tally-ends sheet p h.accepted size h.within h.instances h.positive v same_count out work 0 room none-tallied (state r out' work') d in
-          (sym a.count, a.work)
+    pub tally-ends : (y : Tallying) → Consumed tallying cs x y → Counted x cs y
+    tally-ends = passes.tally-ends sheet p h.accepted size h.within h.instances h.positive x (of ∙ same_count) count room none-tallied
 
-    -- and entered in one where their blocks are laid out
-    module _ (none : Entered v (all_codes cs) [] work) where
-      pub enter-begins : Consumes Enter v cs (state start out work)
-      enter-begins = passes.enter-begins sheet p h.accepted size h.within h.instances h.positive v same_count out work 0 none
+  -- and entered in one where their blocks are laid out
+  module _ (x : Entering) (of : x.variables ≡ v) (count : x.count ≡ 0) (none : Entered x.variables (all_codes cs) [] x.work.now) where
+    pub enter-begins : Consumes entering cs x
+    enter-begins = passes.enter-begins sheet p h.accepted size h.within h.instances h.positive x (of ∙ same_count) count none
 
-      pub enter-ends : (r : Progress) (out' work' : List ℕ) → Consumed Enter v cs (state start out work) (state r out' work') → Entered v (all_codes cs) (all_codes cs) work'
-      enter-ends r out' work' d = (passes.enter-ends sheet p h.accepted size h.within h.instances h.positive v same_count out work 0 none (state r out' work') d).work
+    pub enter-ends : (y : Entering) → Consumed entering cs x y → EnteredFirst cs x cs y
+    enter-ends = passes.enter-ends sheet p h.accepted size h.within h.instances h.positive x (of ∙ same_count) count none
 
   -- the blocks of the counted clauses can be laid out
   pub boundable : (m : ℕ) (work : List ℕ) → length cs ≡ m → length work ≡ n → Tallied v (all_codes cs) work → Boundable v m work

@@ -2,20 +2,17 @@
 use Prim.Native.Nat.{ℕ, ◌≤◌, ◌<◌}
 use mathlib.Core.Path.{◌≡◌, sym, ap, ◌∙◌}
 use mathlib.Core.Logic.{◌⊎◌, inl, inr}
-use mathlib.Core.Bool.{Bool, true, false, cond}
-use mathlib.Core.Option.{Option, none, some}
+use mathlib.Core.Bool.{Bool}
+use mathlib.Core.Option.{Option}
 use mathlib.Core.List.{List}
 use native.Mathlib.Omega.{arith}
 use Rattle.theory.specs.Propositional.{prop_count}
-use Rattle.theory.specs.Valuation.{setting_of}
 use Rattle.theory.specs.Problem as theory
 use Rattle.theory.specs.Walk.{walked, yes_first}
 use Rattle.symmetry.specs.Obeying.{searched_with}
 use Rattle.allowance.specs.AllowedWalk.{ended, stopped, searched_within}
 use Rattle.allowance.specs.Claims.AllowedWalk.{cut}
 use Rattle.allowance.proofs.AllowedWalk.{cut-enough, cut-stopped, at-most-or-more, searched-within}
-use Rattle.search.specs.declared.Outcome.{Outcome}
-use Rattle.search.specs.Search.{search_answer, end_told}
 use Rattle.syntax.specs.declared.limits.Problem.{Problem}
 use Rattle.syntax.specs.Signatures.{signature_in}
 use Rattle.problem.specs.Problems.{problem_in}
@@ -43,17 +40,3 @@ ended-within used s p left o n e = go (at-most-or-more (searched_with used s p).
         let i = ended-inj (searched_with used s p).answer o (searched_with used s p).choices n (sym (cut-enough left (searched_with used s p) h) ∙ sym (searched-within used s p left) ∙ e) in
         (i.0, omega (arith, i.1, h))
     go (inr h) = absurd (stopped≢ended o n (sym (cut-stopped left (searched_with used s p) h) ∙ sym (searched-within used s p left) ∙ e))
-
--- how the search says that the walk ends, by what it answers
-module _ (r : Outcome) (zs : List ℕ) where
-  pub end-stopped : r.stopped ≡ true → end_told r zs ≡ stopped
-  end-stopped e = ap (λ (b : Bool). cond b stopped (ended (search_answer r.found zs) r.choices)) e
-
-  pub end-finished : r.stopped ≡ false → end_told r zs ≡ ended (search_answer r.found zs) r.choices
-  end-finished e = ap (λ (b : Bool). cond b stopped (ended (search_answer r.found zs) r.choices)) e
-
-  pub end-found : r.stopped ≡ false → r.found ≡ true → end_told r zs ≡ ended (some (setting_of zs)) r.choices
-  end-found e f = end-finished e ∙ ap (λ (b : Bool). ended (search_answer b zs) r.choices) f
-
-  pub end_none : r.stopped ≡ false → r.found ≡ false → end_told r zs ≡ ended none r.choices
-  end_none e f = end-finished e ∙ ap (λ (b : Bool). ended (search_answer b zs) r.choices) f

@@ -1,11 +1,10 @@
 -- A model that was found is written, and the work area cleared.
 use Prim.Native.Nat.{ℕ, ◌≤◌}
 use mathlib.Core.Path.{◌≡◌, refl, sym, ap, ◌∙◌, subst}
-use mathlib.Core.Bool.{Bool, true, cond}
+use mathlib.Core.Bool.{true}
 use mathlib.Core.Option.{some}
-use mathlib.Core.List.{List, [], ◌∷◌}
+use mathlib.Core.List.{List}
 use native.Mathlib.Omega.{arith}
-use lib.Dec.{eqb-suc-zero}
 use lib.ListN.{length, take, replicate}
 use lib.Seq.{take-take}
 use Rattle.theory.specs.Syntax as theory
@@ -26,22 +25,17 @@ use Rattle.clauses.specs.Names.{Limited, Readable}
 use Rattle.problem.specs.Problems.{problem_in}
 use Rattle.valuations.specs.declared.numbering.Numbering.{Numbering}
 use Rattle.valuations.specs.Numbers.{NumberingOf}
-use Rattle.reading_back.specs.Bits.{bits_held, WritableBits, FrontLent, case_said}
+use Rattle.reading_back.specs.Bits.{WritableBits, FrontLent, case_said}
 use Rattle.reading_back.specs.Settings.{SizedSymbols}
 use Rattle.reading_back.proofs.Fronts.{front-is, front-bits, front-lent, shown-said, shown-long}
 use Rattle.reading_back.proofs.Shown.{readable-first, variables-first}
 use Rattle.finding.specs.Searching.{Searchable}
-use Rattle.finding.specs.declared.allowed.AllowedAnswer.TheVariants as find
+use Rattle.std.specs.Prelude.{Ok}
+use Rattle.finding.specs.declared.allowed.FindResult.TheVariants as find
 use Rattle.finding.specs.Ending.{Ends, case_found}
 use Rattle.finding.proofs.Found.{FoundAt, found_at}
 use Rattle.finding.proofs.SizeBySize.{clauses-over}
 use Rattle.finding.proofs.Endings.{ends_by}
-
--- the bits of a search's values
-bits-held : (zs : List ℕ) → bits_held [] zs ≡ setting_of zs
-unfolding bits_held
-bits-held [] = refl
-bits-held (z ∷ zs) = ap (λ (b : Bool). cond b [] (setting_of (z ∷ zs))) (eqb-suc-zero (length zs))
 
 -- the variables of a problem
 abbrev variables_of : List ℕ → Problem → ℕ → ℕ
@@ -84,13 +78,12 @@ module _ (sheet : List ℕ) (p : Problem) (size : ℕ) (work : List ℕ) (h : Se
   few = omega (arith, numbering.count, ap (λ (y : Signature). prop_count size (signature_in sheet y)) is, variables-first p.signature sheet size)
 
   -- their values, and the bits of these
-  values-are : bits_held [] (take n.count work) ≡ take n.count σ
+  values-are : setting_of (take n.count work) ≡ take n.count σ
   values-are =
-      bits-held (take n.count work)
-      ∙ ap setting_of (sym (take-take n.count (variables_of sheet p size) work few))
+      ap setting_of (sym (take-take n.count (variables_of sheet p size) work few))
       ∙ map-take _ n.count (take (variables_of sheet p size) work)
 
-  pub writable : WritableBits sheet y n size (bits_held [] (take n.count work))
+  pub writable : WritableBits sheet y n size (setting_of (take n.count work))
   writable = subst (WritableBits sheet y n size) (sym values-are) (front-bits sheet y size σ lent n numbering)
 
   pub case-room : (room : ℕ) → case_length size (shown_symbols (problem_in sheet p).symbols) ≤ room → case_length size (signature_in sheet y) ≤ room
@@ -98,12 +91,12 @@ module _ (sheet : List ℕ) (p : Problem) (size : ℕ) (work : List ℕ) (h : Se
   case-room room l = omega (arith, ap (λ (y : Signature). case_length size (signature_in sheet y)) is, ap (case_length size) h.shows)
 
   pub written-ends : (length' choices : ℕ) (work' output output' : List ℕ) → length' ≡ case_length size (signature_in sheet y) → work' ≡ replicate (length work) 0
-      → output' ≡ over (case_said sheet y size (bits_held [] (take n.count work))) output
-      → Ends (λ _ _. answer (case_found (problem_in sheet p) size (take (variables_of sheet p size) work) choices)) (find.Found size length' choices) work work' output output'
+      → output' ≡ over (case_said sheet y size (setting_of (take n.count work))) output
+      → Ends (λ _ _. answer (case_found (problem_in sheet p) size (take (variables_of sheet p size) work) choices)) (Ok (find.Found size length' choices)) work work' output output'
   unfolding problem_in
   written-ends length' choices work' output output' l w o =
       let it = answer (case_found (problem_in sheet p) size (take (variables_of sheet p size) work) choices) in
-      ends_by (λ _ _. it) (find.Found size length' choices) work work' output output' it refl
+      ends_by (λ _ _. it) (Ok (find.Found size length' choices)) work work' output output' it refl
       (ap (λ (k : ℕ). answer (finished (found_case size k) choices)) (l ∙ shown-long sheet p.signature size σ symbols y is valuation functional))
       w
       (o

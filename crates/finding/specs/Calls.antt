@@ -1,18 +1,24 @@
 -- One call of Find: what it was handed, the answer r, and each lent buffer before and after. This record is its promise, and the theorems on Find speak of it.
-use Rattle.std.specs.Prelude.{ℕ, ◌≡◌, Bool, List, length}
+use Rattle.std.specs.Prelude.{ℕ, ◌≡◌, Bool, List, length, Ok, Err}
+use Rattle.std.specs.Prelude as rust
 use Rattle.theory.specs.Refusals.{Answer, answer, refused}
 use Rattle.theory.specs.Operations.{Search, Found, found_case, no_case}
 use Rattle.allowance.specs.AllowedFind.{Stoppable, finished, stopped, find_within, allowed_answer, allowed_output, allowed_work}
 use Rattle.answers.specs.Answers.{refusal_in}
-use Rattle.finding.specs.declared.allowed.AllowedAnswer.{AllowedAnswer}
-use Rattle.finding.specs.declared.allowed.AllowedAnswer.TheVariants as find
+use Rattle.answers.specs.declared.Refusal.{Refusal}
+use Rattle.finding.specs.declared.allowed.FindResult.{FindResult}
+use Rattle.finding.specs.declared.allowed.FindResult.TheVariants as find
+
+-- what the code's type of the answer is
+abbrev pub AllowedAnswer : Type 0
+AllowedAnswer = rust.Result FindResult Refusal
 
 -- Find's size and length, or none with the mark settled, each with the choices made; or stopped
 abbrev pub allowed_in : AllowedAnswer → Answer (Stoppable Found)
-allowed_in (find.Found s n k) = answer (finished (found_case s n) k)
-allowed_in (find.Nothing b k) = answer (finished (no_case b) k)
-allowed_in (find.Stopped s k) = answer (stopped s k)
-allowed_in (find.Refused r) = refused (refusal_in r)
+allowed_in (Ok (find.Found s n k)) = answer (finished (found_case s n) k)
+allowed_in (Ok (find.Nothing b k)) = answer (finished (no_case b) k)
+allowed_in (Ok (find.Stopped s k)) = answer (stopped s k)
+allowed_in (Err r) = refused (refusal_in r)
 
 -- a call that searches with this result under an allowance, or is refused
 pub record AllowedCall (result : Answer (Stoppable Search)) (r : AllowedAnswer) (work work' output output' : List ℕ) : Type 0 where

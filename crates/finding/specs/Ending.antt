@@ -13,8 +13,7 @@ use Rattle.allowance.specs.AllowedFind.{max_allowance, Stoppable, finished, with
 use Rattle.syntax.specs.declared.limits.Problem.{Problem}
 use Rattle.problem.specs.Problems.{problem_in, Accepted}
 use Rattle.problem.specs.Modes.{Shows}
-use Rattle.finding.specs.declared.allowed.AllowedAnswer.{AllowedAnswer}
-use Rattle.finding.specs.Calls.{AllowedCall}
+use Rattle.finding.specs.Calls.{AllowedAnswer, AllowedCall}
 use Rattle.finding.specs.Searching.{Searchable}
 
 -- a call that ends with what is found, given so many numbers of work and so many bytes of output

@@ -2,10 +2,12 @@
 use answers::Refusal;
 
 // The size of the model and the length of its case, or none and the mark settled, each with the choices made over all sizes; or stopped at a size, all that are allowed being made.
-#[derive(Drop)]
-pub enum AllowedAnswer {
+#[derive(Clone, Copy)]
+pub enum FindResult {
     Found(u64, usize, u64),
     Nothing(bool, u64),
     Stopped(u64, u64),
-    Refused(Refusal),
 }
+
+// Find.
+pub type AllowedAnswer = Result<FindResult, Refusal>;

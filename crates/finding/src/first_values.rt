@@ -23,12 +23,10 @@ pub fn prefer_all(signature: Signature, size: DomainSize, v: usize, work: &mut [
     ensures values { (sheet : List ℕ) → Prefers v v (yes_first size.0 (signature_in sheet signature)) work.new }
 {
     let mut from = PropVar(0);
-    let mut i: usize = 0;
-    while i < signature.count {
+    for i in 0..signature.count {
         let symbol = signature.symbols[i];
         let end = from.0 + block_size(symbol, size);
         prefer(work, v, from, PropVar(end), symbol.function);
         from = PropVar(end);
-        i += 1;
     }
 }

@@ -18,11 +18,11 @@ ghost use Rattle.finding.specs.Ending.{Ends, Ranged, found_in};
 use allowed::AllowedAnswer;
 use answers::{at_line, needing};
 use cases::writing::case_length;
-use columns::sheet::refusal_in;
+use columns::opened::open_sheet;
 use counts::{Counts, counts_at};
-use problem::modes::read_in;
-use ranges::range::{RangeCheck, checked_range};
+use ranges::range::checked_range;
 use sizes::search_sizes;
+use syntax::faults::Fault;
 use syntax::limits::Problem;
 use syntax::signature::Signature;
 use syntax::size::DomainSize;
@@ -43,16 +43,12 @@ pub fn find_model(
 ) -> AllowedAnswer
     ensures { FindCall sheet.now low high named symmetry allowance result work.old work.new output.old output.new }
 {
-    let r = read_in(sheet, named);
-    if r.fault != 0 {
-        return AllowedAnswer::Refused(refusal_in(sheet, named, r.fault, r.line));
-    }
-    let mut p = r.problem;
+    let mut p = open_sheet(sheet, named)?;
     p.symmetry = symmetry;
-    match checked_range(low, high) {
-        RangeCheck::Refused => AllowedAnswer::Refused(at_line(8, 0)),
-        RangeCheck::Is(least, most) => find_in(sheet, p, least, most, allowance, work, output),
-    }
+    let Some((least, most)) = checked_range(low, high) else {
+        return Err(at_line(Fault::Size, 0));
+    };
+    find_in(sheet, p, least, most, allowance, work, output)
 }
 
 // At checked sizes: the other refusals, in order, then the search.
@@ -69,21 +65,21 @@ fn find_in(
     ensures { Ends (found_in p.symmetry (problem_in sheet.now p) low.0 high.0 allowance) result work.old work.new output.old output.new }
 {
     if MAX_ALLOWANCE < allowance {
-        return AllowedAnswer::Refused(at_line(24, 0));
+        return Err(at_line(Fault::Allowance, 0));
     }
     let c = counts_at(sheet, p, high);
     if Counts::MAX_INSTANCES < c.instances {
-        return AllowedAnswer::Refused(at_line(9, 0));
+        return Err(at_line(Fault::Instances, 0));
     }
     let signature = p.signature;
     let n = numbering_of(signature, high);
     let needed = work_needed(c, n.count as usize);
     let length = shown_length(signature, high);
     if work.len() < needed {
-        return AllowedAnswer::Refused(needing(10, needed));
+        return Err(needing(Fault::WorkLength, needed));
     }
     if output.len() < length {
-        return AllowedAnswer::Refused(needing(11, length));
+        return Err(needing(Fault::OutputLength, length));
     }
     search_sizes(sheet, p, low, high, allowance, work, output)
 }

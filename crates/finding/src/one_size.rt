@@ -15,7 +15,7 @@ use crate::first_values::prefer_all;
 use encoding::all_clauses;
 use loading::{bounds, clear_all};
 use search::{Outcome, solve};
-use stream::consumer::{Mode, Progress};
+use stream::consumer::{Entering, Tallying};
 use syntax::limits::Problem;
 use syntax::size::DomainSize;
 use valuations::numbering::Numbering;
@@ -33,19 +33,15 @@ fn count_clauses(
     ensures number { length (sheet_clauses size.0 sheet.now p) ≡ result }
     ensures tallied { Tallied n.count (all_codes (sheet_clauses size.0 sheet.now p)) work.new }
 {
-    let mut no_text = [0u8; 1];
     clear_all(work);
-    let all = all_clauses(
-        Mode::Tally,
-        sheet,
-        p,
-        n,
-        size,
-        &mut no_text,
+    let variables = n.count as usize;
+    let mut tallying = Tallying {
         work,
-        Progress { at: 0, count: 0 },
-    );
-    all.count
+        variables,
+        count: 0,
+    };
+    all_clauses(sheet, p, n, size, &mut tallying);
+    tallying.count
 }
 
 // Enters the m clauses at a size that were counted.
@@ -63,19 +59,14 @@ fn enter_clauses(
     requires tallied { Tallied n.count (all_codes (sheet_clauses size.0 sheet.now p)) work.old }
     ensures { Entered n.count (all_codes (sheet_clauses size.0 sheet.now p)) (all_codes (sheet_clauses size.0 sheet.now p)) work.new }
 {
-    let v = n.count as usize;
-    bounds(work, v, m);
-    let mut no_text = [0u8; 1];
-    all_clauses(
-        Mode::Enter,
-        sheet,
-        p,
-        n,
-        size,
-        &mut no_text,
+    let variables = n.count as usize;
+    bounds(work, variables, m);
+    let mut entering = Entering {
         work,
-        Progress { at: 0, count: 0 },
-    );
+        variables,
+        count: 0,
+    };
+    all_clauses(sheet, p, n, size, &mut entering);
 }
 
 // Loads the clauses at a size into the work area, whatever it holds, and answers how many they are.

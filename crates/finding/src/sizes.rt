@@ -1,20 +1,23 @@
 // The search size by size: the smallest that has a model decides, and the choices that are left are handed on.
-ghost use Rattle.std.specs.Prelude.{◌≡◌, true, ◌≤◌, length, take};
+ghost use Rattle.std.specs.Prelude.{◌≡◌, ◌≤◌, length, take};
+ghost use Rattle.std.proofs.Math.Option.{some};
 ghost use Rattle.theory.specs.Propositional.{prop_count};
+ghost use Rattle.theory.specs.Valuation.{setting_of};
 ghost use Rattle.theory.specs.Refusals.{answer};
 ghost use Rattle.theory.specs.CaseText.{case_length};
 ghost use Rattle.naming.specs.NamedProblem.{shown_symbols};
 ghost use Rattle.symmetry.specs.Obeying.{searched_with};
 ghost use Rattle.problem.specs.Problems.{problem_in};
-ghost use Rattle.search.specs.Search.{search_answer};
 ghost use Rattle.finding.specs.Searching.{Searchable};
 ghost use Rattle.finding.specs.Ending.{Ends, Sizes, found_within, case_found};
 
-use crate::allowed::AllowedAnswer;
+use crate::allowed::{AllowedAnswer, FindResult};
 use crate::one_size::search_size;
 use loading::clear_all;
 use ranges::settled::is_settled;
+use reading_back::tables::Bits;
 use reading_back::writing::write_case;
+use search::Outcome;
 use syntax::limits::Problem;
 use syntax::size::DomainSize;
 use valuations::numbering::numbering_of;
@@ -33,25 +36,23 @@ pub fn search_sizes(
     ensures { Ends (found_within p.symmetry (problem_in sheet.now p) low.0 high.0 allowance) result work.old work.new output.old output.new }
 {
     let signature = p.signature;
-    let mut size = low;
     let mut made = 0;
-    loop {
+    for number in low.0..high.0 + 1 {
+        let size = DomainSize(number);
         let n = numbering_of(signature, size);
-        let s = search_size(sheet, p, n, size, allowance - made, work);
-        if s.stopped {
-            clear_all(work);
-            return AllowedAnswer::Stopped(size.0 as u64, allowance);
+        match search_size(sheet, p, n, size, allowance - made, work) {
+            Outcome::Found(choices) => {
+                return put_found(sheet, p, size, made + choices, work, output);
+            }
+            Outcome::Exhausted(choices) => made += choices,
+            Outcome::Stopped => {
+                clear_all(work);
+                return Ok(FindResult::Stopped(size.0 as u64, allowance));
+            }
         }
-        made += s.choices;
-        if s.found {
-            return put_found(sheet, p, size, made, work, output);
-        }
-        if high.0 <= size.0 {
-            clear_all(work);
-            return AllowedAnswer::Nothing(is_settled(p, low, high), made);
-        }
-        size = size.next();
     }
+    clear_all(work);
+    Ok(FindResult::Nothing(is_settled(p, low, high), made))
 }
 
 // Writes the model whose valuation the first numbers of the work area are, found after so many choices, and clears the work area. The case shows the declared symbols, whose
@@ -65,7 +66,7 @@ fn put_found(
     output: &mut [u8],
 ) -> AllowedAnswer
     requires searchable { Searchable sheet.now p size.0 (length work.old) }
-    requires p_value { (searched_with p.symmetry size.0 (problem_in sheet.now p)).answer ≡ search_answer true (take (prop_count size.0 (problem_in sheet.now p).symbols) work.old) }
+    requires p_value { (searched_with p.symmetry size.0 (problem_in sheet.now p)).answer ≡ some (setting_of (take (prop_count size.0 (problem_in sheet.now p).symbols) work.old)) }
     requires p_in_bounds { case_length size.0 (shown_symbols (problem_in sheet.now p).symbols) ≤ length output.old }
     ensures { Ends (λ _ _. answer (case_found (problem_in sheet.now p) size.0 (take (prop_count size.0 (problem_in sheet.now p).symbols) work.old) choices)) result work.old work.new output.old output.new }
 {
@@ -73,7 +74,7 @@ fn put_found(
     let shown = signature.declared();
     let n = numbering_of(shown, size);
     let v = n.count as usize;
-    let length = write_case(sheet, shown, n, size, b"", &work[..v], output);
+    let length = write_case(sheet, shown, n, size, Bits::Values(&work[..v]), output);
     clear_all(work);
-    AllowedAnswer::Found(size.0 as u64, length, choices)
+    Ok(FindResult::Found(size.0 as u64, length, choices))
 }

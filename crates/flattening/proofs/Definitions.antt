@@ -1,5 +1,5 @@
 -- What is put together is the flattened clause: the definitions of the lifted terms, then the shallow literals.
-use Prim.Native.Nat.{ℕ, zero, suc, ◌+◌, ◌*◌, ◌≤◌, ◌<◌}
+use Prim.Native.Nat.{ℕ, suc, ◌+◌, ◌≤◌, ◌<◌}
 use mathlib.Core.Path.{◌≡◌, refl, sym, ap, ◌∙◌}
 use mathlib.Core.Bool.{true, false, false≢true}
 use mathlib.Core.List.{List, [], ◌∷◌, ◌++◌, map, map-append, map-map}
@@ -18,25 +18,20 @@ use Rattle.theory.proofs.Declared.{function_of→}
 use Rattle.syntax.specs.declared.words.ClauseWords.{ClauseWords}
 use Rattle.syntax.specs.Signatures.{Small}
 use Rattle.syntax.specs.Codes.{clause_in}
+use Rattle.lifting.specs.declared.table.Row.{Row}
+use Rattle.lifting.specs.Rows.{row_at}
 use Rattle.lifting.specs.Places.{places}
 use Rattle.lifting.specs.Lifts.{outer, inner, Lifts}
 use Rattle.lifting.proofs.Sharing.{SameThree}
-use Rattle.shallow.specs.declared.literals.Literal.{Literal}
 use Rattle.shallow.specs.declared.literals.Lifting.{Lifting}
 use Rattle.shallow.specs.Placed.{placed_variable, placed_literal, placed}
-use Rattle.shallow.specs.Literals.{no_literal, literal_in, three_at, literal_with}
+use Rattle.shallow.specs.Literals.{three, literal_in, literal_with}
 use Rattle.shallow.specs.Flattenable.{Flattenable}
 use Rattle.shallow.specs.Shallow.{Made, ClauseLifted}
-use Rattle.shallow.proofs.Written.{literal_in-three, arguments-right}
+use Rattle.shallow.proofs.Written.{arguments-right}
 use Rattle.flattening.specs.declared.flat.FlatClause.{FlatClause}
 use Rattle.flattening.specs.Flat.{flat_in}
 use Rattle.flattening.specs.Assembled.{definition_at, Assemblable, Assembled}
-
-get_d-three_at : (xs : List ℕ) (i j : ℕ) → j < 3 → get_or (three_at xs i) j 0 ≡ get_or xs (i * 3 + j) 0
-get_d-three_at xs i zero h = ap (λ (n : ℕ). get_or xs n 0) (sym (add-zero (i * 3)))
-get_d-three_at xs i (suc zero) h = refl
-get_d-three_at xs i (suc (suc zero)) h = refl
-get_d-three_at xs i (suc (suc (suc j))) h = absurd (omega arith)
 
 -- literals that are those of the terms ts from number a on
 read-definitions : (xs : List ℕ) (lifted : List Term) (f : ℕ → FlatLiteral) (ts : List Term) (a : ℕ)
@@ -55,38 +50,29 @@ read-definitions xs lifted f (t ∷ ts) a h =
 module _ (g : Signature) (small : Small g) (xs : List ℕ) (lifted : List Term) (m : Clause) (l : Lifting) (owned : l.owns ≡ length xs) (lifts : Lifts g xs lifted l.table)
     (made : Made g xs lifted m l) (fit : Assemblable l) (r : FlatClause) (a : Assembled l r) where
   abbrev read : ℕ → FlatLiteral
-  read = literal_in g r.literals r.arguments
-
-  abbrev rows : List ℕ
-  rows = l.table.arguments
+  read = literal_in g r.literals
 
   -- the row of a lifted term
   row-right : (i : ℕ) → i < length lifted → (u : Term) → get_or lifted i (variable 0) ≡ u → is_apply u ≡ true → term_ok g u ≡ true
-      → literal_with g (definition_at l.table l.owns i) (three_at rows i) ≡ placed_literal xs (record { sign = false; atom = term_equals lifted u (new i) })
+      → literal_with g (definition_at l.table l.owns i) ≡ placed_literal xs (record { sign = false; atom = term_equals lifted u (new i) })
   row-right i h (variable x) e k o = absurd (false≢true k)
   row-right i h (apply f us) e k o =
       let d = function_of→ g f (count us) (and_left (function_of g f (count us)) (terms_ok g us) o) in
-      let F : get_or l.table.functions i 0 ≡ f = lifts.holds.function i h ∙ ap outer e in
-      let same : SameThree (three_at rows i) (places xs lifted us) =
-      λ j b. get_d-three_at rows i j b ∙ lifts.holds.argument i j h b ∙ ap (λ (u : Term). get_or (places xs lifted (inner u)) j 0) e in
-      ap (λ (n : ℕ). record { sign = false; atom = flat_result n (map new (take (symbol_at g n).arity (three_at rows i))) (new (l.owns + i)) }) F
-      ∙ ap (λ (ys : List FlatVariable). record { sign = false; atom = flat_result f ys (new (l.owns + i)) }) (arguments-right g small xs lifted us f (three_at rows i) d.arity same)
+      let row : Row = row_at l.table i in
+      let F : row.function ≡ f = lifts.holds.function i h ∙ ap outer e in
+      let same : SameThree row.arguments (places xs lifted us) =
+      λ j b. lifts.holds.argument i j h b ∙ ap (λ (u : Term). get_or (places xs lifted (inner u)) j 0) e in
+      ap (λ (n : ℕ). record { sign = false; atom = flat_result n (map new (take (symbol_at g n).arity (three row.arguments))) (new (l.owns + i)) }) F
+      ∙ ap (λ (ys : List FlatVariable). record { sign = false; atom = flat_result f ys (new (l.owns + i)) }) (arguments-right g small xs lifted us f row.arguments d.arity same)
       ∙ ap (λ (n : ℕ). record { sign = false; atom = flat_result f (map (placed_variable xs) (variables_for lifted us)) (new (n + i)) }) owned
 
   definition-right : (i : ℕ) → i < length lifted → read i ≡ placed_literal xs (record { sign = false; atom = term_equals lifted (get_or lifted i (variable 0)) (new i) })
   definition-right i h =
-      let b : i < l.table.count = omega (arith, lifts.holds.count) in
-      literal_in-three g small r.literals r.arguments i (omega (arith, a.wide, fit.terms))
-      ∙ ap (λ (k : Literal). literal_with g k (three_at r.arguments i)) (a.definition i b)
-      ∙ ap (literal_with g (definition_at l.table l.owns i)) (a.definition-arguments i b)
+      ap (literal_with g) (a.definition i (omega (arith, lifts.holds.count)))
       ∙ row-right i h (get_or lifted i (variable 0)) refl (all-at is_apply (variable 0) lifted i lifts.applied h) (all-at (term_ok g) (variable 0) lifted i lifts.ok h)
 
-  literal-right : (j : ℕ) → j < l.count → read (l.table.count + j) ≡ literal_in g l.literals l.arguments j
-  literal-right j h =
-      literal_in-three g small r.literals r.arguments (l.table.count + j) (omega (arith, a.wide, fit.terms, fit.literals))
-      ∙ ap (λ (k : Literal). literal_with g k (three_at r.arguments (l.table.count + j))) (a.literal j h)
-      ∙ ap (literal_with g (get_or l.literals j no_literal)) (a.literal-arguments j h)
-      ∙ sym (literal_in-three g small l.literals l.arguments j (omega (arith, fit.arguments, fit.literals)))
+  literal-right : (j : ℕ) → j < l.count → read (l.table.count + j) ≡ literal_in g l.literals j
+  literal-right j h = ap (literal_with g) (a.literal j h)
 
   -- all literals
   pub literals-right : map read (up_to r.count) ≡ map (placed_literal xs) (definitions lifted 0 lifted ++ map (shallow lifted) (map turned m))
@@ -102,7 +88,7 @@ module _ (g : Signature) (small : Small g) (xs : List ℕ) (lifted : List Term) 
       ap (λ (k : ℕ). map read (up_from k n)) z
       ∙ ap (map read) (sym (map-add-up_from t 0 n))
       ∙ map-map read (λ i. t + i) (up_from 0 n)
-      ∙ map-up_from (λ i. read (t + i)) (literal_in g l.literals l.arguments) 0 n (λ i b h. literal-right i (omega arith))
+      ∙ map-up_from (λ i. read (t + i)) (literal_in g l.literals) 0 n (λ i b h. literal-right i (omega arith))
       ∙ made.made
       ∙ sym (map-map (placed_literal xs) (λ (k : theory.Literal). shallow lifted (turned k)) m)
       ∙ ap (map (placed_literal xs)) (sym (map-map (shallow lifted) turned m)) in
@@ -123,8 +109,6 @@ module _ {arities : List ℕ} {c : ClauseWords} (s : Flattenable arities c) (l :
   pub assemblable : variable_count (flatten (clause_in s.signature c)) ≤ 10 → Assemblable l
   assemblable k =
       record {
-        rows = h.lifts.holds.arguments;
-        arguments = h.made.arguments;
         terms = omega (arith, variables-right);
         literals = omega (arith, h.made.count, merged-length (clause_in s.signature c), s.literals);
         few = h.few;
@@ -137,7 +121,7 @@ module _ {arities : List ℕ} {c : ClauseWords} (s : Flattenable arities c) (l :
       let d : Clause = merged (clause_in s.signature c) in
       let xs : List ℕ = variables d in
       let lifted : List Term = lifted_terms (map turned d) in
-      let read : ℕ → FlatLiteral = literal_in s.signature r.literals r.arguments in
+      let read : ℕ → FlatLiteral = literal_in s.signature r.literals in
       let n : r.variables ≡ length xs + length lifted = a.variables ∙ ap (λ (n : ℕ). n + l.table.count) h.owns ∙ ap (λ (n : ℕ). length xs + n) h.lifts.holds.count in
       ap (λ (n : ℕ). record { owns = []; news = n; literals = map read (up_to r.count) }) n
       ∙ ap (λ (ls : List FlatLiteral). record { owns = []; news = length xs + length lifted; literals = ls })

@@ -1,4 +1,4 @@
--- The flattened clause that the code's literals and arguments stand for.
+-- The flattened clause that the code's literals stand for.
 use Rattle.std.specs.Prelude.{ℕ, ◌≤◌, List, [], map}
 use Rattle.theory.specs.Lists.{up_to}
 use Rattle.theory.specs.Syntax.{Signature}
@@ -12,7 +12,7 @@ use Rattle.flattening.specs.declared.flat.FlatClause.{FlatClause}
 
 -- the flattened clause, with places for variables
 unfoldable pub flat_in : Signature → FlatClause → theory.FlatClause
-flat_in g c = record { owns = []; news = c.variables; literals = map (literal_in g c.literals c.arguments) (up_to c.count) }
+flat_in g c = record { owns = []; news = c.variables; literals = map (literal_in g c.literals) (up_to c.count) }
 
 -- and it is within the limit of variables after flattening
 pub record WithinLimits (arities : List ℕ) (w : ClauseWords) : Type 0 where

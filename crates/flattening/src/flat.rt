@@ -1,23 +1,21 @@
 // A flattened clause: t ≠ y for each lifted term t and its new variable y, then the shallow literals. The crate's two entries stand here.
-ghost use Rattle.std.specs.Prelude.{◌≡◌, ◌*◌, ◌+◌, ◌<◌, ◌≤◌, length};
-ghost use Rattle.theory.specs.Problem.{max_arity, max_literals, max_variables};
+ghost use Rattle.std.specs.Prelude.{◌≡◌, ◌+◌, ◌≤◌};
+ghost use Rattle.theory.specs.Problem.{max_literals, max_variables};
 ghost use Rattle.theory.specs.Flattening as theory;
 ghost use Rattle.syntax.specs.Codes.{clause_in};
-ghost use Rattle.shallow.specs.Literals.{three_at};
 ghost use Rattle.shallow.specs.Placed.{placed};
 ghost use Rattle.shallow.specs.Flattenable.{Flattenable};
 ghost use Rattle.flattening.specs.Flat.{WithinLimits, flat_in};
-ghost use Rattle.flattening.specs.Assembled.{Assemblable, Assembled, LiteralsPut, Roomy, definition_at, empty_flat, shallow_at, with_flat};
+ghost use Rattle.flattening.specs.Assembled.{Assemblable, Assembled, LiteralsPut, definition_at, empty_flat, shallow_at};
 
 use shallow::literals::{Lifting, Literal, Shape, lift};
 use syntax::limits::Problem;
 use syntax::words::ClauseWords;
 
-// The lifted terms' definitions and the literals, each with as many arguments as the largest arity.
+// The lifted terms' definitions and the literals.
 #[derive(Clone, Copy)]
 pub struct FlatClause {
     pub literals: [Literal; Problem::MAX_FLAT_LITERALS],
-    pub arguments: [u8; Problem::MAX_FLAT_ARGUMENTS],
     pub count: usize,
     pub variables: usize,
 }
@@ -51,36 +49,30 @@ fn assembled(l: Lifting) -> FlatClause
 
 // The definitions of the lifted terms, put from number `at` on.
 fn with_definitions(mut flat: FlatClause, l: Lifting, at: usize) -> FlatClause
-    requires { Assemblable l × (Roomy flat × (at + l.table.count ≤ max_variables + max_literals)) }
-    ensures { LiteralsPut flat at l.table.count (definition_at l.table l.owns) l.table.arguments result }
+    requires { Assemblable l × (at + l.table.count ≤ max_variables + max_literals) }
+    ensures { LiteralsPut flat at l.table.count (definition_at l.table l.owns) result }
 {
     let table = l.table;
     let owns = l.owns;
-    let rows = table.arguments;
-    let mut i: usize = 0;
-    while i < table.count {
-        let definition = Literal {
+    for i in 0..table.count {
+        let row = table.rows[i];
+        let arguments = row.arguments;
+        flat.literals[at + i] = Literal {
             sign: false,
-            shape: Shape::FunctionResult(table.functions[i], owns + i as u8),
+            shape: Shape::FunctionResult(row.function, owns + i as u8),
+            arguments,
         };
-        flat = put(flat, at + i, definition, three(&rows, i));
-        i += 1;
     }
     flat
 }
 
 // The literals, put from number `at` on.
 fn with_literals(mut flat: FlatClause, l: Lifting, at: usize) -> FlatClause
-    requires { Assemblable l × (Roomy flat × (at + l.count ≤ max_variables + max_literals)) }
-    ensures { LiteralsPut flat at l.count (shallow_at l) l.arguments result }
+    requires { Assemblable l × (at + l.count ≤ max_variables + max_literals) }
+    ensures { LiteralsPut flat at l.count (shallow_at l) result }
 {
-    let literals = l.literals;
-    let arguments = l.arguments;
-    let mut j: usize = 0;
-    while j < l.count {
-        let literal = literals[j];
-        flat = put(flat, at + j, literal, three(&arguments, j));
-        j += 1;
+    for j in 0..l.count {
+        flat.literals[at + j] = l.literals[j];
     }
     flat
 }
@@ -90,37 +82,8 @@ fn empty(count: usize, variables: usize) -> FlatClause
     ensures { result ≡ empty_flat count variables }
 {
     FlatClause {
-        literals: [Literal {
-            sign: false,
-            shape: Shape::Predicate(0),
-        }; Problem::MAX_FLAT_LITERALS],
-        arguments: [0; Problem::MAX_FLAT_ARGUMENTS],
+        literals: [Literal::NONE; Problem::MAX_FLAT_LITERALS],
         count,
         variables,
     }
-}
-
-// The three arguments of number i.
-fn three(arguments: &[u8], i: usize) -> [u8; Problem::MAX_ARITY]
-    requires { i * max_arity + 2 < length arguments.now }
-    ensures { result ≡ three_at arguments.now i }
-{
-    let from = i * Problem::MAX_ARITY;
-    [arguments[from], arguments[from + 1], arguments[from + 2]]
-}
-
-fn put(
-    mut flat: FlatClause,
-    k: usize,
-    literal: Literal,
-    arguments: [u8; Problem::MAX_ARITY],
-) -> FlatClause
-    requires { k < max_variables + max_literals }
-    ensures { result ≡ with_flat flat k literal arguments }
-{
-    flat.literals[k] = literal;
-    flat.arguments[k * Problem::MAX_ARITY] = arguments[0];
-    flat.arguments[k * Problem::MAX_ARITY + 1] = arguments[1];
-    flat.arguments[k * Problem::MAX_ARITY + 2] = arguments[2];
-    flat
 }

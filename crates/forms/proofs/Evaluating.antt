@@ -64,9 +64,6 @@ pub record Evaluated (v : List ℕ) (count : ℕ) (fs codes : List ℕ) (written
   pub safe : AllSafe left (drop at fs)
   pub rest : form_instance v count fs ≡ prefixed (prop_clause_of (take written codes)) (form_instance v left (drop at fs))
 
-pub none-evaluated : (v : List ℕ) (count : ℕ) (fs codes : List ℕ) → count * 10 ≤ length fs → AllSafe count fs → Evaluated v count fs codes 0 0 count
-none-evaluated v count fs codes h s = record { room = omega arith; few = omega arith; safe = s; rest = refl }
-
 module _ (v : List ℕ) (count : ℕ) (fs codes : List ℕ) (written at left : ℕ) (p : Evaluated v count fs codes written at (suc left)) where
   pub first-safe : Safe (form_at fs at)
   first-safe = p.safe.0
@@ -120,28 +117,38 @@ module _ (v : List ℕ) (count : ℕ) (fs codes : List ℕ) (written at left : �
   pub dropped : get_or fs at 0 ≢ 0 → is_true_at (form_at fs at) v ≡ true → kept (form_instance v count fs) ≡ []
   dropped h e = ap kept (next false true (is-equality h) e ∙ prefixed-none (prop_clause_of (take written codes)))
 
--- The same for a number of forms left that is not 0.
-module _ (v : List ℕ) (count : ℕ) (fs codes : List ℕ) (written at left : ℕ) (p : Evaluated v count fs codes written at left) (some : 0 < left) where
-  one_of : Evaluated v count fs codes written at (suc (left - 1))
-  one_of = let e : left ≡ suc (left - 1) = omega arith in subst (Evaluated v count fs codes written at) e p
+-- The first i of the forms are evaluated.
+abbrev pub FirstEvaluated : List ℕ → ℕ → List ℕ → List ℕ → ℕ → ℕ → Type 0
+FirstEvaluated v count fs codes written i = Evaluated v count fs codes written (i * 10) (count - i)
 
-  pub safe-here : Safe (form_at fs at)
-  safe-here = first-safe v count fs codes written at (left - 1) one_of
+module _ (v : List ℕ) (count : ℕ) (fs codes : List ℕ) (written i : ℕ) (p : FirstEvaluated v count fs codes written i) where
+  module _ (more : i < count) where
+    one_of : Evaluated v count fs codes written (i * 10) (suc (count - (i + 1)))
+    one_of = let e : count - i ≡ suc (count - (i + 1)) = omega arith in subst (Evaluated v count fs codes written (i * 10)) e p
 
-  pub written_on : (u : ℕ) → written < length codes → get_or fs at 0 ≡ 0 → u ≡ code_at (form_at fs at) v → Evaluated v count fs (set codes written u) (written + 1) (at + 10) (left - 1)
-  written_on u h e c =
-      let n : suc written ≡ written + 1 = omega arith in
-      subst (λ (k : ℕ). Evaluated v count fs (set codes written u) k (at + 10) (left - 1)) n (one_written v count fs codes written at (left - 1) one_of u h e c)
+    pub safe-here : Safe (form_at fs (i * 10))
+    safe-here = first-safe v count fs codes written (i * 10) (count - (i + 1)) one_of
 
-  pub left-out-on : get_or fs at 0 ≢ 0 → is_true_at (form_at fs at) v ≡ false → Evaluated v count fs codes written (at + 10) (left - 1)
-  left-out-on = one-left-out v count fs codes written at (left - 1) one_of
+    place : i * 10 + 10 ≡ (i + 1) * 10
+    place = omega arith
 
-  pub dropped-here : get_or fs at 0 ≢ 0 → is_true_at (form_at fs at) v ≡ true → kept (form_instance v count fs) ≡ []
-  dropped-here = dropped v count fs codes written at (left - 1) one_of
+    pub written_on : (u : ℕ) → written < length codes → get_or fs (i * 10) 0 ≡ 0 → u ≡ code_at (form_at fs (i * 10)) v → FirstEvaluated v count fs (set codes written u) (written + 1) (i + 1)
+    written_on u h e c =
+        let n : suc written ≡ written + 1 = omega arith in
+        rw (← place, ← n) (one_written v count fs codes written (i * 10) (count - (i + 1)) one_of u h e c)
 
--- the whole instance
-pub all-evaluated : (v : List ℕ) (count : ℕ) (fs codes : List ℕ) (written at : ℕ) → Evaluated v count fs codes written at 0 → kept (form_instance v count fs) ≡ prop_clause_of (take written codes) ∷ []
-all-evaluated v count fs codes written at p = ap kept (p.rest ∙ prefixed-all (prop_clause_of (take written codes)))
+    pub left-out-on : get_or fs (i * 10) 0 ≢ 0 → is_true_at (form_at fs (i * 10)) v ≡ false → FirstEvaluated v count fs codes written (i + 1)
+    left-out-on h e = rw (← place) (one-left-out v count fs codes written (i * 10) (count - (i + 1)) one_of h e)
+
+    pub dropped-here : get_or fs (i * 10) 0 ≢ 0 → is_true_at (form_at fs (i * 10)) v ≡ true → kept (form_instance v count fs) ≡ []
+    dropped-here = dropped v count fs codes written (i * 10) (count - (i + 1)) one_of
+
+  -- the whole instance
+  pub all-evaluated : count ≤ i → kept (form_instance v count fs) ≡ prop_clause_of (take written codes) ∷ []
+  all-evaluated h =
+      let e : count - i ≡ 0 = omega arith in
+      let q : Evaluated v count fs codes written (i * 10) 0 = subst (Evaluated v count fs codes written (i * 10)) e p in
+      ap kept (q.rest ∙ prefixed-all (prop_clause_of (take written codes)))
 
 -- the products of a form and its base make up its code
 pub code-made : (fs : List ℕ) (at : ℕ) (v : List ℕ) (b x y z w : ℕ) → b ≡ get_or fs (at + 1) 0

@@ -14,8 +14,7 @@ use Rattle.theory.specs.Lifted.{flat_atom_ok, flat_atom_scoped}
 use Rattle.theory.specs.Instances.{flat_value, instance}
 use Rattle.theory.proofs.Tests.{ltb-true, ltb-false}
 use Rattle.theory.proofs.Lists.{all_map, all-up_to}
-use Rattle.shallow.specs.Literals.{no_literal, literal_in, three_at, literal_with}
-use Rattle.shallow.proofs.Written.{literal_in-three}
+use Rattle.shallow.specs.Literals.{no_literal, literal_in}
 use Rattle.flattening.specs.declared.flat.FlatClause.{FlatClause}
 use Rattle.flattening.specs.Flat.{flat_in}
 use Rattle.valuations.specs.declared.numbering.Numbering.{Numbering}
@@ -68,31 +67,25 @@ all-mean s g k L v (suc n) a at fs h =
     first v (instance s g (flat_value [] (take k v)) (map L (up_from (suc a) n)))
     ∙ ap (add_form (form_at fs at) v) (all-mean s g k L v n (suc a) (at + 10) fs next ∙ ap (form_instance v n) (sym (drop-drop 10 at fs)))
 
-module _ {arities : List ℕ} {c : FlatClause} {n : Numbering} {s : ℕ} (o : Groundable arities c n s) (i : ℕ) (h : i < c.count) (wide : length c.arguments ≡ 78) where
+module _ {arities : List ℕ} {c : FlatClause} {n : Numbering} {s : ℕ} (o : Groundable arities c n s) (i : ℕ) (h : i < c.count) where
   abbrev g : Signature
   g = o.signature
 
   abbrev read : ℕ → FlatLiteral
-  read = literal_in g c.literals c.arguments
+  read = literal_in g c.literals
 
-  literal-same : read i ≡ literal_with g (get_or c.literals i no_literal) (three_at c.arguments i)
-  literal-same = literal_in-three g o.small c.literals c.arguments i (omega (arith, wide, h, o.count))
-
-  pub literal-ok : flat_atom_ok g (literal_with g (get_or c.literals i no_literal) (three_at c.arguments i)).atom ≡ true
+  pub literal-ok : flat_atom_ok g (literal_in g c.literals i).atom ≡ true
   unfolding flat_in
-  literal-ok =
-      subst (λ (l : FlatLiteral). flat_atom_ok g l.atom ≡ true) literal-same
-      (all-up_to (λ (j : ℕ). flat_atom_ok g (read j).atom) c.count (sym (all_map (λ (l : FlatLiteral). flat_atom_ok g l.atom) read (up_to c.count)) ∙ o.ok) i h)
+  literal-ok = all-up_to (λ (j : ℕ). flat_atom_ok g (read j).atom) c.count (sym (all_map (λ (l : FlatLiteral). flat_atom_ok g l.atom) read (up_to c.count)) ∙ o.ok) i h
 
-  pub literal-scope : flat_atom_scoped [] c.variables (literal_with g (get_or c.literals i no_literal) (three_at c.arguments i)).atom ≡ true
+  pub literal-scope : flat_atom_scoped [] c.variables (literal_in g c.literals i).atom ≡ true
   unfolding flat_in
   literal-scope =
-      subst (λ (l : FlatLiteral). flat_atom_scoped [] c.variables l.atom ≡ true) literal-same
-      (all-up_to (λ (j : ℕ). flat_atom_scoped [] c.variables (read j).atom) c.count
-      (sym (all_map (λ (l : FlatLiteral). flat_atom_scoped [] c.variables l.atom) read (up_to c.count)) ∙ o.scope) i h)
+      all-up_to (λ (j : ℕ). flat_atom_scoped [] c.variables (read j).atom) c.count
+      (sym (all_map (λ (l : FlatLiteral). flat_atom_scoped [] c.variables l.atom) read (up_to c.count)) ∙ o.scope) i h
 
   -- literal i is over the same signature
-  abbrev pub literal-over : LiteralOver arities n s (get_or c.literals i no_literal) (three_at c.arguments i)
+  abbrev pub literal-over : LiteralOver arities n s (get_or c.literals i no_literal)
   literal-over =
       record {
         signature = o.signature;
@@ -106,24 +99,15 @@ module _ {arities : List ℕ} {c : FlatClause} {n : Numbering} {s : ℕ} (o : Gr
         scope = literal-scope;
       }
 
-  pub read-means : (f : List ℕ) → ((q : LiteralOver arities n s (get_or c.literals i no_literal) (three_at c.arguments i)) → Means s q.signature q.variables (literal_over q) f) → Means s g c.variables (read i) f
-  read-means f m = subst (λ (l : FlatLiteral). Means s g c.variables l f) (sym literal-same) (m literal-over)
+  pub read-means : (f : List ℕ) → ((q : LiteralOver arities n s (get_or c.literals i no_literal)) → Means s q.signature q.variables (literal_over q) f) → Means s g c.variables (read i) f
+  read-means f m = m literal-over
 
 -- the forms of the first i literals are written
 pub record Gathered (arities : List ℕ) (c : FlatClause) (n : Numbering) (s i : ℕ) (fs : List ℕ) : Type 0 where
   pub within : i ≤ c.count
   pub held : length fs ≡ 260
   pub safe : (j : ℕ) → j < i → Safe (form_at fs (j * 10))
-  pub means : (o : Groundable arities c n s) → (j : ℕ) → j < i → Means s o.signature c.variables (literal_in o.signature c.literals c.arguments j) (form_at fs (j * 10))
-
-pub none-gathered : (arities : List ℕ) (c : FlatClause) (n : Numbering) (s : ℕ) (fs : List ℕ) → length fs ≡ 260 → Gathered arities c n s 0 fs
-none-gathered arities c n s fs e =
-    record {
-      within = omega arith;
-      held = e;
-      safe = λ j l. absurd (omega arith);
-      means = λ o j l. absurd (omega arith);
-    }
+  pub means : (o : Groundable arities c n s) → (j : ℕ) → j < i → Means s o.signature c.variables (literal_in o.signature c.literals j) (form_at fs (j * 10))
 
 module _ (arities : List ℕ) (c : FlatClause) (n : Numbering) (s i : ℕ) (fs form : List ℕ) (p : Gathered arities c n s i fs) (h : i < c.count) (few : c.count ≤ 26) (ten : length form ≡ 10) where
   abbrev written : List ℕ
@@ -145,16 +129,16 @@ module _ (arities : List ℕ) (c : FlatClause) (n : Numbering) (s i : ℕ) (fs f
       go true e = let b : j < i = ltb-true j i e in before (P j) j b (r j b)
       go false e = let d : i ≡ j = omega (arith, ltb-false j i e) in subst (λ (m : ℕ). P m (form_at written (m * 10))) d (here (P i) q)
 
-  pub one-gathered : length c.arguments ≡ 78 → Safe form
-      → ((q : LiteralOver arities n s (get_or c.literals i no_literal) (three_at c.arguments i)) → Means s q.signature q.variables (literal_over q) form)
+  pub one-gathered : Safe form
+      → ((q : LiteralOver arities n s (get_or c.literals i no_literal)) → Means s q.signature q.variables (literal_over q) form)
       → Gathered arities c n s (suc i) written
-  one-gathered wide safe means =
+  one-gathered safe means =
       record {
         within = omega arith;
         held = length-paste fs (i * 10) form 10 room (omega (arith, ten)) ∙ p.held;
         safe = one_more (λ j f. Safe f) safe p.safe;
         means = λ o.
-            one_more (λ j f. Means s o.signature c.variables (literal_in o.signature c.literals c.arguments j) f) (read-means o i h wide form means) (p.means o);
+            one_more (λ j f. Means s o.signature c.variables (literal_in o.signature c.literals j) f) (read-means o i h form means) (p.means o);
       }
 
 -- all of them
@@ -166,7 +150,7 @@ pub gathered-linear : (arities : List ℕ) (c : FlatClause) (n : Numbering) (s :
 unfolding flat_in
 gathered-linear arities c n s fs p o v =
     let g : Signature = o.signature in
-    let read : ℕ → FlatLiteral = literal_in g c.literals c.arguments in
+    let read : ℕ → FlatLiteral = literal_in g c.literals in
     all-mean s g c.variables read v c.count 0 0 fs
     (λ j l.
     let e : j * 10 ≡ 0 + j * 10 = omega arith in

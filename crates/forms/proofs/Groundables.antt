@@ -27,7 +27,7 @@ use Rattle.forms.specs.LinearForms.{Groundable}
 -- its literals and variables are counted
 count-flat_in : (g : Signature) (r : FlatClause) → length (flat_in g r).literals ≡ r.count
 unfolding flat_in
-count-flat_in g r = length-map (up_to r.count) (literal_in g r.literals r.arguments) ∙ length-up_from 0 r.count
+count-flat_in g r = length-map (up_to r.count) (literal_in g r.literals) ∙ length-up_from 0 r.count
 
 variables-flat_in : (g : Signature) (r : FlatClause) → (flat_in g r).news ≡ r.variables
 unfolding flat_in

@@ -1,12 +1,12 @@
 -- The form of a literal says what the literal is under each choice of values.
 use Prim.Native.Nat.{ℕ, ◌+◌, ◌*◌, ◌≤◌, ◌<◌}
 use mathlib.Core.Path.{◌≡◌, refl, sym, ap, ap₂, subst, ◌∙◌}
-use mathlib.Core.Bool.{Bool, true, false, cond, beq}
+use mathlib.Core.Bool.{Bool, true, false, cond}
 use mathlib.Core.Option.{Option, none, some}
 use mathlib.Core.List.{List, [], ◌∷◌, map}
 use native.Mathlib.Nat.{mul_assoc, mul_comm, zero-mul}
 use native.Mathlib.Omega.{arith}
-use lib.Dec.{eqb, ltb}
+use lib.Dec.{ltb}
 use lib.ListN.{length, get_or, take}
 use lib.Seq.{get_or-take, length-take-le}
 use Rattle.theory.specs.Lists.{all, prefix}
@@ -22,7 +22,7 @@ use Rattle.theory.proofs.Declared.{Declared, function_of→, predicate_of→}
 use Rattle.shallow.specs.declared.literals.Shape.{Shape}
 use Rattle.shallow.specs.declared.literals.Shape.TheVariants.{Predicate, FunctionResult, VariableEquality}
 use Rattle.shallow.specs.declared.literals.Literal.{Literal}
-use Rattle.shallow.specs.Literals.{atom_with}
+use Rattle.shallow.specs.Literals.{three, atom_with}
 use Rattle.shallow.proofs.Written.{arity-small}
 use Rattle.valuations.specs.declared.numbering.Numbering.{Numbering}
 use Rattle.valuations.proofs.Blocks.{prop_base-within}
@@ -30,7 +30,7 @@ use Rattle.stream.specs.Literals.{literal_of}
 use Rattle.stream.proofs.Codes.{literal_of-code}
 use Rattle.valuations.specs.Numbers.{max_prop_vars}
 use Rattle.syntax.specs.Signatures.{max_in_all}
-use Rattle.forms.specs.LinearForms.{equality_form, linear_form, code_at, add_form, Safe, Means, LiteralOver, literal_over}
+use Rattle.forms.specs.LinearForms.{linear_form, code_at, Safe, Means, LiteralOver, literal_over}
 use Rattle.forms.proofs.Weights.{weight-small, place-below, products-rank, coefficient-small}
 
 module _ (k : ℕ) (v : List ℕ) where
@@ -78,7 +78,7 @@ module _ (s : ℕ) (g : Signature) (i : ℕ) (b : Bool) (base arity step x y z w
       ap literal_of e ∙ literal_of-code (prop_base s g i + (R * W + val)) b
 
 -- what is known of a literal's symbol
-pub record SymbolOver {arities : List ℕ} {n : Numbering} {s : ℕ} {l : Literal} {xs : List ℕ} (o : LiteralOver arities n s l xs) (k : Kind) (i : ℕ) : Type 0 where
+pub record SymbolOver {arities : List ℕ} {n : Numbering} {s : ℕ} {l : Literal} (o : LiteralOver arities n s l) (k : Kind) (i : ℕ) : Type 0 where
   pub held : i < max_in_all
   pub listed : i < length arities
   pub kind : (symbol_at o.signature i).kind ≡ k
@@ -86,14 +86,23 @@ pub record SymbolOver {arities : List ℕ} {n : Numbering} {s : ℕ} {l : Litera
   pub few : get_or arities i 0 ≤ 3
   pub base : get_or n.bases i 0 ≡ prop_base s o.signature i
   pub small : get_or n.bases i 0 ≤ max_prop_vars
-  pub scope : all (scoped [] o.variables) (map new (take (symbol_at o.signature i).arity xs)) ≡ true
+  pub scope : all (scoped [] o.variables) (map new (take (symbol_at o.signature i).arity (three l.arguments))) ≡ true
 
-module _ {arities : List ℕ} {n : Numbering} {s : ℕ} {l : Literal} {x y z : ℕ} (o : LiteralOver arities n s l (x ∷ y ∷ z ∷ [])) where
+module _ {arities : List ℕ} {n : Numbering} {s : ℕ} {l : Literal} (o : LiteralOver arities n s l) where
   abbrev g : Signature
   g = o.signature
 
   abbrev k : ℕ
   k = o.variables
+
+  abbrev x : ℕ
+  x = get_or l.arguments 0 0
+
+  abbrev y : ℕ
+  y = get_or l.arguments 1 0
+
+  abbrev z : ℕ
+  z = get_or l.arguments 2 0
 
   abbrev xs : List ℕ
   xs = x ∷ y ∷ z ∷ []
@@ -161,17 +170,6 @@ module _ {arities : List ℕ} {n : Numbering} {s : ℕ} {l : Literal} {x y z : �
       let scope : flat_atom_scoped [] k (atom_with g xs (VariableEquality t u)) ≡ true = subst (λ (h : Shape). flat_atom_scoped [] k (atom_with g xs h) ≡ true) e o.scope in
       (ltb-true t k (and_left (ltb t k) (ltb u k) scope), ltb-true u k (and_right (ltb t k) (ltb u k) scope))
 
-  pub equality-means : (t u : ℕ) → l.shape ≡ VariableEquality t u → Means s g k (literal_over o) (equality_form l.sign t u)
-  equality-means t u e v r =
-      let h = equality-scope t u e in
-      ap (λ (h : Shape). add_literal l.sign (ground s g (flat_value [] (take k v)) (atom_with g xs h)) r) e
-      ∙ ap₂ (λ (c d : ℕ). cond (beq l.sign (eqb c d)) none r) (value_taken k v t h.0) (value_taken k v u h.1)
-      ∙ same l.sign
-    where
-      same : (b : Bool) → cond (beq b (eqb (get_or v t 0) (get_or v u 0))) none r ≡ add_form (equality_form b t u) v r
-      same true = refl
-      same false = refl
-
   -- and it is safe
   linear-safe : (q : Kind) (i : ℕ) → SymbolOver o q i → (b : Bool) (step w d : ℕ) → step ≤ 16 → w < 10 → d ≤ 8192 → Safe (linear_form b (get_or n.bases i 0) step (get_or arities i 0) x y z w d s)
   linear-safe q i h b step w d hs hw hd =
@@ -200,18 +198,3 @@ module _ {arities : List ℕ} {n : Numbering} {s : ℕ} {l : Literal} {x y z : �
   pub function-safe : (f t : ℕ) → l.shape ≡ FunctionResult f t → Safe (linear_form l.sign (get_or n.bases f 0) (2 * s) (get_or arities f 0) x y z t 2 s)
   function-safe f t e =
       linear-safe function f (function-over f t e) l.sign (2 * s) t 2 (omega (arith, o.size)) (omega (arith, result-below f t e, o.few)) (omega arith)
-
-  pub equality-safe : (t u : ℕ) → l.shape ≡ VariableEquality t u → Safe (equality_form l.sign t u)
-  equality-safe t u e =
-      let h = equality-scope t u e in
-      record {
-        x = omega (arith, h.0, o.few);
-        y = omega (arith, h.1, o.few);
-        z = omega arith;
-        w = omega arith;
-        base = omega arith;
-        a = omega arith;
-        b = omega arith;
-        c = omega arith;
-        d = omega arith;
-      }

@@ -96,7 +96,3 @@ products-rank s a step x y z f h =
 -- a coefficient is small
 pub coefficient-small : (step w : ℕ) → step ≤ 16 → w ≤ 512 → step * w ≤ 8192
 coefficient-small step w h l = omega (arith, mul-le-mul {n₁ = step} {m₁ = w} {n₂ = 16} {m₂ = 512} h l)
-
--- and so is a product of it and a byte
-pub product_small : (c v : ℕ) → c ≤ 8192 → v < 256 → c * v ≤ 2097152
-product_small c v h l = omega (arith, mul-le-mul {n₁ = c} {m₁ = v} {n₂ = 8192} {m₂ = 256} h (omega arith))

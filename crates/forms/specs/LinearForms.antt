@@ -94,8 +94,8 @@ Means s g k l f = (v : List ℕ) (r : Option PropClause) → add_literal l.sign 
 abbrev pub Linear : ℕ → Signature → theory.FlatClause → ℕ → List ℕ → Type 0
 Linear s g c n fs = (v : List ℕ) → instance s g (flat_value [] (take c.news v)) c.literals ≡ form_instance v n fs
 
--- a literal with its three arguments over a signature and at most 10 variables
-pub record LiteralOver (arities : List ℕ) (n : Numbering) (s : ℕ) (l : Literal) (xs : List ℕ) : Type 0 where
+-- a literal over a signature and at most 10 variables
+pub record LiteralOver (arities : List ℕ) (n : Numbering) (s : ℕ) (l : Literal) : Type 0 where
   pub signature : Signature
   pub table : Arities signature arities
   pub small : Small signature
@@ -103,12 +103,12 @@ pub record LiteralOver (arities : List ℕ) (n : Numbering) (s : ℕ) (l : Liter
   pub size : s ≤ 8
   pub variables : ℕ
   pub few : variables ≤ 10
-  pub ok : flat_atom_ok signature (literal_with signature l xs).atom ≡ true
-  pub scope : flat_atom_scoped [] variables (literal_with signature l xs).atom ≡ true
+  pub ok : flat_atom_ok signature (literal_with signature l).atom ≡ true
+  pub scope : flat_atom_scoped [] variables (literal_with signature l).atom ≡ true
 
 -- the literal
-abbrev pub literal_over : {arities : List ℕ} {n : Numbering} {s : ℕ} {l : Literal} {xs : List ℕ} → LiteralOver arities n s l xs → FlatLiteral
-literal_over {l = l} {xs = xs} o = literal_with o.signature l xs
+abbrev pub literal_over : {arities : List ℕ} {n : Numbering} {s : ℕ} {l : Literal} → LiteralOver arities n s l → FlatLiteral
+literal_over {l = l} o = literal_with o.signature l
 
 -- a flattened clause over a signature, with places for variables, within the limits
 pub record Groundable (arities : List ℕ) (c : FlatClause) (n : Numbering) (s : ℕ) : Type 0 where

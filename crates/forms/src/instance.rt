@@ -1,5 +1,5 @@
 // One instance of a clause: its forms under values of the clause's variables.
-ghost use Rattle.std.specs.Prelude.{◌≡◌, cond, [], ◌∷◌, ◌+◌, ◌*◌, ◌≤◌, ◌<◌, get_or, length, take};
+ghost use Rattle.std.specs.Prelude.{◌≡◌, IfSome, MatchOption, [], ◌∷◌, ◌+◌, ◌*◌, ◌≤◌, ◌<◌, get_or, length, take};
 ghost use Rattle.theory.specs.Instances.{kept};
 ghost use Rattle.stream.specs.Literals.{prop_clause_of};
 ghost use Rattle.forms.specs.LinearForms.{AllSafe, Safe, code_at, form_at, form_instance, is_true_at};
@@ -7,42 +7,24 @@ ghost use Rattle.forms.specs.LinearForms.{AllSafe, Safe, code_at, form_at, form_
 use indices::Element;
 use syntax::limits::Problem;
 
-// Whether the instance is kept, and the number of its literals.
-#[derive(Drop)]
-pub struct Instance {
-    pub kept: bool,
-    pub count: usize,
-}
-
-// The instance at these values; the codes of its literals are written from the start on.
-pub fn instance_at(forms: &[u32], count: usize, values: &[u8], codes: &mut [u32]) -> Instance
+// The number of literals of the instance at these values, whose codes are written from the start on; none where the instance is dropped.
+pub fn instance_at(forms: &[u32], count: usize, values: &[u8], codes: &mut [u32]) -> Option<usize>
     requires all_safe { AllSafe count forms.now × ((count * 10 ≤ length forms.now) × (length values.now ≡ 10)) }
     requires count_in_bounds { count ≤ length codes.old }
-    ensures count { result.count ≤ count }
-    ensures instance { kept (form_instance values.now count forms.now) ≡ cond result.kept (prop_clause_of (take result.count codes.new) ∷ []) [] }
+    ensures count { IfSome result (λ n. n ≤ count) }
+    ensures instance { MatchOption result (kept (form_instance values.now count forms.now) ≡ []) (λ n. kept (form_instance values.now count forms.now) ≡ prop_clause_of (take n codes.new) ∷ []) }
 {
     let mut written: usize = 0;
-    let mut at: usize = 0;
-    let mut left = count;
-    while 0 < left {
+    for i in 0..count {
+        let at = i * Problem::FORM;
         if forms[at] == 0 {
             codes[written] = code_at(forms, at, values);
             written += 1;
-        } else {
-            if is_true_at(forms, at, values) {
-                return Instance {
-                    kept: false,
-                    count: 0,
-                };
-            }
+        } else if is_true_at(forms, at, values) {
+            return None;
         }
-        at += Problem::FORM;
-        left -= 1;
     }
-    Instance {
-        kept: true,
-        count: written,
-    }
+    Some(written)
 }
 
 // Whether the equality at `at` is true.

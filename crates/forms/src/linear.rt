@@ -1,7 +1,7 @@
 // The literals of a flattened clause as linear forms in the values of the clause's variables.
 // A form is `Problem::FORM` numbers: kind, base, x, a, y, b, z, c, w, d. Under the values v it is the literal with the code
 // base + a·v[x] + b·v[y] + c·v[z] + d·v[w], or by its kind an equality of the variables at places x and y.
-ghost use Rattle.std.specs.Prelude.{◌≡◌, [], ◌∷◌, ◌+◌, ◌≤◌, length};
+ghost use Rattle.std.specs.Prelude.{◌≡◌, ◌+◌, ◌≤◌, get_or, length};
 ghost use Rattle.std.proofs.Math.Seq.{paste};
 ghost use Rattle.flattening.specs.Flat.{flat_in};
 ghost use Rattle.valuations.specs.Numbers.{max_prop_vars};
@@ -16,7 +16,7 @@ use syntax::limits::Problem;
 use syntax::size::DomainSize;
 use valuations::numbering::Numbering;
 
-// A form for each literal, one after the other.
+// A form for each literal, one after the other: room for the most there may be, since no call allocates.
 #[derive(Drop)]
 pub struct Forms {
     pub forms: [u32; Problem::MAX_FORMS],
@@ -31,20 +31,9 @@ pub fn forms_of(flat: FlatClause, arities: &[u8], n: Numbering, size: DomainSize
 {
     let mut forms = [0u32; Problem::MAX_FORMS];
     let literals = flat.literals;
-    let arguments = flat.arguments;
-    let mut i: usize = 0;
-    while i < flat.count {
-        let form = form_of(
-            literals[i],
-            arguments[i * Problem::MAX_ARITY],
-            arguments[i * Problem::MAX_ARITY + 1],
-            arguments[i * Problem::MAX_ARITY + 2],
-            arities,
-            n,
-            size,
-        );
+    for i in 0..flat.count {
+        let form = form_of(literals[i], arities, n, size);
         put(&mut forms, i * Problem::FORM, form);
-        i += 1;
     }
     Forms {
         forms,
@@ -57,40 +46,29 @@ fn put(forms: &mut [u32], at: usize, form: [u32; Problem::FORM])
     requires { at + 10 ≤ length forms.old }
     ensures { forms.new ≡ paste forms.old at form 10 }
 {
-    let mut j: usize = 0;
-    while j < Problem::FORM {
-        forms[at + j] = form[j];
-        j += 1;
-    }
+    forms[at..at + Problem::FORM].copy_from_slice(&form);
 }
 
-// The form of a literal, whose symbol stands before x, y and z, as many as its arity.
-fn form_of(
-    literal: Literal,
-    x: u8,
-    y: u8,
-    z: u8,
-    arities: &[u8],
-    n: Numbering,
-    size: DomainSize,
-) -> [u32; Problem::FORM]
-    requires { LiteralOver arities.now n size.0 literal (x ∷ y ∷ z ∷ []) }
+// The form of a literal.
+fn form_of(literal: Literal, arities: &[u8], n: Numbering, size: DomainSize) -> [u32; Problem::FORM]
+    requires { LiteralOver arities.now n size.0 literal }
     ensures safe { Safe result × (length result ≡ 10) }
-    ensures means { (o : LiteralOver arities.now n size.0 literal (x ∷ y ∷ z ∷ [])) → Means size.0 o.signature o.variables (literal_over o) result }
+    ensures means { (o : LiteralOver arities.now n size.0 literal) → Means size.0 o.signature o.variables (literal_over o) result }
 {
     let positive = literal.sign;
     let shape = literal.shape;
+    let arguments = literal.arguments;
     match shape {
         Shape::Predicate(p) => {
             let i = p as usize;
             let base = PropVar(n.bases[i]);
-            linear_form(positive, base, 2, arities[i], x, y, z, 0, 0, size)
+            linear_form(positive, base, 2, arities[i], arguments, 0, 0, size)
         }
         Shape::FunctionResult(f, result) => {
             let i = f as usize;
             let base = PropVar(n.bases[i]);
             let step = 2 * size.0 as u32;
-            linear_form(positive, base, step, arities[i], x, y, z, result, 2, size)
+            linear_form(positive, base, step, arities[i], arguments, result, 2, size)
         }
         Shape::VariableEquality(left, right) => equality_form(positive, left, right),
     }
@@ -108,30 +86,28 @@ fn equality_form(positive: bool, x: u8, y: u8) -> [u32; Problem::FORM]
     [2, 0, x, 0, y, 0, 0, 0, 0, 0]
 }
 
-// A symbol whose first variable is `base` at its arguments among x, y and z; their rank counts `step` times and the value at w counts d times.
+// A symbol whose first variable is `base` at as many of the arguments as its arity; their rank counts `step` times and the value at w counts d times.
 fn linear_form(
     positive: bool,
     base: PropVar,
     step: u32,
     arity: u8,
-    x: u8,
-    y: u8,
-    z: u8,
+    arguments: [u8; Problem::MAX_ARITY],
     w: u8,
     d: u32,
     size: DomainSize,
 ) -> [u32; Problem::FORM]
     requires { (base.0 ≤ max_prop_vars) × ((step ≤ 16) × ((arity ≤ 3) × (size.0 ≤ 8))) }
-    ensures { result ≡ linear_form positive base.0 step arity x y z w d size.0 }
+    ensures { result ≡ linear_form positive base.0 step arity (get_or arguments 0 0) (get_or arguments 1 0) (get_or arguments 2 0) w d size.0 }
 {
     [
         0,
         literal(base, positive),
-        place_of(arity, 0, x),
+        place_of(arity, 0, arguments[0]),
         step * weight_of(arity, 0, size),
-        place_of(arity, 1, y),
+        place_of(arity, 1, arguments[1]),
         step * weight_of(arity, 1, size),
-        place_of(arity, 2, z),
+        place_of(arity, 2, arguments[2]),
         step * weight_of(arity, 2, size),
         w as u32,
         d,

@@ -7,9 +7,7 @@ use Rattle.theory.specs.PropClauses.{not_both, cell_clauses, function_part, func
 use Rattle.syntax.specs.declared.signature.Symbol.{Symbol}
 use Rattle.syntax.specs.declared.signature.Signature as declared
 use Rattle.syntax.specs.Signatures.{signature_in}
-use Rattle.valuations.specs.declared.numbering.Numbering.{Numbering}
-use Rattle.stream.specs.declared.consumer.Mode.{Mode}
-use Rattle.stream.specs.Consuming.{State, Consumes, Consumed}
+use Rattle.stream.specs.Consuming.{Effect, Consumes, Consumed}
 
 -- not d or not e, for each e after d
 abbrev pub not_with : ℕ → ℕ → ℕ → List PropClause
@@ -28,9 +26,9 @@ unfoldable pub cell_part : ℕ → Signature → List PropClause
 cell_part s g = concat_map (λ i. (function_part s g i).clauses) (function_places g)
 
 -- at x, the clauses of the function cells of y come next; they are the same in each sheet that the symbols have their names in
-abbrev pub CellsNext : Mode → declared.Signature → Numbering → ℕ → State → Type 0
-CellsNext mode y n s x = (sheet : List ℕ) × Consumes mode n.count (cell_part s (signature_in sheet y)) x
+abbrev pub CellsNext : {S : Type 0} → Effect S → declared.Signature → ℕ → S → Type 0
+CellsNext effect y s x = (sheet : List ℕ) × Consumes effect (cell_part s (signature_in sheet y)) x
 
 -- from x to z, they were taken
-abbrev pub CellsTaken : Mode → declared.Signature → Numbering → ℕ → State → State → Type 0
-CellsTaken mode y n s x z = (sheet : List ℕ) → Consumed mode n.count (cell_part s (signature_in sheet y)) x z
+abbrev pub CellsTaken : {S : Type 0} → Effect S → declared.Signature → ℕ → S → S → Type 0
+CellsTaken effect y s x z = (sheet : List ℕ) → Consumed effect (cell_part s (signature_in sheet y)) x z

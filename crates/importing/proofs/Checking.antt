@@ -1,14 +1,14 @@
 -- One whole statement: what is told of it by its cnf, its occurrences and its limits.
 use Prim.Native.Nat.{ℕ, ◌+◌, ◌≤◌, ◌<◌}
 use mathlib.Core.Path.{◌≡◌, refl, sym, ap, ◌∙◌, subst}
-use mathlib.Core.Bool.{Bool, true, false, cond, not, ◌&&◌}
+use mathlib.Core.Bool.{Bool, true, false, not, ◌&&◌}
 use mathlib.Core.Option.{Option, none, some}
 use mathlib.Core.List.{List, [], ◌∷◌, ◌++◌}
 use native.Mathlib.Omega.{arith}
 use lib.Dec.{leb}
 use lib.ListN.{length}
 use lib.Seq.{take_all}
-use borrow.Author.Tests.{le-leb, lt-leb, ne_eqb}
+use borrow.Author.Tests.{le-leb, lt-leb}
 use Rattle.theory.specs.Lists.{all, concat_map}
 use Rattle.theory.specs.Syntax as theory
 use Rattle.theory.specs.Grammar.{Word, clause_words}
@@ -30,7 +30,7 @@ use Rattle.tptp.specs.Grammar.{opening}
 use Rattle.tptp.specs.Trees.{NameClause, Statement, statement_of}
 use Rattle.tptp.specs.Symbols.{Occurrence, clause_occurrences, variables_of, clause_over}
 use Rattle.tptp.specs.Scanning.{clause_entries, occurrence_in}
-use Rattle.tptp.specs.Tptp.{Fault, fault_if, statement_faults}
+use Rattle.tptp.specs.Tptp.{Fault, fault_if}
 use Rattle.tptp.specs.Claims.Order.{first_fault, declared_by, signature_by}
 use Rattle.tptp.specs.Claims.Deciding.{first_of_occurrences, first_of_limits}
 use Rattle.tptp.proofs.Stepping.{entry-occurrences}
@@ -41,14 +41,14 @@ use Rattle.statements.proofs.Wholes.{statement-start, statement-stop}
 use Rattle.scanning.specs.Taking.{entries_from}
 use Rattle.scanning.proofs.WholeEntered.{whole-entries}
 use Rattle.declaring.specs.declared.symbols.Symbols.{Symbols}
-use Rattle.declaring.specs.Tables.{TableOf, LimitedTable, fault_at}
+use Rattle.declaring.specs.Tables.{TableOf, LimitedTable}
 use Rattle.declaring.proofs.Tables.{says}
-use Rattle.importing.specs.declared.noting.Noting.{Noting}
-use Rattle.importing.specs.declared.survey.Checked.{Checked}
+use Rattle.importing.specs.declared.faults.TextFault.{TextFault}
+use Rattle.syntax.specs.declared.faults.Fault.TheVariants as fault
 use Rattle.importing.specs.Entered.{entry_words, entries_fit}
 use Rattle.importing.specs.Words.{StatementCoded}
-use Rattle.importing.specs.Noting.{occurrences_from, declared_of, StatementNoted}
-use Rattle.importing.specs.Surveys.{LineWords, StatementOf}
+use Rattle.importing.specs.Noting.{fault_of, occurrences_from, declared_of, StatementTaken, StatementRefused}
+use Rattle.importing.specs.Surveys.{LineWords, fault_after, StatementClean, StatementFaulty}
 use Rattle.importing.proofs.EntryLists.{words-length, clause-words}
 use Rattle.importing.proofs.Standing.{clause-fits, entries-known}
 
@@ -131,90 +131,70 @@ module _ (text : List ℕ) (at start stop end i : ℕ) (w : WholeAt text at star
   own-occurrences : occurrences_from text opening (start + 3) ≡ clause_occurrences s.clause
   own-occurrences = ap (concat_map occurrence_in) (whole-entries text at start stop end w) ∙ entry-occurrences s.clause
 
-  -- the statement's first fault
-  abbrev first : List theory.Symbol → Option Fault
-  first X = first_fault (statement_faults (signature_by (X ++ declared_by s.clause)) i s)
-
-  refused-so : (r : Checked) (n p : ℕ) → r.fault ≡ n → r.place ≡ p → (n ≡ 0 → ⊥) → p ≤ length text
-      → ((X : List theory.Symbol) → TableOf text X t → first X ≡ some (record { number = n; place = p })) → StatementOf text s i t r
-  refused-so r n p e f z l told =
-      let not-zero : r.fault ≡ 0 → ⊥ = λ k. z (sym e ∙ k) in
-      record {
-        fault = λ X T.
-            told X T ∙ ap (λ (m : ℕ). some (record { number = m; place = p })) (sym e) ∙ ap (λ (q : ℕ). some (record { number = r.fault; place = q })) (sym f)
-            ∙ sym (ap (λ (b : Bool). cond b none (some (record { number = r.fault; place = r.place }))) (ne_eqb r.fault 0 not-zero));
-        limited = λ k. absurd (not-zero k);
-        table = λ k. absurd (not-zero k);
-        words = λ k. absurd (not-zero k);
-        few = λ k. absurd (not-zero k);
-        within = omega (arith, f, l);
-      }
+  -- refused with the limits of a text
+  limits-at : (p : ℕ) → p ≤ length text → ((X : List theory.Symbol) → TableOf text X t → fault_after X i s ≡ some (record { number = 17; place = p })) → StatementFaulty text s i t (record { fault = fault.TextLimits; place = p })
+  limits-at p l told = record { fault = told; within = l }
 
   -- one clause too many
-  pub too_many : 64 ≤ i → (r : Checked) → r.fault ≡ 17 → r.place ≡ start → StatementOf text s i t r
-  too_many h r e f =
-      refused-so r 17 start e f (λ z. omega (arith, z)) (omega (arith, w.past, w.whole.within)) λ X T.
+  pub too_many : 64 ≤ i → StatementFaulty text s i t (record { fault = fault.TextLimits; place = start })
+  too_many h =
+      limits-at start (omega (arith, w.past, w.whole.within)) λ X T.
       of-statement X i s
       ∙ ap (λ (b : Bool). or_else (first_fault (fault_if b 17 s.start)) (or_else (first_of_occurrences X [] (clause_occurrences s.clause)) (first_of_limits X s))) (le-leb 64 i h)
       ∙ ap (λ (p : ℕ). some (record { number = 17; place = p })) (statement-start text at start stop end w)
 
-  module _ (few : i < 64) (noted : Noting) (n : StatementNoted text t (occurrences_from text opening (start + 3)) noted) where
-    after-cnf : (X : List theory.Symbol) → TableOf text X t → first X ≡ or_else (fault_at noted.fault noted.place) (first_of_limits X s)
-    after-cnf X T =
+  module _ (few : i < 64) where
+    after-cnf : (X : List theory.Symbol) (o : Option Fault) → first_of_occurrences X [] (occurrences_from text opening (start + 3)) ≡ o → fault_after X i s ≡ or_else o (first_of_limits X s)
+    after-cnf X o e =
         of-statement X i s
         ∙ ap (λ (b : Bool). or_else (first_fault (fault_if b 17 s.start)) (or_else (first_of_occurrences X [] (clause_occurrences s.clause)) (first_of_limits X s))) (lt-leb 64 i few)
-        ∙ ap (λ (o : Option Fault). or_else o (first_of_limits X s)) (ap (first_of_occurrences X []) (sym own-occurrences) ∙ n.fault X T)
+        ∙ ap (λ (o : Option Fault). or_else o (first_of_limits X s)) (ap (first_of_occurrences X []) (sym own-occurrences) ∙ e)
 
     -- a symbol or a variable has a fault
-    pub occurrence-faulty : (noted.fault ≡ 0 → ⊥) → (r : Checked) → r.fault ≡ noted.fault → r.place ≡ noted.place → StatementOf text s i t r
-    occurrence-faulty h r e f =
-        refused-so r noted.fault noted.place e f h n.within λ X T.
-        after-cnf X T ∙ ap (λ (b : Bool). or_else (cond b none (some (record { number = noted.fault; place = noted.place }))) (first_of_limits X s)) (ne_eqb noted.fault 0 h)
+    pub occurrence-faulty : (f : TextFault) → StatementRefused text t (occurrences_from text opening (start + 3)) f → StatementFaulty text s i t f
+    occurrence-faulty f n = record { fault = λ X T. after-cnf X (some (fault_of f)) (n.fault X T); within = n.within }
 
-    module _ (z : noted.fault ≡ 0) where
-      own-table : (X : List theory.Symbol) → TableOf text X t → TableOf text (X ++ declared_by s.clause) noted.table
-      own-table X T = subst (λ (os : List Occurrence). TableOf text (X ++ declared_of os) noted.table) own-occurrences (n.table z X T)
+    module _ (noted : Symbols) (n : StatementTaken text t (occurrences_from text opening (start + 3)) noted) where
+      own-table : (X : List theory.Symbol) → TableOf text X t → TableOf text (X ++ declared_by s.clause) noted
+      own-table X T = subst (λ (os : List Occurrence). TableOf text (X ++ declared_of os) noted) own-occurrences (n.table X T)
 
-      pub stands : (X : List theory.Symbol) → TableOf text X t → ClauseStands text noted.table.signature (start + 3) s.clause
+      pub stands : (X : List theory.Symbol) → TableOf text X t → ClauseStands text noted.signature (start + 3) s.clause
       stands X T =
-          stands_after text s.clause X noted.table (n.limited z) (own-table X T) (start + 3) w.rest (whole-entries text at start stop end w)
-          (ap (first_of_occurrences X []) (sym own-occurrences) ∙ n.fault X T ∙ ap (λ (k : ℕ). fault_at k noted.place) z)
+          stands_after text s.clause X noted n.limited (own-table X T) (start + 3) w.rest (whole-entries text at start stop end w) (ap (first_of_occurrences X []) (sym own-occurrences) ∙ n.clean X T)
 
       -- the clause over the symbols of the table
       abbrev clause : theory.Clause
-      clause = clause_over (signature_in text noted.table.signature) s.clause
+      clause = clause_over (signature_in text noted.signature) s.clause
 
-      by-limits : (fits : Bool) (X : List theory.Symbol) → TableOf text X t → within_limits (clause_words clause) clause ≡ fits → first X ≡ first_fault (fault_if (not fits) 17 stop)
+      by-limits : (fits : Bool) (X : List theory.Symbol) → TableOf text X t → within_limits (clause_words clause) clause ≡ fits → fault_after X i s ≡ first_fault (fault_if (not fits) 17 stop)
       by-limits fits X T e =
-          after-cnf X T
-          ∙ ap (λ (k : ℕ). or_else (fault_at k noted.place) (first_of_limits X s)) z
+          after-cnf X none (n.clean X T)
           ∙ ap (λ (u : theory.Signature). first_fault (fault_if (not (within_limits (clause_words (clause_over u s.clause)) (clause_over u s.clause))) 17 s.stop)) (sym (own-table X T).symbols)
           ∙ ap (λ (b : Bool). first_fault (fault_if (not b) 17 s.stop)) e
           ∙ ap (λ (p : ℕ). first_fault (fault_if (not fits) 17 p)) (statement-stop text at stop end w.whole)
 
-      module _ (v : Words) (coded : StatementCoded (signature_in text noted.table.signature) (entries_from text opening (start + 3)) v) where
-        over-limit : (r : Checked) → r.fault ≡ 17 → r.place ≡ stop → ((X : List theory.Symbol) → TableOf text X t → within_limits (clause_words clause) clause ≡ false) → StatementOf text s i t r
-        over-limit r e f told = refused-so r 17 stop e f (λ k. omega (arith, k)) (omega (arith, w.whole.later, w.whole.within)) λ X T. by-limits false X T (told X T)
+      module _ (v : Words) (coded : StatementCoded (signature_in text noted.signature) (entries_from text opening (start + 3)) v) where
+        over-limit : ((X : List theory.Symbol) → TableOf text X t → within_limits (clause_words clause) clause ≡ false) → StatementFaulty text s i t (record { fault = fault.TextLimits; place = stop })
+        over-limit told = limits-at stop (omega (arith, w.whole.later, w.whole.within)) λ X T. by-limits false X T (told X T)
 
         -- too many words
-        pub too-wordy : 64 < v.count → (r : Checked) → r.fault ≡ 17 → r.place ≡ stop → StatementOf text s i t r
-        too-wordy h r e f = over-limit r e f λ X T. too_long text noted.table.signature (start + 3) s.clause (stands X T) v coded h
+        pub too-wordy : 64 < v.count → StatementFaulty text s i t (record { fault = fault.TextLimits; place = stop })
+        too-wordy h = over-limit λ X T. too_long text noted.signature (start + 3) s.clause (stands X T) v coded h
 
-        module _ (h : v.count ≤ 64) (fits : Bool) (told : (k : WholeClause noted.table.signature v) → fits ≡ within_limits k.words k.clause) where
+        module _ (h : v.count ≤ 64) (fits : Bool) (told : (k : WholeClause noted.signature v) → fits ≡ within_limits k.words k.clause) where
           limits : (X : List theory.Symbol) → TableOf text X t → within_limits (clause_words clause) clause ≡ fits
-          limits X T = sym (told (whole-clause text noted.table.signature (start + 3) s.clause (stands X T) v coded h))
+          limits X T = sym (told (whole-clause text noted.signature (start + 3) s.clause (stands X T) v coded h))
 
           -- too many literals or flattened variables
-          pub too_large : fits ≡ false → (r : Checked) → r.fault ≡ 17 → r.place ≡ stop → StatementOf text s i t r
-          too_large over r e f = over-limit r e f λ X T. limits X T ∙ over
+          pub too_large : fits ≡ false → StatementFaulty text s i t (record { fault = fault.TextLimits; place = stop })
+          too_large over = over-limit λ X T. limits X T ∙ over
 
-          pub no-fault : fits ≡ true → (ws : ClauseWords) → ws ≡ codes_of v → StatementOf text s i t (record { table = noted.table; words = ws; fault = 0; place = stop })
+          pub no-fault : fits ≡ true → (ws : ClauseWords) → ws ≡ codes_of v → StatementClean text s i t (record { table = noted; words = ws })
           no-fault within ws e =
               record {
-                fault = λ X T. by-limits true X T (limits X T ∙ within);
-                limited = λ _. n.limited z;
-                table = λ _. own-table;
-                words = λ _ X T. subst (LineWords text noted.table.signature s.clause) (sym e) (line-words text noted.table.signature (start + 3) s.clause (stands X T) v coded h);
-                few = λ _. few;
-                within = omega (arith, w.whole.later, w.whole.within);
+                clean = λ X T. by-limits true X T (limits X T ∙ within);
+                limited = n.limited;
+                table = own-table;
+                words = λ X T. subst (LineWords text noted.signature s.clause) (sym e) (line-words text noted.signature (start + 3) s.clause (stands X T) v coded h);
+                few = few;
               }

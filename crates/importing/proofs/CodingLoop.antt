@@ -1,10 +1,11 @@
 -- The words of a statement's clause, read token by token.
 use Prim.Native.Nat.{ℕ, ◌≤◌, ◌<◌}
 use mathlib.Core.Path.{◌≡◌, refl, sym, ap, ◌∙◌, subst}
-use mathlib.Core.Bool.{Bool, true, ◌&&◌}
+use mathlib.Core.Bool.{true, ◌&&◌}
 use mathlib.Core.List.{List, [], ◌++◌, append_assoc, append-nil}
 use native.Mathlib.Omega.{arith}
 use lib.ListN.{length, length-append}
+use Rattle.std.specs.Prelude.{Some}
 use Rattle.theory.specs.Syntax as theory
 use Rattle.theory.specs.Grammar.{Word}
 use Rattle.theory.proofs.Tests.{and_left, and_right}
@@ -14,11 +15,12 @@ use Rattle.clauses.specs.Names.{Readable}
 use Rattle.clauses.specs.Clauses.{Passed}
 use Rattle.tptp.specs.Grammar.{DueToken, opening}
 use Rattle.tptp.specs.Scanning.{Entry, arity_ahead}
+use Rattle.statements.specs.Dues.{due_token_in}
 use Rattle.statements.specs.Follows.{Inside}
-use Rattle.scanning.specs.declared.entries.Entries.{Entries}
 use Rattle.scanning.specs.Ahead.{items_at}
 use Rattle.scanning.specs.Entries.{entries_in}
-use Rattle.scanning.specs.Taking.{name_in, entries_from, TokenTaken}
+use Rattle.scanning.specs.Taking.{name_in, entries_from, TakenFrom}
+use Rattle.scanning.specs.declared.taking.Taken.{Taken}
 use Rattle.importing.specs.declared.words.Coding.{Coding}
 use Rattle.importing.specs.Entered.{entry_words, entries_fit}
 use Rattle.importing.specs.Words.{CodingOf, Ready, Coded, StatementCoded}
@@ -61,12 +63,12 @@ module _ (text : List ℕ) (s : Signature) (at : ℕ) where
         record { whole = λ _. subst (λ (l : List Word). Passed g l c.words) (sym all) q.coding.passed; long = λ k. absurd (omega arith) }
 
     -- one token more
-    module _ (es : Entries) (opens : Bool) (start end : ℕ) (e : DueToken) (t : TokenTaken text d i es opens start end e) where
+    module _ (k : Taken) (t : TakenFrom text d i (Some k)) where
       abbrev here : List Entry
-      here = entries_in (name_in text start end) (arity_ahead (items_at text end)) es
+      here = entries_in (name_in text k.start k.end) (arity_ahead (items_at text k.end)) k.entries
 
       abbrev later : List Entry
-      later = entries_from text e end
+      later = entries_from text (due_token_in k.due) k.end
 
       parted : (entries_fit g q.variables here && entries_fit g (q.variables ++ names_in here) later) ≡ true
       parted = sym (ap (entries_fit g q.variables) t.adds ∙ fit-both g here later q.variables) ∙ q.fit
@@ -77,13 +79,13 @@ module _ (text : List ℕ) (s : Signature) (at : ℕ) where
       pub reached-ready : Readable text s → c.words.count ≤ 64 → Ready text s c 64 here
       reached-ready r h = record { readable = r; variables = q.variables; words = q.words; coding = q.coding; few = h; fit = fit-here }
 
-      pub reached-on : (r : Coding) → Coded text s c here r → Reached end e r
-      reached-on r k =
+      pub reached-on : (r : Coding) → Coded text s c here r → Reached k.end (due_token_in k.due) r
+      reached-on r coded =
           record {
             rest = t.rest;
             variables = q.variables ++ names_in here;
             words = q.words ++ entry_words g q.variables here;
-            coding = k q.variables q.words q.coding fit-here;
+            coding = coded q.variables q.words q.coding fit-here;
             fit = and_right (entries_fit g q.variables here) (entries_fit g (q.variables ++ names_in here) later) parted;
             whole =
                 q.whole

@@ -1,3 +1,4 @@
+pub mod Mapped
 pub mod EntryLists
 pub mod Coding
 pub mod CodingLoop

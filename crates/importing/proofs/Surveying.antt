@@ -1,12 +1,10 @@
 -- The survey statement by statement: those up to a place are whole and clean.
 use Prim.Native.Nat.{ℕ, suc, ◌+◌, ◌*◌, ◌≤◌}
 use mathlib.Core.Path.{◌≡◌, refl, sym, ap, ◌∙◌, subst}
-use mathlib.Core.Bool.{Bool, cond}
 use mathlib.Core.Option.{Option, none, some}
 use mathlib.Core.List.{List, [], ◌∷◌, ◌++◌, append_assoc, append-nil}
 use native.Mathlib.Omega.{arith}
 use lib.ListN.{length, take, length-append}
-use borrow.Author.Tests.{ne_eqb}
 use Rattle.theory.specs.Syntax.{Symbol}
 use Rattle.theory.specs.Least.{or_else}
 use Rattle.theory.specs.Problem.{max_clauses}
@@ -24,10 +22,13 @@ use Rattle.tokens.specs.NextTokens.{tokens_at}
 use Rattle.statements.specs.Follows.{own_tokens, file_at, ForeignFrom, WholeAt}
 use Rattle.statements.proofs.Wholes.{file-begins, file-whole, file-ends, file-foreign}
 use Rattle.declaring.specs.declared.symbols.Symbols.{Symbols}
-use Rattle.declaring.specs.Tables.{TableOf, LimitedTable, fault_at}
+use Rattle.declaring.specs.Tables.{TableOf, LimitedTable}
 use Rattle.sheet_text.specs.Parts.{Writable, clause_line}
+use Rattle.syntax.specs.declared.faults.Fault.TheVariants as fault
+use Rattle.importing.specs.declared.faults.TextFault.{TextFault}
 use Rattle.importing.specs.declared.survey.Checked.{Checked}
-use Rattle.importing.specs.Surveys.{LineWords, StatementStands, StatementOf, lines_in, Surveyed}
+use Rattle.importing.specs.Surveys.{LineWords, StatementStands, StatementClean, StatementFaulty, lines_in, CleanSurvey, LinesHeld, TextRefused}
+use Rattle.importing.specs.Noting.{fault_of}
 use Rattle.importing.proofs.LineTexts.{line_text, line_of}
 use Rattle.importing.proofs.SheetLines.{lines_of, all_lines}
 
@@ -75,38 +76,32 @@ module _ (text : List ℕ) (table : Symbols) (count len at : ℕ) (lines : List 
       ∙ after-clean q.done rest [] 0 q.clean
       ∙ ap (λ (k : ℕ). first_fault_from X k rest) n
 
-  pub ends : tokens_at text at ≡ [] → Surveyed text lines (record { table = table; count = count; length = len; fault = 0; place = at })
+  pub ends : tokens_at text at ≡ [] → CleanSurvey text (record { table = table; count = count; length = len }) × LinesHeld text lines (record { table = table; count = count; length = len })
   ends h =
       let f : file_at text at ≡ foreign_at none = file-ends text at h in
       let all : q.done ≡ (read_file text).statements = sym (q.statements ∙ ap (λ (f : File). q.done ++ f.statements) f ∙ append-nil q.done) in
       let clean : first_of_statements text ≡ none = ap (first_fault_from [] 0) (sym all) ∙ q.clean in
       let T : TableOf text (declared_in (read_file text).statements) table = subst (λ (ss : List Statement). TableOf text (declared_in ss) table) all q.declared in
-      let same_lines : lines_of q.done ≡ lines_in text = ap lines_of all ∙ all_lines text clean table q.limited T in
-      record {
-        refused = λ z. absurd (z refl);
-        within = q.within;
-        taken = λ _.
-            record {
-              foreign = q.foreign ∙ ap (λ (f : File). f.foreign) f;
-              clean = clean;
-              limited = q.limited;
-              table = T;
-              count = q.counted ∙ ap length all;
-              few = q.few;
-              measured = q.measured ∙ ap length same_lines;
-              short = omega (arith, q.small, q.few);
-            };
-        held = λ _ h. q.held h ∙ same_lines;
-      }
+      let same_lines : lines_of q.done ≡ lines_in text = ap lines_of all ∙ all_lines text clean table q.limited T in (
+        record {
+          foreign = q.foreign ∙ ap (λ (f : File). f.foreign) f;
+          clean = clean;
+          limited = q.limited;
+          table = T;
+          count = q.counted ∙ ap length all;
+          few = q.few;
+          measured = q.measured ∙ ap length same_lines;
+          short = omega (arith, q.small, q.few);
+        },
+        λ h. q.held h ∙ same_lines,
+      )
 
-  pub foreign_next : (p : ℕ) → ForeignFrom text statement at p → Surveyed text lines (record { table = table; count = count; length = len; fault = 15; place = p })
+  pub foreign_next : (p : ℕ) → ForeignFrom text statement at p → TextRefused text (record { fault = fault.Token; place = p })
   foreign_next p h =
       let f : file_at text at ≡ foreign_at (some p) = file-foreign text at p h in
       record {
-        refused = λ _ room. by-foreign text room p (first-of-rest [] (ap (λ (f : File). f.statements) f)) (q.foreign ∙ ap (λ (f : File). f.foreign) f);
+        refused = λ room. by-foreign text room p (first-of-rest [] (ap (λ (f : File). f.statements) f)) (q.foreign ∙ ap (λ (f : File). f.foreign) f);
         within = h.within;
-        taken = λ z. absurd (omega (arith, z));
-        held = λ z. absurd (omega (arith, z));
       }
 
   -- a whole statement next
@@ -120,69 +115,65 @@ module _ (text : List ℕ) (table : Symbols) (count len at : ℕ) (lines : List 
     pub standing : StatementStands text start stop table
     standing = record { at = at; end = end; whole = w; limited = q.limited; symbols = X; table = q.declared }
 
-    module _ (r : Checked) (k : StatementOf text s count table r) where
-      pub faulty : (r.fault ≡ 0 → ⊥) → Surveyed text lines (record { table = r.table; count = count; length = len; fault = r.fault; place = r.place })
-      faulty h =
-          let f : Fault = record { number = r.fault; place = r.place } in
-          let rest : List Statement = (file_at text end).statements in
+    pub faulty : (f : TextFault) → StatementFaulty text s count table f → TextRefused text f
+    faulty f k =
+        let rest : List Statement = (file_at text end).statements in
+        record {
+          refused = λ room.
+              by-statement text room (fault_of f)
+              (first-of-rest (s ∷ rest) (ap (λ (f : File). f.statements) next)
+              ∙ ap (λ (o : Option Fault). or_else o (first_fault_from (X ++ declared_by s.clause) (suc count) rest)) (k.fault X q.declared));
+          within = k.within;
+        }
+
+    module _ (r : Checked) (k : StatementClean text s count table r) where
+      abbrev done₁ : List Statement
+      done₁ = q.done ++ (s ∷ [])
+
+      abbrev line : List ℕ
+      line = clause_line (signature_in text r.table.signature) (words_in r.words)
+
+      own-clean : first_fault_from [] 0 done₁ ≡ none
+      own-clean =
+          let n : 0 + length q.done ≡ count = omega (arith, q.counted) in
+          after-clean q.done (s ∷ []) [] 0 q.clean
+          ∙ ap (λ (k : ℕ). first_fault_from X k (s ∷ [])) n
+          ∙ ap (λ (o : Option Fault). or_else o none) (k.clean X q.declared)
+
+      both-declared : declared_in done₁ ≡ X ++ declared_by s.clause
+      both-declared = concat_map-append (λ (s : Statement). declared_by s.clause) q.done (s ∷ []) ∙ ap (λ (ys : List Symbol). X ++ ys) (append-nil (declared_by s.clause))
+
+      own-words : LineWords text r.table.signature s.clause r.words
+      own-words = k.words X q.declared
+
+      both-lines : lines_of q.done ++ line ≡ lines_of done₁
+      both-lines =
+          let g = signature_in text r.table.signature in
+          ap (λ (l : List ℕ). lines_of q.done ++ l) (ap (clause_line g) own-words.words ∙ line_of g s.clause own-words.fit ∙ sym (append-nil (line_text s.clause)))
+          ∙ sym (concat_map-append (λ (s : Statement). line_text s.clause) q.done (s ∷ []))
+
+      pub line-writable : Writable text r.table.signature r.words
+      line-writable = own-words.writable
+
+      pub on : (lines' : List ℕ) (m : ℕ) → length lines' ≡ length lines → m ≡ len + length line → m ≤ len + 840 → (m ≤ length lines → lines' ≡ put lines len line) → SurveyedTo text r.table (count + 1) m end lines'
+      on lines' m same e short put-so =
           record {
-            refused = λ _ room.
-                by-statement text room f
-                (first-of-rest (s ∷ rest) (ap (λ (f : File). f.statements) next)
-                ∙ ap (λ (o : Option Fault). or_else o (first_fault_from (X ++ declared_by s.clause) (suc count) rest)) (k.fault X q.declared ∙ ap (λ (b : Bool). cond b none (some f)) (ne_eqb r.fault 0 h)));
-            within = k.within;
-            taken = λ z. absurd (h z);
-            held = λ z. absurd (h z);
+            done = done₁;
+            statements = q.statements ∙ ap (λ (f : File). q.done ++ f.statements) next ∙ sym (append_assoc q.done (s ∷ []) (file_at text end).statements);
+            foreign = q.foreign ∙ ap (λ (f : File). f.foreign) next;
+            clean = own-clean;
+            limited = k.limited;
+            declared = subst (λ (Y : List Symbol). TableOf text Y r.table) (sym both-declared) (k.table X q.declared);
+            counted = omega (arith, q.counted, length-append q.done (s ∷ []));
+            few = omega (arith, k.few);
+            measured = omega (arith, e, q.measured, ap length both-lines, length-append (lines_of q.done) line);
+            small = omega (arith, short, q.small);
+            held = λ h.
+                let room : m ≤ length lines = omega (arith, h, same) in
+                ap (λ (n : ℕ). take n lines') e
+                ∙ ap (take (len + length line)) (put-so room)
+                ∙ take_put lines len line (omega (arith, room, e))
+                ∙ ap (λ (l : List ℕ). l ++ line) (q.held (omega (arith, room, e)))
+                ∙ both-lines;
+            within = w.whole.within;
           }
-
-      module _ (z : r.fault ≡ 0) where
-        abbrev done₁ : List Statement
-        done₁ = q.done ++ (s ∷ [])
-
-        abbrev line : List ℕ
-        line = clause_line (signature_in text r.table.signature) (words_in r.words)
-
-        own-clean : first_fault_from [] 0 done₁ ≡ none
-        own-clean =
-            let n : 0 + length q.done ≡ count = omega (arith, q.counted) in
-            after-clean q.done (s ∷ []) [] 0 q.clean
-            ∙ ap (λ (k : ℕ). first_fault_from X k (s ∷ [])) n
-            ∙ ap (λ (o : Option Fault). or_else o none) (k.fault X q.declared ∙ ap (λ (n : ℕ). fault_at n r.place) z)
-
-        both-declared : declared_in done₁ ≡ X ++ declared_by s.clause
-        both-declared = concat_map-append (λ (s : Statement). declared_by s.clause) q.done (s ∷ []) ∙ ap (λ (ys : List Symbol). X ++ ys) (append-nil (declared_by s.clause))
-
-        own-words : LineWords text r.table.signature s.clause r.words
-        own-words = k.words z X q.declared
-
-        both-lines : lines_of q.done ++ line ≡ lines_of done₁
-        both-lines =
-            let g = signature_in text r.table.signature in
-            ap (λ (l : List ℕ). lines_of q.done ++ l) (ap (clause_line g) own-words.words ∙ line_of g s.clause own-words.fit ∙ sym (append-nil (line_text s.clause)))
-            ∙ sym (concat_map-append (λ (s : Statement). line_text s.clause) q.done (s ∷ []))
-
-        pub line-writable : Writable text r.table.signature r.words
-        line-writable = own-words.writable
-
-        pub on : (lines' : List ℕ) (m : ℕ) → length lines' ≡ length lines → m ≡ len + length line → m ≤ len + 840 → (m ≤ length lines → lines' ≡ put lines len line) → SurveyedTo text r.table (count + 1) m end lines'
-        on lines' m same e short put-so =
-            record {
-              done = done₁;
-              statements = q.statements ∙ ap (λ (f : File). q.done ++ f.statements) next ∙ sym (append_assoc q.done (s ∷ []) (file_at text end).statements);
-              foreign = q.foreign ∙ ap (λ (f : File). f.foreign) next;
-              clean = own-clean;
-              limited = k.limited z;
-              declared = subst (λ (Y : List Symbol). TableOf text Y r.table) (sym both-declared) (k.table z X q.declared);
-              counted = omega (arith, q.counted, length-append q.done (s ∷ []));
-              few = omega (arith, k.few z);
-              measured = omega (arith, e, q.measured, ap length both-lines, length-append (lines_of q.done) line);
-              small = omega (arith, short, q.small);
-              held = λ h.
-                  let room : m ≤ length lines = omega (arith, h, same) in
-                  ap (λ (n : ℕ). take n lines') e
-                  ∙ ap (take (len + length line)) (put-so room)
-                  ∙ take_put lines len line (omega (arith, room, e))
-                  ∙ ap (λ (l : List ℕ). l ++ line) (q.held (omega (arith, room, e)))
-                  ∙ both-lines;
-              within = w.whole.within;
-            }

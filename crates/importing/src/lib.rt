@@ -2,20 +2,24 @@
 // text the sheet is measured, and written where it fits.
 #![tactic(auto)]
 
+pub mod faults;
 pub mod noting;
 pub mod sheet;
 pub mod survey;
 pub mod words;
 
-ghost use Rattle.std.specs.Prelude.{ℕ, ◌≤◌, List, length};
-ghost use Rattle.answers.specs.Calls.{WritingCall};
+ghost use Rattle.std.specs.Prelude.{◌≡◌, ℕ, ◌≤◌, List, length};
+ghost use Rattle.theory.specs.Refusals.{refused};
+ghost use Rattle.syntax.specs.Faults.{number_of};
+ghost use Rattle.answers.specs.Answers.{refusal_in};
 ghost use Rattle.tptp.specs.Places.{refused_at};
 ghost use Rattle.importing.specs.Calls.{TptpCall};
 
-use answers::{WriteAnswer, at_place, needing};
-use argument_lists::pass::LISTS;
+use answers::{Refusal, WriteAnswer, at_place, needing};
+use argument_lists::pass::{LISTS, Lists};
 use sheet::{put_sheet, sheet_length};
 use survey::survey_statements;
+use syntax::faults::Fault;
 use syntax::limits::Problem;
 use tokens::places::place_of;
 
@@ -24,28 +28,28 @@ pub fn import_clauses(text: &[u8], output: &mut [u8]) -> WriteAnswer
     ensures { TptpCall text.now result output.old output.new }
 {
     let mut lines = [0u8; Problem::MAX_BYTES];
-    let mut counts = [0u8; LISTS];
-    let mut links = [0u16; LISTS];
-    let survey = survey_statements(text, &mut lines, &mut counts, &mut links);
-    if survey.fault != 0 {
-        return refused_at(text, survey.fault, survey.place);
-    }
+    let mut lists = Lists {
+        counts: [0; LISTS],
+        links: [0; LISTS],
+    };
+    let surveyed = survey_statements(text, &mut lines, &mut lists);
+    let survey = surveyed.map_err(|f| refused_at(text, f.fault, f.place))?;
     let length = sheet_length(survey);
     if Problem::MAX_BYTES < length {
-        return refused_at(text, 17, text.len());
+        return Err(refused_at(text, Fault::TextLimits, text.len()));
     }
     if output.len() < length {
-        return WriteAnswer::Refused(needing(11, length));
+        return Err(needing(Fault::OutputLength, length));
     }
     put_sheet(output, text, &lines, survey);
-    WriteAnswer::Written(length)
+    Ok(length)
 }
 
 // A refusal at the byte with n bytes before it.
-fn refused_at(text: &[u8], number: u8, n: usize) -> WriteAnswer
+fn refused_at(text: &[u8], fault: Fault, n: usize) -> Refusal
     requires { n ≤ length text.now }
-    ensures { (output : List ℕ) → WritingCall (refused_at text.now number n) result output output }
+    ensures { refused (refusal_in result) ≡ refused_at {A = List ℕ} text.now (number_of fault) n }
 {
     let place = place_of(text, n);
-    WriteAnswer::Refused(at_place(number, place.line, place.column))
+    at_place(fault, place.line, place.column)
 }

@@ -6,164 +6,120 @@ ghost use Rattle.declaring.specs.Letters.{Lettered, variable_occurrence};
 ghost use Rattle.statements.specs.Follows.{Inside};
 ghost use Rattle.scanning.specs.Entries.{occurrences_in};
 ghost use Rattle.scanning.specs.Taking.{name_in};
-ghost use Rattle.argument_lists.specs.Lists.{Room};
 ghost use Rattle.argument_lists.specs.Told.{ToldAt};
 ghost use Rattle.importing.specs.Noting.{NamedArity, occurrences_from, OccurrencesNoted, StatementNoted};
 
+use crate::faults::TextFault;
 use argument_lists::arity::{Arity, Told, arity_at, nothing_told, told_after};
+use argument_lists::pass::Lists;
 use declaring::letters::{Letters, letter_of, none};
 use declaring::symbols::{Symbols, declare};
 use scanning::entries::Named;
 use scanning::taking::{Taken, take_token};
 use statements::due::Due;
-use syntax::limits::Problem;
+use syntax::faults::Fault;
 
-// The symbols and variables after an occurrence, and the number of its fault, 0 for none.
-#[derive(Drop)]
+// The symbols and variables after an occurrence.
+#[derive(Clone, Copy)]
 pub struct Noted {
     pub table: Symbols,
     pub letters: Letters,
-    pub fault: u8,
-}
-
-// The symbols after a statement; or the number and the place of its first fault, number 0 for none.
-#[derive(Drop)]
-pub struct Noting {
-    pub table: Symbols,
-    pub fault: u8,
-    pub place: usize,
 }
 
 // A variable: the ninth is one too many.
-fn note_variable(text: &[u8], table: Symbols, letters: Letters, start: usize, end: usize) -> Noted
-    requires { LimitedTable text.now table × (Lettered text.now letters × ((start ≤ end) × (end ≤ length text.now))) }
-    ensures { OccurrencesNoted text.now table letters (variable_occurrence text.now start end ∷ []) start result }
+fn note_variable(text: &[u8], noted: Noted, start: usize, end: usize) -> Result<Noted, Fault>
+    requires { LimitedTable text.now noted.table × (Lettered text.now noted.letters × ((start ≤ end) × (end ≤ length text.now))) }
+    ensures { OccurrencesNoted text.now noted.table noted.letters (variable_occurrence text.now start end ∷ []) start result }
 {
-    let found = letter_of(text, letters, start, end);
-    let letters = found.letters;
-    if Problem::MAX_LETTERS <= found.place {
-        return Noted {
-            table,
-            letters,
-            fault: 17,
-        };
-    }
-    Noted {
-        table,
-        letters,
-        fault: 0,
-    }
+    let found = letter_of(text, noted.letters, start, end).ok_or(Fault::TextLimits)?;
+    Ok(Noted {
+        letters: found.letters,
+        ..noted
+    })
 }
 
 // A symbol.
 fn note_symbol(
     text: &[u8],
-    table: Symbols,
-    letters: Letters,
+    noted: Noted,
     start: usize,
     end: usize,
     function: bool,
     arity: usize,
-) -> Noted
-    requires { LimitedTable text.now table × (Lettered text.now letters × ((start ≤ end) × (end ≤ length text.now))) }
-    ensures { OccurrencesNoted text.now table letters (symbol_occurrence text.now start end function arity ∷ []) start result }
+) -> Result<Noted, Fault>
+    requires { LimitedTable text.now noted.table × (Lettered text.now noted.letters × ((start ≤ end) × (end ≤ length text.now))) }
+    ensures { OccurrencesNoted text.now noted.table noted.letters (symbol_occurrence text.now start end function arity ∷ []) start result }
 {
-    let declared = declare(text, table, start, end, function, arity);
-    let table = declared.table;
-    Noted {
-        table,
-        letters,
-        fault: declared.fault,
-    }
+    let table = declare(text, noted.table, start, end, function, arity)?;
+    Ok(Noted { table, ..noted })
 }
 
 // What a token names, a symbol with so many arguments.
 fn note_named(
     text: &[u8],
-    table: Symbols,
-    letters: Letters,
+    noted: Noted,
     named: Named,
     arity: usize,
     start: usize,
     end: usize,
-) -> Noted
-    requires { LimitedTable text.now table × (Lettered text.now letters × ((start ≤ end) × (end ≤ length text.now))) }
-    ensures { OccurrencesNoted text.now table letters (occurrences_in (name_in text.now start end) arity named) start result }
+) -> Result<Noted, Fault>
+    requires { LimitedTable text.now noted.table × (Lettered text.now noted.letters × ((start ≤ end) × (end ≤ length text.now))) }
+    ensures { OccurrencesNoted text.now noted.table noted.letters (occurrences_in (name_in text.now start end) arity named) start result }
 {
     match named {
-        Named::Nothing => Noted {
-            table,
-            letters,
-            fault: 0,
-        },
-        Named::Variable => note_variable(text, table, letters, start, end),
-        Named::Symbol(function) => {
-            note_symbol(text, table, letters, start, end, function, arity)
-        }
+        Named::Nothing => Ok(noted),
+        Named::Variable => note_variable(text, noted, start, end),
+        Named::Symbol(function) => note_symbol(text, noted, start, end, function, arity),
     }
 }
 
 // How many arguments what a token names has, if it is a symbol.
-fn arity_of(
-    text: &[u8],
-    end: usize,
-    named: Named,
-    told: Told,
-    counts: &mut [u8],
-    links: &mut [u16],
-) -> Arity
-    requires { (end ≤ length text.now) × (Room counts.old links.old × ToldAt text.now end counts.old told) }
-    ensures { NamedArity text.now end named counts.new result }
+fn arity_of(text: &[u8], end: usize, named: Named, told: Told, lists: &mut Lists) -> Arity
+    requires { (end ≤ length text.now) × ToldAt text.now end lists.old.counts told }
+    ensures { NamedArity text.now end named lists.new.counts result }
 {
     match named {
-        Named::Nothing => Arity { count: 0, told },
-        Named::Variable => Arity { count: 0, told },
-        Named::Symbol(_) => arity_at(text, end, counts, links, told),
+        Named::Symbol(_) => arity_at(text, end, lists, told),
+        Named::Nothing | Named::Variable => Arity { count: 0, told },
     }
 }
 
-// The statement from the place after its cnf on.
+// The statement from the place after its cnf on, up to its first fault.
 pub fn note_statement(
     text: &[u8],
     at: usize,
     before: Symbols,
-    counts: &mut [u8],
-    links: &mut [u16],
-) -> Noting
-    requires { LimitedTable text.now before × (Inside text.now opening at × Room counts.old links.old) }
+    lists: &mut Lists,
+) -> Result<Symbols, TextFault>
+    requires { LimitedTable text.now before × Inside text.now opening at }
     ensures { StatementNoted text.now before (occurrences_from text.now opening at) result }
 {
-    let mut table = before;
-    let mut letters = none();
+    let mut noted = Noted {
+        table: before,
+        letters: none(),
+    };
     let mut told = nothing_told();
     let mut due = Due::Opening;
     let mut i = at;
-    loop {
-        match take_token(text, i, due) {
-            Taken::Stop => {
-                return Noting {
-                    table,
-                    fault: 0,
-                    place: i,
-                };
+    while let Some(taken) = take_token(text, i, due) {
+        let Taken {
+            entries,
+            opens,
+            start,
+            end,
+            due: next,
+        } = taken;
+        let named = entries.named;
+        let arity = arity_of(text, end, named, told_after(told, opens), lists);
+        told = arity.told;
+        noted = note_named(text, noted, named, arity.count, start, end).map_err(|fault| {
+            TextFault {
+                fault,
+                place: start,
             }
-            Taken::Token(entries, opens, start, end, next) => {
-                let named = entries.named;
-                let arity = arity_of(text, end, named, told_after(told, opens), counts, links);
-                told = arity.told;
-                let noted = note_named(text, table, letters, named, arity.count, start, end);
-                table = noted.table;
-                if noted.fault != 0 {
-                    return Noting {
-                        table,
-                        fault: noted.fault,
-                        place: start,
-                    };
-                }
-                letters = noted.letters;
-                due = next;
-                i = end;
-            }
-        }
+        })?;
+        due = next;
+        i = end;
     }
+    Ok(noted.table)
 }

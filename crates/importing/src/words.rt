@@ -35,10 +35,12 @@ fn with_sign(signature: Signature, w: Words, positive: bool) -> Words
     requires { Limited signature × Begun signature w 66 }
     ensures { Continues signature w (grammar.sign positive ∷ []) result }
 {
-    if positive {
-        return with_code(signature, w, ClauseWords::PLUS);
-    }
-    with_code(signature, w, ClauseWords::MINUS)
+    let code = if positive {
+        ClauseWords::PLUS
+    } else {
+        ClauseWords::MINUS
+    };
+    with_code(signature, w, code)
 }
 
 // What stands in front of a literal.
@@ -56,32 +58,27 @@ fn with_marks(signature: Signature, w: Words, marks: Marks) -> Words
     }
 }
 
-// A variable.
+// A variable, which is no ninth.
 fn with_variable(text: &[u8], signature: Signature, c: Coding, start: usize, end: usize) -> Coding
     requires { Ready text.now signature c 66 (occurs (of_variable (name_in text.now start end)) ∷ []) × ((start ≤ end) × (end ≤ length text.now)) }
     ensures { Coded text.now signature c (occurs (of_variable (name_in text.now start end)) ∷ []) result }
 {
-    let letters = c.letters;
-    let found = letter_of(text, letters, start, end);
-    let words = c.words;
-    let letters = found.letters;
+    let found = letter_of(text, c.letters, start, end).unwrap();
     Coding {
-        words: with_code(signature, words, ClauseWords::LETTER + found.place as u8),
-        letters,
+        words: with_code(signature, c.words, ClauseWords::LETTER + found.place as u8),
+        letters: found.letters,
     }
 }
 
-// A symbol.
+// A symbol, which stands in the signature.
 fn with_symbol(text: &[u8], signature: Signature, c: Coding, start: usize, end: usize) -> Coding
     requires { Ready text.now signature c 66 (map occurs (occurrences_in (name_in text.now start end) 0 (Symbol true))) × ((start ≤ end) × (end ≤ length text.now)) }
     ensures { (function : Bool) (arity : ℕ) → Coded text.now signature c (map occurs (occurrences_in (name_in text.now start end) arity (Symbol function))) result }
 {
-    let place = find_name(text, signature, &text[start..end]);
-    let words = c.words;
-    let letters = c.letters;
+    let place = find_name(text, signature, &text[start..end]).unwrap();
     Coding {
-        words: with_code(signature, words, place as u8),
-        letters,
+        words: with_code(signature, c.words, place as u8),
+        letters: c.letters,
     }
 }
 
@@ -116,15 +113,11 @@ fn with_entries(
     requires { ((arity : ℕ) × Ready text.now signature c 64 (entries_in (name_in text.now start end) arity entries)) × ((start ≤ end) × (end ≤ length text.now)) }
     ensures { (arity : ℕ) → Coded text.now signature c (entries_in (name_in text.now start end) arity entries) result }
 {
-    let words = c.words;
-    let letters = c.letters;
-    let marks = entries.marks;
-    let named = entries.named;
     let marked = Coding {
-        words: with_marks(signature, words, marks),
-        letters,
+        words: with_marks(signature, c.words, entries.marks),
+        letters: c.letters,
     };
-    with_named(text, signature, marked, named, start, end)
+    with_named(text, signature, marked, entries.named, start, end)
 }
 
 // The words of the clause of a statement, from the place after its cnf on.
@@ -138,19 +131,20 @@ pub fn words_of(text: &[u8], at: usize, signature: Signature) -> Words
     };
     let mut due = Due::Opening;
     let mut i = at;
-    loop {
+    while let Some(taken) = take_token(text, i, due) {
+        let Taken {
+            entries,
+            start,
+            end,
+            due: next,
+            ..
+        } = taken;
+        c = with_entries(text, signature, c, entries, start, end);
         if Problem::MAX_WORDS < c.words.count {
-            return c.words;
+            break;
         }
-        match take_token(text, i, due) {
-            Taken::Stop => {
-                return c.words;
-            }
-            Taken::Token(entries, _opens, start, end, next) => {
-                c = with_entries(text, signature, c, entries, start, end);
-                due = next;
-                i = end;
-            }
-        }
+        due = next;
+        i = end;
     }
+    c.words
 }

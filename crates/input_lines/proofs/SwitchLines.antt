@@ -12,9 +12,9 @@ use Rattle.theory.specs.Lines.{after_key}
 use Rattle.theory.specs.Least.{or_else}
 use Rattle.theory.specs.Program.{◌>>?◌, switch_line}
 use Rattle.text.specs.Lines.{StartsWith}
-use Rattle.input_lines.specs.declared.switches.SwitchLine.TheVariants.{Switch, Fault}
-use Rattle.input_lines.specs.Switches.{SwitchRead}
+use Rattle.input_lines.specs.Lines.{LineRead}
 use Rattle.input_lines.proofs.LentRest.{rest}
+use Rattle.std.specs.Prelude.{Some, None}
 
 module _ (input : List ℕ) (at : ℕ) (h : at ≤ length input) where
   -- the reader of keys says whether the part that it is lent begins with the key
@@ -32,7 +32,7 @@ module _ (input : List ℕ) (at : ℕ) (h : at ≤ length input) where
   unfolding switch_line
   switched o q e f = ap (λ (o : Option (List ℕ)). saying o (after_key (bytes "sym=no\n") (drop at input))) e ∙ ap (saying o) f
 
-  pub says-yes : (r : Bool) → Says (bytes "sym=yes\n") r → r ≡ true → SwitchRead input at (Switch true (at + 8))
+  pub says-yes : (r : Bool) → Says (bytes "sym=yes\n") r → r ≡ true → LineRead switch_line input at (Some (true, (at + 8)))
   unfolding ◌>>?◌
   says-yes r s e =
       let t = begins (bytes "sym=yes\n") r true s e in
@@ -45,7 +45,7 @@ module _ (input : List ℕ) (at : ℕ) (h : at ≤ length input) where
     not_yes : after_key (bytes "sym=yes\n") (drop at input) ≡ none
     not_yes = (begins (bytes "sym=yes\n") q false s d).found
 
-    pub says-no : (r : Bool) → Says (bytes "sym=no\n") r → r ≡ true → SwitchRead input at (Switch false (at + 7))
+    pub says-no : (r : Bool) → Says (bytes "sym=no\n") r → r ≡ true → LineRead switch_line input at (Some (false, (at + 7)))
     unfolding ◌>>?◌
     says-no r s e =
         let t = begins (bytes "sym=no\n") r true s e in
@@ -54,6 +54,6 @@ module _ (input : List ℕ) (at : ℕ) (h : at ≤ length input) where
           within = omega (arith, t.room refl, length-drop at input, h);
         }
 
-    pub says-neither : (r : Bool) → Says (bytes "sym=no\n") r → r ≡ false → SwitchRead input at Fault
+    pub says-neither : (r : Bool) → Says (bytes "sym=no\n") r → r ≡ false → LineRead switch_line input at None
     unfolding ◌>>?◌
     says-neither r s e = record { read = sym (switched none none not_yes (begins (bytes "sym=no\n") r false s e).found); within = tt }

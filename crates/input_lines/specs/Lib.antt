@@ -1,3 +1,1 @@
-pub mod Digits
-pub mod Switches
-pub mod Allowances
+pub mod Lines

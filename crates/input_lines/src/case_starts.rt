@@ -8,24 +8,19 @@ use text::lines::starts_with;
 pub fn case_start(input: &[u8]) -> usize
     ensures { result ≡ theory.case_start true input.now }
 {
-    let mut i: usize = 0;
     let mut fresh = true;
-    while i < input.len() {
+    for i in 0..input.len() {
         if case_here(&input[i..], fresh) {
             return i;
         }
         fresh = input[i] == b'\n';
-        i += 1;
     }
-    i
+    input.len()
 }
 
 // Whether the text begins with a case's first line, where a line starts.
 fn case_here(text: &[u8], fresh: bool) -> bool
     ensures { result ≡ theory.case_here fresh text.now }
 {
-    if fresh {
-        return starts_with(text, b"case=1\n");
-    }
-    false
+    fresh && starts_with(text, b"case=1\n")
 }

@@ -32,7 +32,7 @@ variables-flat g f = refl
 -- the instances of a flattened clause with places for variables
 instances-flat : (s : ℕ) (g : Signature) (f : FlatClause) → instances s g (flat_in g f) ≡ concat_map (λ v. kept (instance s g (flat_value [] v) (flat_in g f).literals)) (vectors s f.variables)
 unfolding instances flat_in variable_count
-instances-flat s g f = ap (λ (n : ℕ). concat_map (λ v. kept (instance s g (flat_value [] v) (map (literal_in g f.literals f.arguments) (up_to f.count)))) (vectors s n)) (zero-add f.variables)
+instances-flat s g f = ap (λ (n : ℕ). concat_map (λ v. kept (instance s g (flat_value [] v) (map (literal_in g f.literals) (up_to f.count)))) (vectors s n)) (zero-add f.variables)
 
 module _ (sheet : List ℕ) (p : Problem) (h : Accepted sheet p) (arities : List ℕ) (held : take p.signature.count arities ≡ arities_of (take p.signature.count p.signature.symbols))
     (k : ℕ) (w : ClauseWords) (words : WordsOf sheet p k w) where

@@ -1,8 +1,7 @@
 -- The instances under the choices before one, and of the clauses before one, taken.
 use Prim.Native.Nat.{ℕ, ◌+◌, ◌^◌, ◌<◌}
 use mathlib.Core.Path.{◌≡◌, refl, sym, ap, ◌∙◌}
-use mathlib.Core.Bool.{Bool, true, false, cond, not}
-use mathlib.Core.List.{List, [], ◌∷◌}
+use mathlib.Core.List.{List, []}
 use native.Mathlib.Omega.{arith}
 use lib.ListN.{get_or, take}
 use Rattle.theory.specs.Lists.{concat_map, up_to}
@@ -14,9 +13,8 @@ use Rattle.theory.proofs.Vectors.{length-vectors}
 use Rattle.syntax.specs.declared.limits.Problem.{Problem}
 use Rattle.interpretation.specs.declared.vector.ArgumentVector.{ArgumentVector}
 use Rattle.problem.specs.Problems.{problem_in, Accepted}
-use Rattle.stream.specs.declared.consumer.Mode.{Mode}
-use Rattle.stream.specs.Consuming.{State, Consumes, Consumed}
-use Rattle.stream.proofs.Streams.{none-consumed, consumes-same, consumed-same, begun-consumed, next-consumes, more-consumed, all-consumed}
+use Rattle.stream.specs.Consuming.{Effect, Consumes, Consumed}
+use Rattle.stream.proofs.Streams.{consumes-same, consumed-same, begun-consumed, next-consumes, more-consumed, all-consumed}
 use Rattle.forms.specs.LinearForms.{form_instance}
 use Rattle.problem.proofs.Counted.{clause-count}
 use Rattle.instancing.specs.Choices.{ChoiceAt}
@@ -24,20 +22,7 @@ use Rattle.instancing.specs.ClauseForms.{FormsOf, instance_under, all_instances}
 use Rattle.instancing.specs.InstancePart.{instances_of, instance_part}
 use Rattle.instancing.proofs.Counting.{by-places}
 
--- a dropped instance is none, a kept one is one clause
-pub dropped : (b : Bool) (cs : List PropClause) (c : PropClause) → not b ≡ true → cs ≡ cond b (c ∷ []) [] → cs ≡ []
-dropped true cs c h e = let z : ◌≡◌ {A = ℕ} 0 1 = cc in absurd (omega arith)
-dropped false cs c h e = e
-
-pub taken : (b : Bool) (cs : List PropClause) (c : PropClause) → not b ≡ false → cs ≡ cond b (c ∷ []) [] → cs ≡ c ∷ []
-taken true cs c h e = e
-taken false cs c h e = let z : ◌≡◌ {A = ℕ} 0 1 = cc in absurd (omega arith)
-
-module _ (mode : Mode) (v : ℕ) (x : State) where
-  -- nothing is taken of a dropped instance
-  pub dropped-consumed : (b : Bool) (cs : List PropClause) (c : PropClause) → not b ≡ true → cs ≡ cond b (c ∷ []) [] → Consumed mode v cs x x
-  dropped-consumed b cs c h e = consumed-same mode v [] cs x x (sym (dropped b cs c h e)) (none-consumed mode v x)
-
+module _ {S : Type 0} (effect : Effect S) (x : S) where
   module _ {s n count : ℕ} {fs : List ℕ} (o : FormsOf s n count fs) where
     -- the instance under choice i
     abbrev pub choice_instance : ℕ → List PropClause
@@ -47,11 +32,11 @@ module _ (mode : Mode) (v : ℕ) (x : State) where
     whole = by-places (instance_under o) [] (vectors s n) ∙ ap (λ (m : ℕ). concat_map choice_instance (up_to m)) (length-vectors s n)
 
     -- the instances under the first i choices are taken
-    abbrev pub ChoicesTaken : ℕ → State → Type 0
-    ChoicesTaken i y = Consumed mode v (concat_map choice_instance (up_to i)) x y
+    abbrev pub ChoicesTaken : ℕ → S → Type 0
+    ChoicesTaken i y = Consumed effect (concat_map choice_instance (up_to i)) x y
 
     pub no-choice : ChoicesTaken 0 x
-    no-choice = begun-consumed mode v choice_instance 0 (s ^ n) x 0 refl
+    no-choice = begun-consumed effect choice_instance 0 (s ^ n) x 0 refl
 
     module _ (a : ArgumentVector) (i : ℕ) (c : ChoiceAt s n a i) (h : i < s ^ n) where
       under : choice_instance i ≡ kept (form_instance a.digits count fs)
@@ -59,30 +44,30 @@ module _ (mode : Mode) (v : ℕ) (x : State) where
           ap (instance_under o) (sym (c.chosen h) ∙ ap (λ (m : ℕ). take m a.digits) c.count)
           ∙ ap kept (o.linear a.digits)
 
-      pub choice-consumes : (y : State) → Consumes mode v (all_instances o) x → ChoicesTaken i y → Consumes mode v (kept (form_instance a.digits count fs)) y
+      pub choice-consumes : (y : S) → Consumes effect (all_instances o) x → ChoicesTaken i y → Consumes effect (kept (form_instance a.digits count fs)) y
       choice-consumes y p q =
-          consumes-same mode v (choice_instance i) (kept (form_instance a.digits count fs)) y under
-          (next-consumes mode v choice_instance 0 (s ^ n) x i i y h (omega arith) (consumes-same mode v (all_instances o) (concat_map choice_instance (up_to (s ^ n))) x whole p) q)
+          consumes-same effect (choice_instance i) (kept (form_instance a.digits count fs)) y under
+          (next-consumes effect choice_instance 0 (s ^ n) x i i y h (omega arith) (consumes-same effect (all_instances o) (concat_map choice_instance (up_to (s ^ n))) x whole p) q)
 
-      pub choice-consumed : (y z : State) → ChoicesTaken i y → Consumed mode v (kept (form_instance a.digits count fs)) y z → ChoicesTaken (i + 1) z
+      pub choice-consumed : (y z : S) → ChoicesTaken i y → Consumed effect (kept (form_instance a.digits count fs)) y z → ChoicesTaken (i + 1) z
       choice-consumed y z p q =
-          more-consumed mode v choice_instance 0 (s ^ n) x i (i + 1) i y z (omega arith) (omega arith) p
-          (consumed-same mode v (kept (form_instance a.digits count fs)) (choice_instance i) y z (sym under) q)
+          more-consumed effect choice_instance 0 (s ^ n) x i (i + 1) i y z (omega arith) (omega arith) p
+          (consumed-same effect (kept (form_instance a.digits count fs)) (choice_instance i) y z (sym under) q)
 
-    pub all-choices : (i : ℕ) (y : State) → i ≡ s ^ n → ChoicesTaken i y → Consumed mode v (all_instances o) x y
+    pub all-choices : (i : ℕ) (y : S) → i ≡ s ^ n → ChoicesTaken i y → Consumed effect (all_instances o) x y
     all-choices i y e p =
-        consumed-same mode v (concat_map choice_instance (up_to (s ^ n))) (all_instances o) x y (sym whole) (all-consumed mode v choice_instance 0 (s ^ n) x i y e p)
+        consumed-same effect (concat_map choice_instance (up_to (s ^ n))) (all_instances o) x y (sym whole) (all-consumed effect choice_instance 0 (s ^ n) x i y e p)
 
   module _ (size : ℕ) (sheet : List ℕ) (p : Problem) where
     -- the instances of the first k clauses are taken
-    abbrev pub ClausesTaken : ℕ → State → Type 0
-    ClausesTaken k y = Consumed mode v (concat_map (instances_of size (problem_in sheet p)) (up_to k)) x y
+    abbrev pub ClausesTaken : ℕ → S → Type 0
+    ClausesTaken k y = Consumed effect (concat_map (instances_of size (problem_in sheet p)) (up_to k)) x y
 
     pub no-clause : ClausesTaken 0 x
-    no-clause = begun-consumed mode v (instances_of size (problem_in sheet p)) 0 p.count x 0 refl
+    no-clause = begun-consumed effect (instances_of size (problem_in sheet p)) 0 p.count x 0 refl
 
-    pub clause-consumed : (k : ℕ) (y z : State) → ClausesTaken k y → Consumed mode v (instances_of size (problem_in sheet p) k) y z → ClausesTaken (k + 1) z
-    clause-consumed k y z q r = more-consumed mode v (instances_of size (problem_in sheet p)) 0 p.count x k (k + 1) k y z (omega arith) (omega arith) q r
+    pub clause-consumed : (k : ℕ) (y z : S) → ClausesTaken k y → Consumed effect (instances_of size (problem_in sheet p) k) y z → ClausesTaken (k + 1) z
+    clause-consumed k y z q r = more-consumed effect (instances_of size (problem_in sheet p)) 0 p.count x k (k + 1) k y z (omega arith) (omega arith) q r
 
     module _ (h : Accepted sheet p) where
       every-clause : instance_part size (problem_in sheet p) ≡ concat_map (instances_of size (problem_in sheet p)) (up_to p.count)
@@ -91,12 +76,12 @@ module _ (mode : Mode) (v : ℕ) (x : State) where
           by-places (λ c. instances size (problem_in sheet p).symbols (flatten c)) [] (problem_in sheet p).clauses
           ∙ ap (λ (m : ℕ). concat_map (instances_of size (problem_in sheet p)) (up_to m)) (clause-count sheet p h)
 
-      pub clause-consumes : (k : ℕ) (y : State) → k < p.count → Consumes mode v (instance_part size (problem_in sheet p)) x → ClausesTaken k y → Consumes mode v (instances_of size (problem_in sheet p) k) y
+      pub clause-consumes : (k : ℕ) (y : S) → k < p.count → Consumes effect (instance_part size (problem_in sheet p)) x → ClausesTaken k y → Consumes effect (instances_of size (problem_in sheet p) k) y
       clause-consumes k y l q r =
-          next-consumes mode v (instances_of size (problem_in sheet p)) 0 p.count x k k y l (omega arith)
-          (consumes-same mode v (instance_part size (problem_in sheet p)) (concat_map (instances_of size (problem_in sheet p)) (up_to p.count)) x every-clause q) r
+          next-consumes effect (instances_of size (problem_in sheet p)) 0 p.count x k k y l (omega arith)
+          (consumes-same effect (instance_part size (problem_in sheet p)) (concat_map (instances_of size (problem_in sheet p)) (up_to p.count)) x every-clause q) r
 
-      pub all-clauses : (k : ℕ) (y : State) → k ≡ p.count → ClausesTaken k y → Consumed mode v (instance_part size (problem_in sheet p)) x y
+      pub all-clauses : (k : ℕ) (y : S) → k ≡ p.count → ClausesTaken k y → Consumed effect (instance_part size (problem_in sheet p)) x y
       all-clauses k y e q =
-          consumed-same mode v (concat_map (instances_of size (problem_in sheet p)) (up_to p.count)) (instance_part size (problem_in sheet p)) x y (sym every-clause)
-          (all-consumed mode v (instances_of size (problem_in sheet p)) 0 p.count x k y e q)
+          consumed-same effect (concat_map (instances_of size (problem_in sheet p)) (up_to p.count)) (instance_part size (problem_in sheet p)) x y (sym every-clause)
+          (all-consumed effect (instances_of size (problem_in sheet p)) 0 p.count x k y e q)

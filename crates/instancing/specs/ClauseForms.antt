@@ -6,8 +6,7 @@ use Rattle.theory.specs.Syntax.{Signature}
 use Rattle.theory.specs.Flattening.{FlatLiteral}
 use Rattle.theory.specs.Propositional.{PropClause}
 use Rattle.theory.specs.Instances.{flat_value, instance, kept}
-use Rattle.stream.specs.declared.consumer.Mode.{Mode}
-use Rattle.stream.specs.Consuming.{State, Consumes, Consumed}
+use Rattle.stream.specs.Consuming.{Effect, Consumes, Consumed}
 use Rattle.forms.specs.LinearForms.{form_instance}
 
 -- so many forms are of shallow literals over n variables; values past those of the variables do not count
@@ -25,17 +24,17 @@ abbrev pub all_instances : {s n count : ℕ} {fs : List ℕ} → FormsOf s n cou
 all_instances {s = s} {n = n} o = concat_map (instance_under o) (vectors s n)
 
 -- at x, these instances come next, of literals of which so many forms are
-abbrev pub FormsNext : Mode → ℕ → ℕ → ℕ → ℕ → List ℕ → State → Type 0
-FormsNext mode v s n count fs x = (o : FormsOf s n count fs) × Consumes mode v (all_instances o) x
+abbrev pub FormsNext : {S : Type 0} → Effect S → ℕ → ℕ → ℕ → List ℕ → S → Type 0
+FormsNext effect s n count fs x = (o : FormsOf s n count fs) × Consumes effect (all_instances o) x
 
 -- from x to y, they were taken, of whatever literals the forms are
-abbrev pub FormsTaken : Mode → ℕ → ℕ → ℕ → ℕ → List ℕ → State → State → Type 0
-FormsTaken mode v s n count fs x y = (o : FormsOf s n count fs) → Consumed mode v (all_instances o) x y
+abbrev pub FormsTaken : {S : Type 0} → Effect S → ℕ → ℕ → ℕ → List ℕ → S → S → Type 0
+FormsTaken effect s n count fs x y = (o : FormsOf s n count fs) → Consumed effect (all_instances o) x y
 
 -- at x, the instance of so many forms under some values comes next, unless it is dropped
-abbrev pub InstanceNext : Mode → ℕ → List ℕ → ℕ → List ℕ → State → Type 0
-InstanceNext mode v values count fs x = Consumes mode v (kept (form_instance values count fs)) x
+abbrev pub InstanceNext : {S : Type 0} → Effect S → List ℕ → ℕ → List ℕ → S → Type 0
+InstanceNext effect values count fs x = Consumes effect (kept (form_instance values count fs)) x
 
 -- from x to y, it was taken
-abbrev pub InstanceTaken : Mode → ℕ → List ℕ → ℕ → List ℕ → State → State → Type 0
-InstanceTaken mode v values count fs x y = Consumed mode v (kept (form_instance values count fs)) x y
+abbrev pub InstanceTaken : {S : Type 0} → Effect S → List ℕ → ℕ → List ℕ → S → S → Type 0
+InstanceTaken effect values count fs x y = Consumed effect (kept (form_instance values count fs)) x y

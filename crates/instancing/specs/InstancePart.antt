@@ -7,9 +7,7 @@ use Rattle.theory.specs.Instances.{instances}
 use Rattle.theory.specs.Problem.{Problem}
 use Rattle.syntax.specs.declared.limits.Problem as limits
 use Rattle.problem.specs.Problems.{problem_in}
-use Rattle.valuations.specs.declared.numbering.Numbering.{Numbering}
-use Rattle.stream.specs.declared.consumer.Mode.{Mode}
-use Rattle.stream.specs.Consuming.{State, Consumes, Consumed}
+use Rattle.stream.specs.Consuming.{Effect, Consumes, Consumed}
 
 -- the instances of clause k
 unfoldable pub instances_of : ℕ → Problem → ℕ → List PropClause
@@ -20,17 +18,17 @@ unfoldable pub instance_part : ℕ → Problem → List PropClause
 instance_part s p = concat_map (λ c. instances s p.symbols (flatten c)) p.clauses
 
 -- at x, the instances of clause k of the problem that p is in a sheet come next
-abbrev pub ClauseNext : Mode → List ℕ → limits.Problem → ℕ → Numbering → ℕ → State → Type 0
-ClauseNext mode sheet p k n s x = Consumes mode n.count (instances_of s (problem_in sheet p) k) x
+abbrev pub ClauseNext : {S : Type 0} → Effect S → List ℕ → limits.Problem → ℕ → ℕ → S → Type 0
+ClauseNext effect sheet p k s x = Consumes effect (instances_of s (problem_in sheet p) k) x
 
 -- from x to y, they were taken
-abbrev pub ClauseTaken : Mode → List ℕ → limits.Problem → ℕ → Numbering → ℕ → State → State → Type 0
-ClauseTaken mode sheet p k n s x y = Consumed mode n.count (instances_of s (problem_in sheet p) k) x y
+abbrev pub ClauseTaken : {S : Type 0} → Effect S → List ℕ → limits.Problem → ℕ → ℕ → S → S → Type 0
+ClauseTaken effect sheet p k s x y = Consumed effect (instances_of s (problem_in sheet p) k) x y
 
 -- at x, the instances of all its clauses come next
-abbrev pub InstancesNext : Mode → List ℕ → limits.Problem → Numbering → ℕ → State → Type 0
-InstancesNext mode sheet p n s x = Consumes mode n.count (instance_part s (problem_in sheet p)) x
+abbrev pub InstancesNext : {S : Type 0} → Effect S → List ℕ → limits.Problem → ℕ → S → Type 0
+InstancesNext effect sheet p s x = Consumes effect (instance_part s (problem_in sheet p)) x
 
 -- from x to y, they were taken
-abbrev pub InstancesTaken : Mode → List ℕ → limits.Problem → Numbering → ℕ → State → State → Type 0
-InstancesTaken mode sheet p n s x y = Consumed mode n.count (instance_part s (problem_in sheet p)) x y
+abbrev pub InstancesTaken : {S : Type 0} → Effect S → List ℕ → limits.Problem → ℕ → S → S → Type 0
+InstancesTaken effect sheet p s x y = Consumed effect (instance_part s (problem_in sheet p)) x y

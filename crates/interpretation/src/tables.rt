@@ -29,14 +29,12 @@ pub fn tables_of(signature: Signature, size: DomainSize) -> Tables
         bases: [0; Problem::MAX_SYMBOLS],
         cells: 0,
     };
-    let mut i: usize = 0;
-    while i < signature.count {
+    for i in 0..signature.count {
         let symbol = signature.symbols[i];
         t.arities[i] = symbol.arity;
         t.functions[i] = symbol.function;
         t.bases[i] = t.cells;
-        t.cells = t.cells + power(size.0, symbol.arity as usize);
-        i += 1;
+        t.cells += power(size.0, symbol.arity as usize);
     }
     t
 }

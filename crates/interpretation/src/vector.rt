@@ -30,9 +30,7 @@ impl ArgumentVector {
         ensures { IsNext self result }
     {
         let size = self.size.0 as u8;
-        let mut i = self.count;
-        while 0 < i {
-            i -= 1;
+        for i in (0..self.count).rev() {
             let d = self.digits[i];
             if d + 1 < size {
                 self.digits[i] = d + 1;
@@ -49,11 +47,5 @@ pub fn power(base: usize, count: usize) -> usize
     requires { (base ≤ 8) × (count ≤ 10) }
     ensures { result ≡ base ^ count }
 {
-    let mut n: usize = 1;
-    let mut i: usize = 0;
-    while i < count {
-        n = n * base;
-        i += 1;
-    }
-    n
+    base.pow(count as u32)
 }

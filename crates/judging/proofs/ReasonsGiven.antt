@@ -1,12 +1,15 @@
 -- From a failure to the reason that is shown of it.
 use Prim.Native.Nat.{ℕ, suc, ◌+◌, ◌≤◌}
 use mathlib.Core.Path.{◌≡◌, refl, sym, ap, ◌∙◌}
-use mathlib.Core.Bool.{Bool, true, false, cond, not}
-use mathlib.Core.Option.{none, some}
+use mathlib.Core.Bool.{true, not}
+use mathlib.Core.Option.{some}
 use mathlib.Core.List.{List, [], map}
 use native.Mathlib.Numerals.{add-one}
 use native.Mathlib.Omega.{arith}
 use lib.ListN.{length, get_or, length-take}
+use Rattle.std.specs.Prelude.{Some, None}
+use Rattle.std.specs.Prelude as rust
+use Rattle.std.specs.Option.{MatchOption, IsSomeAnd}
 use Rattle.theory.specs.Lists.{all, distinct}
 use Rattle.theory.specs.Syntax.{Clause, variables}
 use Rattle.theory.specs.Truth.{Interpretation, clause_true, assign}
@@ -25,8 +28,8 @@ use Rattle.syntax.proofs.Places.{letters-below}
 use Rattle.interpretation.specs.Vectors.{digits_in}
 use Rattle.problem.specs.Problems.{problem_in, WordsOf}
 use Rattle.answers.specs.declared.Reason as declared
-use Rattle.answers.specs.declared.JudgeAnswer.TheVariants.{Yes, No}
-use Rattle.answers.specs.Answers.{eight, reason_bytes, unreasoned}
+use Rattle.std.specs.Prelude.{Ok}
+use Rattle.answers.specs.Answers.{eight, reason_bytes}
 use Rattle.answers.specs.Calls.{ReasoningCall}
 use Rattle.answers.proofs.Reasons.{reason-said}
 use Rattle.problem.proofs.Counted.{clause-count}
@@ -56,21 +59,21 @@ module _ (sheet : List ℕ) (p : Problem) (f : Failure) (h : FailureHeld sheet p
       ∙ ap (λ (xs : List ℕ). eight (map (λ x. 65 + x) xs)) (own-variables sheet p h.accepted f.clause w of held) in
       cc
 
-module _ (sheet : List ℕ) (p : Problem) (cells : List ℕ) (s : ℕ) (h : CellsLent sheet p cells s) (f : Failure) (e : failure_in f ≡ judged_in sheet p cells s) where
-  told : (b : Bool) → f.fails ≡ b → judged_in sheet p cells s ≡ cond b (some (record { clause = f.clause; choice = digits_in f.values })) none
-  told b t = sym e ∙ ap (λ (b : Bool). cond b (some (record { clause = f.clause; choice = digits_in f.values })) none) t
+module _ (sheet : List ℕ) (p : Problem) (cells : List ℕ) (s : ℕ) (o : rust.Option Failure) (e : failure_in o ≡ judged_in sheet p cells s) where
+  told : (r : rust.Option Failure) → o ≡ r → judged_in sheet p cells s ≡ failure_in r
+  told r t = sym e ∙ ap failure_in t
 
   -- nothing fails
-  pub unexplained : f.fails ≡ false → ReasoningCall (answer (reason_for sheet p cells s)) (unreasoned Yes)
-  unexplained t = rw (told false t) (record { answer = refl; beside = refl })
+  unexplained : o ≡ None → ReasoningCall (answer (reason_for sheet p cells s)) (Ok None)
+  unexplained t = rw (told None t) (record { answer = refl; beside = refl })
 
-  module _ (t : f.fails ≡ true) where
+  module _ (h : CellsLent sheet p cells s) (f : Failure) (t : o ≡ Some f) where
     -- a clause fails under a choice for its variables
     pub failure-held : FailureHeld sheet p f
     failure-held =
         let c : Clause = get_or (problem_in sheet p).clauses f.clause [] in
         let I : Interpretation = interpretation s (problem_in sheet p).symbols (cells_of sheet p cells s) in
-        let r = judged-some s (problem_in sheet p).symbols (problem_in sheet p).clauses (cells_of sheet p cells s) (record { clause = f.clause; choice = digits_in f.values }) (told true t) in
+        let r = judged-some s (problem_in sheet p).symbols (problem_in sheet p).clauses (cells_of sheet p cells s) (record { clause = f.clause; choice = digits_in f.values }) (told (Some f) t) in
         let first = first-choice s (length (variables c)) (λ v. not (clause_true I (assign (variables c) v) c)) (digits_in f.values) r.1 in
         record {
           accepted = h.accepted;
@@ -79,7 +82,20 @@ module _ (sheet : List ℕ) (p : Problem) (cells : List ℕ) (s : ℕ) (h : Cell
           below = all_below-within s 8 (digits_in f.values) h.size first.1;
         }
 
-    pub reason-given : (q : declared.Reason) → q ≡ reason_bytes (reason_at sheet p f) → ReasoningCall (answer (reason_for sheet p cells s)) (record { verdict = No; reason = q })
+    reason-given : (q : declared.Reason) → q ≡ reason_bytes (reason_at sheet p f) → ReasoningCall (answer (reason_for sheet p cells s)) (Ok (Some q))
     reason-given q z =
-        let u : reason_for sheet p cells s ≡ some (reason_at sheet p f) = ap (reason_of (problem_in sheet p).clauses) (told true t) in
+        let u : reason_for sheet p cells s ≡ some (reason_at sheet p f) = ap (reason_of (problem_in sheet p).clauses) (told (Some f) t) in
         rw (u, z) (record { answer = ap (λ (q : Reason). answer (some q)) (reason-said (reason_at sheet p f) failure-held.counted); beside = refl })
+
+  -- the reason of the failure, if there is one
+  pub reasoned : CellsLent sheet p cells s → (P : Failure → declared.Reason → Type 0) → ((f : Failure) (q : declared.Reason) → P f q → q ≡ reason_bytes (reason_at sheet p f)) → (r : rust.Option declared.Reason)
+      → MatchOption o (r ≡ None) (λ f. IsSomeAnd r (P f)) → ReasoningCall (answer (reason_for sheet p cells s)) (Ok r)
+  reasoned h P gives r m = go o refl m
+    where
+      some_reason : (f : Failure) → o ≡ Some f → (r : rust.Option declared.Reason) → IsSomeAnd r (P f) → ReasoningCall (answer (reason_for sheet p cells s)) (Ok r)
+      some_reason f t None k = absurd k
+      some_reason f t (Some q) k = reason-given h f t q (gives f q k)
+
+      go : (o' : rust.Option Failure) → o ≡ o' → MatchOption o' (r ≡ None) (λ f. IsSomeAnd r (P f)) → ReasoningCall (answer (reason_for sheet p cells s)) (Ok r)
+      go None t k = rw k (unexplained t)
+      go (Some f) t k = some_reason f t r k

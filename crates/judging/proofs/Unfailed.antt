@@ -1,7 +1,7 @@
 -- The walk over clauses and choices: no clause before the one reached fails, nor does that one under the choices before the one reached.
 use Prim.Native.Nat.{ℕ, suc, ◌+◌, ◌-◌, ◌^◌, ◌≤◌, ◌<◌}
 use mathlib.Core.Path.{◌≡◌, refl, sym, ap, ◌∙◌}
-use mathlib.Core.Bool.{Bool, true, false, cond, not}
+use mathlib.Core.Bool.{Bool, true, false, not}
 use mathlib.Core.Option.{Option, none, some}
 use mathlib.Core.List.{List, []}
 use native.Mathlib.Numerals.{add-one}
@@ -20,8 +20,6 @@ use Rattle.interpretation.specs.Vectors.{digits_in, first_vector, IsNext}
 use Rattle.problem.specs.Problems.{problem_in, Accepted}
 use Rattle.truth.specs.Values.{Chosen, IsClauseValue}
 use Rattle.problem.proofs.Counted.{clause-count}
-use Rattle.judging.specs.declared.failures.Failure.{Failure}
-use Rattle.judging.specs.Failures.{failure_in}
 use Rattle.judging.proofs.ClausesLent.{true_at, ClauseHeld}
 use Rattle.judging.proofs.Passing.{Reached, first-reached, next-reached, reached-length, reached-below, found_here, found-later, found_none}
 
@@ -58,10 +56,6 @@ module _ (sheet : List ℕ) (p : Problem) (cells : List ℕ) (s : ℕ) where
   pub record Passed (k : ℕ) (a : ArgumentVector) (i : ℕ) : Type 0 where
     pub reached : Reached s (own k) a i
     pub rest : judged s g cs cells ≡ failure_or k (first_that (fails_at k) (drop i (vectors s (own k)))) (first_failure I s (suc k) (drop (suc k) cs))
-
-  -- a walk that found none
-  pub unfailed : (f : Failure) → f.fails ≡ false → none ≡ judged s g cs cells → failure_in f ≡ judged s g cs cells
-  unfailed f e h = ap (λ (b : Bool). cond b (some (record { clause = f.clause; choice = digits_in f.values })) none) e ∙ h
 
   pub none-failed : Unfailed 0
   unfolding judged

@@ -1,20 +1,19 @@
 -- The first cells as they are lent, and from the first failure to yes or no.
 use Prim.Native.Nat.{ℕ, ◌-◌, ◌≤◌}
 use mathlib.Core.Path.{◌≡◌, refl, sym, ap, ◌∙◌}
-use mathlib.Core.Bool.{Bool, true, false, not, cond}
-use mathlib.Core.Option.{none, some}
+use mathlib.Core.Bool.{Bool, true, false, not}
 use mathlib.Core.List.{List}
 use native.Mathlib.Omega.{arith}
 use lib.ListN.{length, take}
+use Rattle.std.specs.Prelude.{Some, None, is_some, is_none}
+use Rattle.std.specs.Prelude as rust
 use Rattle.theory.specs.Syntax.{Signature}
 use Rattle.theory.specs.Truth.{no_failure}
 use Rattle.theory.specs.Cells.{cell_count, is_interpretation, is_model, judged}
-use Rattle.theory.specs.Refusals.{answer}
 use Rattle.theory.proofs.Interpretations.{length-interpretation}
 use Rattle.syntax.specs.declared.limits.Problem.{Problem}
 use Rattle.syntax.specs.Signatures.{signature_in}
 use Rattle.interpretation.specs.declared.tables.Tables.{Tables}
-use Rattle.interpretation.specs.Vectors.{digits_in}
 use Rattle.interpretation.specs.Tables.{TablesOf}
 use Rattle.problem.specs.Problems.{problem_in}
 use Rattle.judging.specs.declared.failures.Failure.{Failure}
@@ -55,11 +54,18 @@ module _ (sheet : List ℕ) (p : Problem) (cells : List ℕ) (s : ℕ) (h : Cell
   cells-judged = ap (judged s (problem_in sheet p).symbols (problem_in sheet p).clauses) first-cells
 
 -- a model exactly if nothing fails
-pub verdict : (sheet : List ℕ) (p : Problem) (cells : List ℕ) (s : ℕ) (f : Failure) (b : Bool) → f.fails ≡ b → failure_in f ≡ judged_in sheet p cells s → answer (not b) ≡ answer (is_model_in sheet p cells s)
-unfolding is_model
-verdict sheet p cells s f b e q =
-    ap answer (unfailed b ∙ ap no_failure (sym (ap (λ (b : Bool). cond b (some (record { clause = f.clause; choice = digits_in f.values })) none) e) ∙ q))
-  where
-    unfailed : (b : Bool) → not b ≡ no_failure (cond b (some (record { clause = f.clause; choice = digits_in f.values })) none)
-    unfailed true = refl
-    unfailed false = refl
+module _ (sheet : List ℕ) (p : Problem) (cells : List ℕ) (s : ℕ) (o : rust.Option Failure) (e : failure_in o ≡ judged_in sheet p cells s) where
+  unfailed : is_none o ≡ is_model_in sheet p cells s
+  unfolding is_model
+  unfailed = alike o ∙ ap no_failure e
+    where
+      alike : (o : rust.Option Failure) → is_none o ≡ no_failure (failure_in o)
+      alike (Some f) = refl
+      alike None = refl
+
+  pub model-told : (b : Bool) → is_some o ≡ not b → b ≡ is_model_in sheet p cells s
+  model-told b t = twice b ∙ ap not (sym t) ∙ unfailed
+    where
+      twice : (b : Bool) → b ≡ not (not b)
+      twice true = refl
+      twice false = refl

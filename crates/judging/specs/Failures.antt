@@ -1,5 +1,6 @@
 -- What judging a problem finds.
-use Rattle.std.specs.Prelude.{ℕ, ◌≤◌, ◌≡◌, Bool, true, cond, List}
+use Rattle.std.specs.Prelude.{ℕ, ◌≤◌, ◌≡◌, Bool, true, List, Some, None}
+use Rattle.std.specs.Prelude as rust
 use Rattle.std.proofs.Math.Option.{Option, none, some}
 use Rattle.theory.specs.Truth as theory
 use Rattle.theory.specs.Cells.{is_interpretation}
@@ -12,8 +13,9 @@ use Rattle.truth.specs.Values.{tables_in}
 use Rattle.judging.specs.declared.failures.Failure.{Failure}
 
 -- the clause and the choice under which it fails, if there is one
-abbrev pub failure_in : Failure → Option theory.Failure
-failure_in f = cond f.fails (some (record { clause = f.clause; choice = digits_in f.values })) none
+abbrev pub failure_in : rust.Option Failure → Option theory.Failure
+failure_in (Some f) = some (record { clause = f.clause; choice = digits_in f.values })
+failure_in None = none
 
 -- a problem that was read, where its tables start, and an interpretation of it at size s
 pub record ProblemLent (sheet : List ℕ) (p : Problem) (arities : List ℕ) (functions : List Bool) (bases cells : List ℕ) (s : ℕ) : Type 0 where

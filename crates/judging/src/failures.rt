@@ -13,10 +13,9 @@ use syntax::size::DomainSize;
 use syntax::variables::variables_of;
 use truth::values::clause_value;
 
-// A clause, counted from 0, and a choice of values under which it fails, if there is one.
+// A clause, counted from 0, and a choice of values under which it fails.
 #[derive(Drop)]
 pub struct Failure {
-    pub fails: bool,
     pub clause: usize,
     pub values: ArgumentVector,
 }
@@ -30,14 +29,12 @@ pub fn first_failure(
     bases: &[usize],
     cells: &[u8],
     size: DomainSize,
-) -> Failure
+) -> Option<Failure>
     requires { ProblemLent sheet.now p arities.now functions.now bases.now cells.now size.0 }
     ensures { failure_in result ≡ judged size.0 (problem_in sheet.now p).symbols (problem_in sheet.now p).clauses cells.now }
 {
-    let mut fails = false;
-    let mut k: usize = 0;
-    let mut values = ArgumentVector::first(0, size);
-    'walk: while k < p.count {
+    let mut failure = None;
+    'walk: for k in 0..p.count {
         let c = clause_words(sheet, p, k);
         let variables = variables_of(c);
         let words = c.words;
@@ -45,9 +42,8 @@ pub fn first_failure(
         let place = variables.place;
         let count = variables.count;
         let choices = power(size.0, count);
-        values = ArgumentVector::first(count, size);
-        let mut i: usize = 0;
-        while i < choices {
+        let mut values = ArgumentVector::first(count, size);
+        for _i in 0..choices {
             let digits = values.digits;
             if !clause_value(
                 &words[0..length],
@@ -59,23 +55,17 @@ pub fn first_failure(
                 size,
                 &digits[0..count],
             ) {
-                fails = true;
+                failure = Some(Failure { clause: k, values });
                 break 'walk;
             }
             values = values.step();
-            i += 1;
         }
-        k += 1;
     }
-    Failure {
-        fails,
-        clause: k,
-        values,
-    }
+    failure
 }
 
 // The first failure in the interpretation that the first cells are.
-pub fn case_failure(sheet: &[u8], p: Problem, cells: &[u8], size: DomainSize) -> Failure
+pub fn case_failure(sheet: &[u8], p: Problem, cells: &[u8], size: DomainSize) -> Option<Failure>
     requires { CellsLent sheet.now p cells.now size.0 }
     ensures { failure_in result ≡ judged_in sheet.now p cells.now size.0 }
 {

@@ -36,13 +36,11 @@ fn letters_of(variables: Variables) -> [u8; Problem::MAX_LETTERS]
     ensures { (xs : List ℕ) → all is_letter xs ≡ true → Places (distinct xs) variables → result ≡ eight (map (λ x. 65 + x) (distinct xs)) }
 {
     let mut letters = [0; Problem::MAX_LETTERS];
-    let mut x: usize = 0;
-    while x < Problem::MAX_LETTERS {
+    for x in 0..Problem::MAX_LETTERS {
         let i = variables.place[x] as usize;
         if i < Problem::MAX_LETTERS {
             letters[i] = b'A' + x as u8;
         }
-        x += 1;
     }
     letters
 }
@@ -53,10 +51,8 @@ fn values_of(values: ArgumentVector) -> [u8; Problem::MAX_LETTERS]
     ensures { result ≡ eight (map suc (digits_in values)) }
 {
     let mut shown = [0; Problem::MAX_LETTERS];
-    let mut i: usize = 0;
-    while i < values.count {
+    for i in 0..values.count {
         shown[i] = values.digits[i] + 1;
-        i += 1;
     }
     shown
 }

@@ -7,6 +7,7 @@ use Rattle.allowance.specs.AllowedFind.{Stoppable, finished, stopped}
 use Rattle.solver.specs.SolverText.{Outcome, model_case, claimed_none}
 use Rattle.layouts.specs.declared.ReadOut.{ReadOut}
 use Rattle.layouts.specs.declared.JudgeOut.{JudgeOut}
+use Rattle.answers.specs.declared.Reason as code
 use Rattle.answers.specs.Answers.{reason_beside}
 use Rattle.layouts.specs.declared.ExplainOut.{ExplainOut}
 use Rattle.layouts.specs.declared.WriteOut.{WriteOut}
@@ -30,23 +31,26 @@ verdict_of (answer none) = answer true
 verdict_of (answer (some q)) = answer false
 verdict_of (refused r) = refused r
 
+-- Judge's struct, and behind it these bytes of a reason
+abbrev pub laid : JudgeOut → code.Reason → ExplainOut
+laid j q = record { outcome = j.outcome; reason = j.reason; line = j.line; column = j.column; clause = q.clause; count = q.count; letters = q.letters; values = q.values }
+
 -- Explain: Judge's struct, and behind it the reason byte by byte, all zeros where there is none
 abbrev pub explain_out : Answer (Option Reason) → ExplainOut
-explain_out a =
-    let j = judge_out (verdict_of a) in
-    let q = reason_beside a in
-    record { outcome = j.outcome; reason = j.reason; line = j.line; column = j.column; clause = q.clause; count = q.count; letters = q.letters; values = q.values }
+explain_out a = laid (judge_out (verdict_of a)) (reason_beside a)
 
 -- Write, Read back, Setting, Renumber, Least form and From TPTP: outcome 1 and the length; refused, the needed length
 abbrev pub write_out : Answer ℕ → WriteOut
 write_out (answer n) = record { outcome = 1; reason = 0; line = 0; column = 0; length = n }
 write_out (refused r) = record { outcome = 0; reason = r.number; line = r.place.line; column = r.place.column; length = r.needed }
 
+-- Write's struct, and behind it the number of a sheet
+abbrev pub behind : WriteOut → ℕ → MergeOut
+behind w sheet = record { outcome = w.outcome; reason = w.reason; line = w.line; column = w.column; length = w.length; sheet = sheet }
+
 -- Merge: Write's struct, and behind it which sheet a refusal points into, 1 or 2, else 0
 abbrev pub merge_out : Answer ℕ → ℕ → MergeOut
-merge_out a sheet =
-    let w = write_out a in
-    record { outcome = w.outcome; reason = w.reason; line = w.line; column = w.column; length = w.length; sheet = sheet }
+merge_out a sheet = behind (write_out a) sheet
 
 -- From solver: outcome 1 and the length, 2 for claimed none; refused, the needed length
 abbrev pub solver_out : Answer (Outcome ℕ) → WriteOut

@@ -2,21 +2,25 @@
 // of is 0. No call is made here, so a field in a wrong place is found in a short check.
 #![tactic(auto)]
 
-ghost use Rattle.std.specs.Prelude.{◌≡◌, cond};
+ghost use Rattle.std.specs.Prelude.{◌≡◌};
 ghost use Rattle.std.proofs.Math.Option.{Option};
 ghost use Rattle.answers.specs.Answers.{read_in, judge_in, length_in, find_in};
 ghost use Rattle.answers.specs.Calls.{ReasoningCall};
+ghost use Rattle.syntax.specs.Faults.{number_of};
 ghost use Rattle.theory.specs.Refusals.{Answer};
 ghost use Rattle.theory.specs.Operations as theory;
 ghost use Rattle.accepting.specs.Calls.{solver_in};
 ghost use Rattle.finding.specs.Calls.{allowed_in};
-ghost use Rattle.layouts.specs.Layouts.{read_out, judge_out, explain_out, write_out, solver_out, merge_out, result_out, find_out, plain_out};
+ghost use Rattle.uniting.specs.Calls.{written_in, sheet_told, sheet_number};
+ghost use Rattle.layouts.specs.Layouts.{read_out, judge_out, laid, explain_out, write_out, solver_out, behind, merge_out, result_out, find_out, plain_out};
 
-use accepting::SolverAnswer;
-use answers::{ExplainAnswer, FindAnswer, JudgeAnswer, ReadAnswer, WriteAnswer};
-use finding::allowed::AllowedAnswer;
+use accepting::{SolverAnswer, SolverResult};
+use answers::{
+    ExplainAnswer, FindAnswer, JudgeAnswer, PlainResult, ReadAnswer, Reason, Refusal, WriteAnswer,
+};
+use finding::allowed::{AllowedAnswer, FindResult};
 use syntax::limits::Problem;
-use uniting::merge::MergeAnswer;
+use uniting::merge::{MergeAnswer, WhichSheet};
 
 #[repr(C)]
 #[derive(Drop)]
@@ -90,18 +94,18 @@ pub fn read_out(answer: ReadAnswer) -> ReadOut
     ensures { result ≡ read_out (read_in answer) }
 {
     match answer {
-        ReadAnswer::Counts(functions, predicates, clauses) => ReadOut {
+        Ok(counts) => ReadOut {
             outcome: 1,
             reason: 0,
             line: 0,
             column: 0,
-            funs: functions as u64,
-            preds: predicates as u64,
-            clauses: clauses as u64,
+            funs: counts.functions as u64,
+            preds: counts.predicates as u64,
+            clauses: counts.clauses as u64,
         },
-        ReadAnswer::Refused(r) => ReadOut {
+        Err(r) => ReadOut {
             outcome: 0,
-            reason: r.number as u32,
+            reason: reason_of(r),
             line: r.line as u64,
             column: r.column as u64,
             funs: 0,
@@ -111,40 +115,60 @@ pub fn read_out(answer: ReadAnswer) -> ReadOut
     }
 }
 
+// The number of what is refused.
+fn reason_of(r: Refusal) -> u32
+    ensures { result ≡ number_of r.fault }
+{
+    u32::from(r.fault.number())
+}
+
 pub fn judge_out(answer: JudgeAnswer) -> JudgeOut
     ensures { result ≡ judge_out (judge_in answer) }
 {
     match answer {
-        JudgeAnswer::Yes => JudgeOut {
+        Ok(true) => JudgeOut {
             outcome: 1,
             reason: 0,
             line: 0,
             column: 0,
         },
-        JudgeAnswer::No => JudgeOut {
+        Ok(false) => JudgeOut {
             outcome: 2,
             reason: 0,
             line: 0,
             column: 0,
         },
-        JudgeAnswer::Refused(r) => JudgeOut {
+        Err(r) => JudgeOut {
             outcome: 0,
-            reason: r.number as u32,
+            reason: reason_of(r),
             line: r.line as u64,
             column: r.column as u64,
         },
     }
 }
 
-// Judge's struct, and the reason behind it.
+// Judge's struct, and the reason behind it, all zeros where there is none.
 pub fn explain_out(answer: ExplainAnswer) -> ExplainOut
     ensures { (a : Answer (Option theory.Reason)) → ReasoningCall a answer → result ≡ explain_out a }
 {
-    let verdict = answer.verdict;
-    let reason = answer.reason;
+    let none = Reason {
+        clause: 0,
+        count: 0,
+        letters: [0; Problem::MAX_LETTERS],
+        values: [0; Problem::MAX_LETTERS],
+    };
+    match answer {
+        Ok(Some(reason)) => reasoned(judge_out(Ok(false)), reason),
+        Ok(None) => reasoned(judge_out(Ok(true)), none),
+        Err(r) => reasoned(judge_out(Err(r)), none),
+    }
+}
+
+fn reasoned(judged: JudgeOut, reason: Reason) -> ExplainOut
+    ensures { result ≡ laid judged reason }
+{
     let letters = reason.letters;
     let values = reason.values;
-    let judged = judge_out(verdict);
     ExplainOut {
         outcome: judged.outcome,
         reason: judged.reason,
@@ -161,16 +185,16 @@ pub fn write_out(answer: WriteAnswer) -> WriteOut
     ensures { result ≡ write_out (length_in answer) }
 {
     match answer {
-        WriteAnswer::Written(n) => WriteOut {
+        Ok(n) => WriteOut {
             outcome: 1,
             reason: 0,
             line: 0,
             column: 0,
             length: n as u64,
         },
-        WriteAnswer::Refused(r) => WriteOut {
+        Err(r) => WriteOut {
             outcome: 0,
-            reason: r.number as u32,
+            reason: reason_of(r),
             line: r.line as u64,
             column: r.column as u64,
             length: r.needed as u64,
@@ -182,12 +206,12 @@ pub fn find_out(answer: AllowedAnswer) -> FindOut
     ensures { result ≡ find_out (allowed_in answer) }
 {
     match answer {
-        AllowedAnswer::Found(size, n, choices) => result_out(1, size, n as u64, choices, 0),
-        AllowedAnswer::Nothing(mark, choices) => result_out(2, 0, 0, choices, number_of(mark)),
-        AllowedAnswer::Stopped(size, choices) => result_out(3, size, 0, choices, 0),
-        AllowedAnswer::Refused(r) => FindOut {
+        Ok(FindResult::Found(size, n, choices)) => result_out(1, size, n as u64, choices, 0),
+        Ok(FindResult::Nothing(mark, choices)) => result_out(2, 0, 0, choices, u32::from(mark)),
+        Ok(FindResult::Stopped(size, choices)) => result_out(3, size, 0, choices, 0),
+        Err(r) => FindOut {
             outcome: 0,
-            reason: r.number as u32,
+            reason: reason_of(r),
             line: r.line as u64,
             column: r.column as u64,
             size: 0,
@@ -219,43 +243,33 @@ pub fn plain_out(answer: FindAnswer) -> FindOut
     ensures { result ≡ plain_out (find_in answer) }
 {
     match answer {
-        FindAnswer::Found(size, n) => find_out(AllowedAnswer::Found(size, n, 0)),
-        FindAnswer::Nothing(settled) => find_out(AllowedAnswer::Nothing(settled, 0)),
-        FindAnswer::Refused(r) => find_out(AllowedAnswer::Refused(r)),
+        Ok(PlainResult::Found(size, n)) => find_out(Ok(FindResult::Found(size, n, 0))),
+        Ok(PlainResult::Nothing(settled)) => find_out(Ok(FindResult::Nothing(settled, 0))),
+        Err(r) => find_out(Err(r)),
     }
-}
-
-// Yes as 1, no as 0.
-fn number_of(mark: bool) -> u32
-    ensures { result ≡ cond mark 1 0 }
-{
-    if mark {
-        return 1;
-    }
-    0
 }
 
 pub fn solver_out(answer: SolverAnswer) -> WriteOut
     ensures { result ≡ solver_out (solver_in answer) }
 {
     match answer {
-        SolverAnswer::Case(n) => WriteOut {
+        Ok(SolverResult::Case(n)) => WriteOut {
             outcome: 1,
             reason: 0,
             line: 0,
             column: 0,
             length: n as u64,
         },
-        SolverAnswer::ClaimedNone => WriteOut {
+        Ok(SolverResult::ClaimedNone) => WriteOut {
             outcome: 2,
             reason: 0,
             line: 0,
             column: 0,
             length: 0,
         },
-        SolverAnswer::Refused(r) => WriteOut {
+        Err(r) => WriteOut {
             outcome: 0,
-            reason: r.number as u32,
+            reason: reason_of(r),
             line: r.line as u64,
             column: r.column as u64,
             length: r.needed as u64,
@@ -263,18 +277,29 @@ pub fn solver_out(answer: SolverAnswer) -> WriteOut
     }
 }
 
-// Write's struct, and the sheet behind it.
+// Write's struct, and behind it which sheet a refusal points into: 1, 2, or 0 for none.
 pub fn merge_out(answer: MergeAnswer) -> MergeOut
-    ensures { result ≡ merge_out (length_in answer.answer) answer.sheet }
+    ensures { result ≡ merge_out (length_in (written_in answer)) (sheet_told answer) }
 {
-    let said = answer.answer;
-    let written = write_out(said);
+    match answer {
+        Ok(n) => sheeted(write_out(Ok(n)), None),
+        Err(r) => sheeted(write_out(Err(r.refusal)), r.sheet),
+    }
+}
+
+fn sheeted(written: WriteOut, sheet: Option<WhichSheet>) -> MergeOut
+    ensures { result ≡ behind written (sheet_number sheet) }
+{
     MergeOut {
         outcome: written.outcome,
         reason: written.reason,
         line: written.line,
         column: written.column,
         length: written.length,
-        sheet: answer.sheet,
+        sheet: match sheet {
+            None => 0,
+            Some(WhichSheet::First) => 1,
+            Some(WhichSheet::Second) => 2,
+        },
     }
 }

@@ -1,5 +1,4 @@
 pub mod Rows
-pub mod Triples
 pub mod Standing
 pub mod Sharing
 pub mod Words

@@ -6,9 +6,9 @@ use mathlib.Core.Bool.{true, ◌&&◌}
 use mathlib.Core.List.{List, [], ◌∷◌, ◌++◌, append_assoc}
 use native.Mathlib.Nat.{add-zero}
 use native.Mathlib.Omega.{arith}
-use lib.ListN.{length, get_or, set, replicate, length-append, get_or-replicate}
+use lib.ListN.{length, get_or, replicate, length-append, get_or-replicate}
 use Rattle.theory.proofs.FlatForm.{within-left, within-right}
-use Rattle.theory.specs.Lists.{all, elem}
+use Rattle.theory.specs.Lists.{elem}
 use Rattle.theory.specs.Syntax.{Signature, symbol_at, Term, variable, apply, Terms, empty, cons, count, function_of, term_variables, terms_variables, term_ok, terms_ok}
 use Rattle.theory.specs.Grammar.{Word, letter, symbol, term_words, terms_words}
 use Rattle.theory.specs.Flattening.{function_terms, all_function_terms, add_term, add_terms, variable_for, place_or0}
@@ -21,8 +21,9 @@ use Rattle.theory.proofs.Growing.{add_terms-append, add_terms-length, function_t
 use Rattle.syntax.specs.Codes.{letter_code, code_of}
 use Rattle.syntax.specs.Variables.{is_letter, place_or8}
 use Rattle.syntax.proofs.Codes.{code_of-word_of}
+use Rattle.lifting.specs.declared.table.Row.{Row}
 use Rattle.lifting.specs.declared.table.Table.{Table}
-use Rattle.lifting.specs.declared.table.Lifted.{Lifted}
+use Rattle.lifting.specs.declared.terms.Lifted.{Lifted}
 use Rattle.lifting.specs.declared.terms.AllLifted.{AllLifted}
 use Rattle.lifting.specs.Places.{place_in, places}
 use Rattle.lifting.specs.Rows.{row_of, shared}
@@ -105,10 +106,10 @@ module _ {codes place arities : List ℕ} {owns at : ℕ} {t : Table} (s : TermT
       let v = variable-term h in
       omega (arith, v.coded, s.source.eight, ltb-true v.x 8 (all-elem is_letter xs v.x s.source.letters v.own))
 
-  pub letter-lifted : letter_code ≤ get_or codes at 0 → TermLifted s (record { variable = get_or place (get_or codes at 0 - letter_code) 0; next = at + 1; table = t })
+  pub letter-lifted : letter_code ≤ get_or codes at 0 → TermLifted s (record { variable = get_or place (get_or codes at 0 - letter_code) 0; next = at + 1 }) t
   letter-lifted h = go (variable-term h)
     where
-      go : VariableTerm → TermLifted s (record { variable = get_or place (get_or codes at 0 - letter_code) 0; next = at + 1; table = t })
+      go : VariableTerm → TermLifted s (record { variable = get_or place (get_or codes at 0 - letter_code) 0; next = at + 1 }) t
       go v =
           let x : ℕ = v.x in
           let e : code - letter_code ≡ x = omega (arith, v.coded) in
@@ -147,8 +148,8 @@ module _ {codes place arities : List ℕ} {owns at : ℕ} {t : Table} (s : TermT
       }
 
   -- there is room for one term more
-  pub share-room : (p : FunctionTerm) (r : AllLifted) → TermsLifted (arguments-there p) r → r.table.count < 64
-  share-room p r e =
+  pub share-room : (p : FunctionTerm) (r : AllLifted) (m : Table) → TermsLifted (arguments-there p) r m → m.count < 64
+  share-room p r m e =
       let us : List Term = all_function_terms p.arguments in
       omega (
         arith,
@@ -161,10 +162,11 @@ module _ {codes place arities : List ℕ} {owns at : ℕ} {t : Table} (s : TermT
       )
 
   -- and it is shared
-  pub function-lifted : (p : FunctionTerm) (r : AllLifted) → TermsLifted (arguments-there p) r
-      → TermLifted s (shared r.table owns (get_or codes at 0) r.variables r.next)
-  function-lifted p r e =
+  pub function-lifted : (p : FunctionTerm) (r : AllLifted) (m : Table) → TermsLifted (arguments-there p) r m
+      → TermLifted s (record { variable = owns + row_of m (record { function = get_or codes at 0; arguments = r.variables }); next = r.next }) (shared m (record { function = get_or codes at 0; arguments = r.variables }))
+  function-lifted p r m e =
       let us : Terms = p.arguments in
+      let row : Row = record { function = code; arguments = r.variables } in
       let this : Term = apply code us in
       let before : List Term = add_terms s.found (all_function_terms us) in
       let ok : term_ok g this ≡ true = ap (term_ok g) (sym p.is) ∙ s.ok in
@@ -174,12 +176,12 @@ module _ {codes place arities : List ℕ} {owns at : ℕ} {t : Table} (s : TermT
       record {
         next = n ∙ ap (λ (u : Term). at + length (term_words u)) (sym p.is);
         lifts =
-            subst (λ (u : Term). Lifts g xs (add_terms s.found (function_terms u)) (shared r.table owns code r.variables r.next).table) (sym p.is)
-            (subst (λ (l : List Term). Lifts g xs l (shared r.table owns code r.variables r.next).table) added
-            (shared-lifts g s.source.small xs before r.table e.lifts code us ok own (add_terms-adds s.found (all_function_terms us)) r.variables e.variables (share-room p r e)));
+            subst (λ (u : Term). Lifts g xs (add_terms s.found (function_terms u)) (shared m row)) (sym p.is)
+            (subst (λ (l : List Term). Lifts g xs l (shared m row)) added
+            (shared-lifts g s.source.small xs before m e.lifts code us ok own (add_terms-adds s.found (all_function_terms us)) r.variables e.variables (share-room p r m e)));
         variable =
-            ap (λ (n : ℕ). n + row_of r.table code r.variables) s.source.owned
-            ∙ shared-variable g s.source.small xs before r.table e.lifts code us ok own (add_terms-adds s.found (all_function_terms us)) r.variables e.variables
+            ap (λ (n : ℕ). n + row_of m row) s.source.owned
+            ∙ shared-variable g s.source.small xs before m e.lifts code us ok own (add_terms-adds s.found (all_function_terms us)) r.variables e.variables (share-room p r m e)
             ∙ ap (λ (l : List Term). place_in xs (variable_for l this)) added
             ∙ ap (λ (u : Term). place_in xs (variable_for (add_terms s.found (function_terms u)) u)) (sym p.is);
       }
@@ -190,10 +192,10 @@ no-terms (cons t ts) e = absurd (omega arith)
 
 module _ {codes place arities : List ℕ} {owns at n : ℕ} {t : Table} (s : TermsThere codes place arities owns at n t) where
   -- no term is due
-  pub none-lifted : n ≡ 0 → TermsLifted s (record { variables = replicate 3 0; next = at; table = t })
+  pub none-lifted : n ≡ 0 → TermsLifted s (record { variables = replicate 3 0; next = at }) t
   none-lifted h = go (no-terms s.terms (s.counted ∙ h))
     where
-      go : s.terms ≡ empty → TermsLifted s (record { variables = replicate 3 0; next = at; table = t })
+      go : s.terms ≡ empty → TermsLifted s (record { variables = replicate 3 0; next = at }) t
       go e =
           let z : (j : ℕ) → j < 3 → get_or (replicate 3 0) j 0 ≡ get_or {A = ℕ} [] j 0 = λ j k. get_or-replicate 3 j 0 0 k in
           record {
@@ -239,12 +241,12 @@ module _ {codes place arities : List ℕ} {owns at n : ℕ} {t : Table} (s : Ter
           room = s.room;
         }
 
-    module _ (r : Lifted) (e : TermLifted first-there r) where
+    module _ (r : Lifted) (m : Table) (e : TermLifted first-there r m) where
       -- the words left are fewer
       pub further : at < r.next
       further = omega (arith, e.next, has_word p.first)
 
-      abbrev pub rest-there : TermsThere codes place arities owns r.next (n - 1) r.table
+      abbrev pub rest-there : TermsThere codes place arities owns r.next (n - 1) m
       rest-there =
           record {
             source = s.source;
@@ -261,13 +263,12 @@ module _ {codes place arities : List ℕ} {owns at n : ℕ} {t : Table} (s : Ter
             room = omega (arith, add_terms-length s.found (function_terms p.first), function_terms-words p.first, s.room, e.next);
           }
 
-      pub more-lifted : (q : AllLifted) → TermsLifted rest-there q
-          → TermsLifted s
-          (record { variables = set (set (set (replicate 3 0) 0 r.variable) 1 (get_or q.variables 0 0)) 2 (get_or q.variables 1 0); next = q.next; table = q.table })
-      more-lifted q d =
+      pub more-lifted : (q : AllLifted) (last : Table) → TermsLifted rest-there q last
+          → TermsLifted s (record { variables = r.variable ∷ (get_or q.variables 0 0 ∷ (get_or q.variables 1 0 ∷ [])); next = q.next }) last
+      more-lifted q last d =
           record {
             next = n₂ ∙ ap (λ (us : Terms). at + length (terms_words us)) (sym p.is);
-            lifts = subst (λ (us : Terms). Lifts g xs (add_terms s.found (all_function_terms us)) q.table) (sym p.is) (subst (λ (l : List Term). Lifts g xs l q.table) all d.lifts);
+            lifts = subst (λ (us : Terms). Lifts g xs (add_terms s.found (all_function_terms us)) last) (sym p.is) (subst (λ (l : List Term). Lifts g xs l last) all d.lifts);
             variables = λ j k.
                 at-place j k ∙ ap (λ (l : List Term). get_or (places xs l (cons u us)) j 0) all ∙ ap (λ (us : Terms). get_or (places xs (add_terms s.found (all_function_terms us)) us) j 0) (sym p.is);
           }
@@ -297,7 +298,7 @@ module _ {codes place arities : List ℕ} {owns at n : ℕ} {t : Table} (s : Ter
           n₂ = omega (arith, d.next, e.next, length-append (term_words u) (terms_words us))
 
           at-place : (j : ℕ) → j < 3
-              → get_or (set (set (set (replicate 3 0) 0 r.variable) 1 (get_or q.variables 0 0)) 2 (get_or q.variables 1 0)) j 0 ≡ get_or (places xs two (cons u us)) j 0
+              → get_or (r.variable ∷ (get_or q.variables 0 0 ∷ (get_or q.variables 1 0 ∷ []))) j 0 ≡ get_or (places xs two (cons u us)) j 0
           at-place zero k = e.variable ∙ ap (place_in xs) (sym (variable_for-grown one (all_function_terms us) u (add_terms-adds s.found (function_terms u))))
           at-place (suc zero) k = d.variables 0 (omega arith)
           at-place (suc (suc zero)) k = d.variables 1 (omega arith)

@@ -10,7 +10,8 @@ use Rattle.syntax.specs.Codes.{code_word}
 use Rattle.syntax.specs.Signatures.{Arities, Small}
 use Rattle.syntax.specs.Variables.{is_letter, place_or8}
 use Rattle.lifting.specs.declared.table.Table.{Table}
-use Rattle.lifting.specs.declared.table.Lifted.{Lifted}
+use Rattle.lifting.specs.declared.terms.Reading.{Reading}
+use Rattle.lifting.specs.declared.terms.Lifted.{Lifted}
 use Rattle.lifting.specs.declared.terms.AllLifted.{AllLifted}
 use Rattle.lifting.specs.Places.{place_in, places}
 use Rattle.lifting.specs.Lifts.{Lifts}
@@ -59,17 +60,24 @@ pub record TermsThere (codes place arities : List ℕ) (owns at n : ℕ) (t : Ta
   pub lifts : Lifts source.signature source.variables found t
   pub room : length found ≤ at
 
+-- the same of what is lent
+abbrev pub TermAt : Reading → ℕ → ℕ → Table → Type 0
+TermAt r owns at t = TermThere r.words.now r.place.now r.arities.now owns at t
+
+abbrev pub TermsAt : Reading → ℕ → ℕ → ℕ → Table → Type 0
+TermsAt r owns at n t = TermsThere r.words.now r.place.now r.arities.now owns at n t
+
 module _ {codes place arities : List ℕ} {owns at : ℕ} {t : Table} where
-  -- the term's function terms are found too, and its variable stands for it
-  pub record TermLifted (s : TermThere codes place arities owns at t) (r : Lifted) : Type 0 where
+  -- the term's function terms are found too, and its variable stands for it; `after` is the table afterwards
+  pub record TermLifted (s : TermThere codes place arities owns at t) (r : Lifted) (after : Table) : Type 0 where
     pub next : r.next ≡ at + length (term_words s.term)
-    pub lifts : Lifts s.source.signature s.source.variables (add_terms s.found (function_terms s.term)) r.table
+    pub lifts : Lifts s.source.signature s.source.variables (add_terms s.found (function_terms s.term)) after
     pub variable : r.variable ≡ place_in s.source.variables (variable_for (add_terms s.found (function_terms s.term)) s.term)
 
 module _ {codes place arities : List ℕ} {owns at n : ℕ} {t : Table} where
-  -- the terms' function terms are found too, and the variables stand for the first three
-  pub record TermsLifted (s : TermsThere codes place arities owns at n t) (r : AllLifted) : Type 0 where
+  -- the terms' function terms are found too, and the variables stand for the first three; `after` is the table afterwards
+  pub record TermsLifted (s : TermsThere codes place arities owns at n t) (r : AllLifted) (after : Table) : Type 0 where
     pub next : r.next ≡ at + length (terms_words s.terms)
-    pub lifts : Lifts s.source.signature s.source.variables (add_terms s.found (all_function_terms s.terms)) r.table
+    pub lifts : Lifts s.source.signature s.source.variables (add_terms s.found (all_function_terms s.terms)) after
     pub variables : (j : ℕ) → j < 3
         → get_or r.variables j 0 ≡ get_or (places s.source.variables (add_terms s.found (all_function_terms s.terms)) s.terms) j 0

@@ -1,15 +1,12 @@
 -- A turn of the bounds, and what they start.
-use mathlib.Core.Path.{◌≡◌, refl, sym, ap, ◌∙◌, subst⁻¹}
-use mathlib.Core.Bool.{Bool, true, false}
+use mathlib.Core.Path.{◌≡◌, sym, ap, ◌∙◌}
 use mathlib.Core.List.{List, []}
 use Prim.Native.Nat.{ℕ, suc, ◌+◌, ◌*◌, ◌≤◌, ◌<◌, ◌^◌}
 use native.Mathlib.Nat.{not-suc-le-zero}
 use native.Mathlib.Numerals.{add-one}
 use native.Mathlib.Omega.{arith}
-use borrow.Author.Tests.{eqb-true, eqb-false}
-use lib.Dec.{eqb}
-use lib.ListN.{length, get_or, set, length-set}
-use lib.Seq.{slice, slice_empty, get_or-set_same, get_or-set_other}
+use lib.ListN.{length, get_or}
+use lib.Seq.{slice, slice_empty}
 use Rattle.loading.specs.Filling.{from, to, occurrences, literals, Filling, sums, EmptyBlocks}
 use Rattle.loading.specs.Loading.{Tallied}
 use Rattle.loading.proofs.Occurrences.{sum_below-cong, sum_below-up, literals-sum}
@@ -27,18 +24,6 @@ module _ (v base : ℕ) (w₀ w : List ℕ) (a l : ℕ) (g : Bounding v base w�
   abbrev at : ℕ
   at = 2 * v + 2 * l
 
-  abbrev w' : List ℕ
-  w' = set (set w at a) (at + 1) a
-
-  other : (j : ℕ) → (j ≡ at → ⊥) → (j ≡ at + 1 → ⊥) → get_or w' j 0 ≡ get_or w j 0
-  other j p q = get_or-set_other (set w at a) (at + 1) j a 0 q ∙ get_or-set_other w at j a 0 p
-
-  here : get_or w' at 0 ≡ a
-  here = get_or-set_other (set w at a) (at + 1) at a 0 (λ e. omega (arith, e)) ∙ get_or-set_same w at a 0 (omega (arith, size, g.long))
-
-  next : get_or w' (at + 1) 0 ≡ a
-  next = get_or-set_same (set w at a) (at + 1) a 0 (simp length-set (omega (arith, size, g.long)))
-
   pub count-is : get_or w (at + 1) 0 ≡ get_or w₀ (2 * v + 2 * l + 1) 0
   count-is = g.rest (at + 1) (omega arith)
 
@@ -47,30 +32,6 @@ module _ (v base : ℕ) (w₀ w : List ℕ) (a l : ℕ) (g : Bounding v base w�
 
   pub sum_fits : a + get_or w (at + 1) 0 ≤ base + sums w₀ v (2 * v)
   sum_fits = omega (arith, g.sum, count-is, sum-next, sum_below-up (λ y. to v y w₀) (l + 1) (2 * v) (omega arith))
-
-  pub bounding-turn : Bounding v base w₀ w' (a + get_or w (at + 1) 0) (l + 1)
-  bounding-turn =
-      record {
-        turn = omega arith;
-        long = simp length-set g.long;
-        sum = omega (arith, g.sum, count-is, sum-next);
-        starts = λ x h. begins x h (eqb x l) refl;
-        ends = λ x h. stops x h (eqb x l) refl;
-        front = λ j h. other j (λ e. omega (arith, e, h)) (λ e. omega (arith, e, h)) ∙ g.front j h;
-        rest = λ j h. other j (λ e. omega (arith, e, h)) (λ e. omega (arith, e, h)) ∙ g.rest j (omega (arith, h));
-      }
-    where
-      begins : (x : ℕ) → x < l + 1 → (b : Bool) → eqb x l ≡ b → from v x w' ≡ base + sums w₀ v x
-      begins x h true e = subst⁻¹ (λ (y : ℕ). from v y w' ≡ base + sums w₀ v y) (eqb-true x l e) (here ∙ g.sum)
-      begins x h false e =
-          let n = eqb-false x l e in
-          other (2 * v + 2 * x) (λ z. omega (arith, z, n)) (λ z. omega (arith, z)) ∙ g.starts x (omega (arith, n, h))
-
-      stops : (x : ℕ) → x < l + 1 → (b : Bool) → eqb x l ≡ b → to v x w' ≡ base + sums w₀ v x
-      stops x h true e = subst⁻¹ (λ (y : ℕ). to v y w' ≡ base + sums w₀ v y) (eqb-true x l e) (next ∙ g.sum)
-      stops x h false e =
-          let n = eqb-false x l e in
-          other (2 * v + 2 * x + 1) (λ z. omega (arith, z)) (λ z. omega (arith, z, n)) ∙ g.ends x (omega (arith, n, h))
 
 pub bounding-done : (v base : ℕ) (w₀ w : List ℕ) (a l : ℕ) → Bounding v base w₀ w a l → 2 * v ≤ l → EmptyBlocks v base w₀ w
 bounding-done v base w₀ w a l g past =

@@ -2,7 +2,6 @@ pub mod Occurrences
 pub mod Entering
 pub mod Filled
 pub mod Bounding
-pub mod Clearing
 pub mod Tallying
 pub mod LiteralCode
 pub mod ClauseEntering

@@ -1,16 +1,19 @@
--- A turn of telling first values; the clauses are as they were.
+-- Telling first values; the clauses are as they were.
 use mathlib.Core.Path.{◌≡◌, refl, sym, ap, ◌∙◌}
 use mathlib.Core.Bool.{Bool, true, false, cond}
-use mathlib.Core.List.{List}
-use Prim.Native.Nat.{ℕ, ◌+◌, ◌*◌, ◌≤◌, ◌<◌}
+use mathlib.Core.List.{List, ◌++◌}
+use Prim.Native.Nat.{ℕ, ◌+◌, ◌-◌, ◌*◌, ◌≤◌, ◌<◌}
 use native.Mathlib.Omega.{arith}
-use lib.Dec.{eqb}
-use lib.ListN.{length, get_or, set, length-set}
-use lib.Seq.{get_or-set_same, get_or-set_other}
-use Rattle.theory.proofs.Tests.{eqb-true, eqb-ne}
-use Rattle.propagation.specs.WorkArea.{Prefers}
+use borrow.Rule.Slice.PartMut.{put_mid, post_of}
+use lib.Dec.{ltb}
+use lib.ListN.{length, get_or, take, drop, replicate, length-append, length-replicate, length-drop, get_or-append}
+use lib.Seq.{length-take-le, get_or-take, get_or-drop, get_or-append-add}
+use Rattle.std.proofs.lemmas.List.{get_or-replicate}
+use Rattle.std.proofs.lemmas.Slice.{drop-put_mid}
+use Rattle.theory.proofs.Tests.{ltb-true, ltb-false}
 use Rattle.propagation.proofs.Frames.{slice-agree}
 use Rattle.loading.specs.Filling.{from, to, Filling}
+use Rattle.loading.specs.Loading.{PrefersMore}
 
 -- from w to w', nothing changes but first values
 pub record Told (v : ℕ) (w w' : List ℕ) : Type 0 where
@@ -46,35 +49,64 @@ told-filling v cs ds w w' t f =
     ends : (x : ℕ) → x < 2 * v → to v x w' ≡ to v x w
     ends x h = t.before (2 * v + 2 * x + 1) (omega arith)
 
--- the variables from a₀ up to n are told
-pub record Telling (v a₀ : ℕ) (b₀ : Bool) (w₀ w : List ℕ) (n : ℕ) : Type 0 where
-  pub told : Told v w₀ w
-  pub prefers : (first : ℕ → Bool) → Prefers v a₀ first w₀ → ((x : ℕ) → a₀ ≤ x → x < n → first x ≡ b₀) → Prefers v n first w
+-- w with as many b as it had numbers from s up to s + k, in their place
+module _ (s k b : ℕ) (w : List ℕ) (fits : s + k ≤ length w) where
+  abbrev w' : List ℕ
+  w' = put_mid s k w (replicate k b)
 
-pub telling-start : (v a₀ : ℕ) (b₀ : Bool) (w : List ℕ) → Telling v a₀ b₀ w w a₀
-telling-start v a₀ b₀ w = record { told = record { long = refl; before = λ i h. refl; behind = λ i h. refl }; prefers = λ first p h. p }
+  many : length (replicate k b) ≡ k
+  many = length-replicate k b
 
-pub telling-turn : (v a₀ : ℕ) (b₀ : Bool) (w₀ w : List ℕ) (n value : ℕ) → n < v → 7 * v ≤ length w → value ≡ cond b₀ 1 0 → a₀ ≤ n
-    → Telling v a₀ b₀ w₀ w n → Telling v a₀ b₀ w₀ (set w (6 * v + n) value) (n + 1)
-telling-turn v a₀ b₀ w₀ w n value h size e onward g =
-    record {
-      told = record {
-        long = length-set w (6 * v + n) value ∙ g.told.long;
-        before = λ i k. other i (λ z. omega arith) ∙ g.told.before i k;
-        behind = λ i k. other i (λ z. omega arith) ∙ g.told.behind i k;
-      };
-      prefers = λ first p k x l. by first (g.prefers first p (λ y a b. k y a (omega arith))) k x l (eqb x n) refl;
-    }
-  where
-    other : (i : ℕ) → (i ≡ 6 * v + n → ⊥) → get_or (set w (6 * v + n) value) i 0 ≡ get_or w i 0
-    other i z = get_or-set_other w (6 * v + n) i value 0 z
+  front : length (take s w) ≡ s
+  front = length-take-le s w (omega arith)
 
-    by : (first : ℕ → Bool) → Prefers v n first w → ((x : ℕ) → a₀ ≤ x → x < n + 1 → first x ≡ b₀) → (x : ℕ) → x < n + 1 → (b : Bool) → eqb x n ≡ b
-        → get_or (set w (6 * v + n) value) (6 * v + x) 0 ≡ cond (first x) 1 0
-    by first p k x l true q =
-        let s = eqb-true x n q in
-        ap (λ (y : ℕ). get_or (set w (6 * v + n) value) (6 * v + y) 0) s
-        ∙ get_or-set_same w (6 * v + n) value 0 (omega arith)
-        ∙ e
-        ∙ ap (λ (b : Bool). cond b 1 0) (sym (k x (omega arith) l))
-    by first p k x l false q = other (6 * v + x) (λ z. omega (arith, z, eqb-ne x n q)) ∙ p x (omega (arith, eqb-ne x n q))
+  pub filled-before : (i : ℕ) → i < s → get_or w' i 0 ≡ get_or w i 0
+  filled-before i h = get_or-append (take s w) (replicate k b ++ post_of s k w) 0 i (omega (arith, front)) ∙ get_or-take s w i 0 h
+
+  pub filled-at : (i : ℕ) → i < k → get_or w' (s + i) 0 ≡ b
+  filled-at i h =
+      ap (λ (n : ℕ). get_or w' (n + i) 0) (sym front)
+      ∙ get_or-append-add (take s w) (replicate k b ++ post_of s k w) i 0
+      ∙ get_or-append (replicate k b) (post_of s k w) 0 i (omega (arith, many))
+      ∙ get_or-replicate k i b 0 h
+
+  pub filled-behind : (i : ℕ) → s + k ≤ i → get_or w' i 0 ≡ get_or w i 0
+  filled-behind i h =
+      let at : s + k + (i - (s + k)) ≡ i = omega arith in
+      ap (λ (n : ℕ). get_or w' n 0) (sym at)
+      ∙ sym (get_or-drop (s + k) w' (i - (s + k)) 0)
+      ∙ ap (λ (l : List ℕ). get_or l (i - (s + k)) 0) (drop-put_mid s k w (replicate k b) (s + k) (omega arith) (omega arith) many)
+      ∙ get_or-drop (s + k) w (i - (s + k)) 0
+      ∙ ap (λ (n : ℕ). get_or w n 0) at
+
+  pub filled-length : length w' ≡ length w
+  filled-length =
+      omega (arith, length-append (take s w) (replicate k b ++ post_of s k w), length-append (replicate k b) (post_of s k w), front, many, length-drop k (drop s w), length-drop s w)
+
+-- the variables from a to e are told
+module _ (v a e : ℕ) (value : Bool) (w : List ℕ) (room : 7 * v ≤ length w) (up : a ≤ e) (within : e ≤ v) (b : ℕ) (is : b ≡ cond value 1 0) where
+  abbrev k : ℕ
+  k = 6 * v + e - (6 * v + a)
+
+  abbrev told : List ℕ
+  told = put_mid (6 * v + a) k w (replicate k b)
+
+  pub prefer-told : Told v w told
+  prefer-told =
+      record {
+        long = filled-length (6 * v + a) k b w (omega arith);
+        before = λ i h. filled-before (6 * v + a) k b w (omega arith) i (omega arith);
+        behind = λ i h. filled-behind (6 * v + a) k b w (omega arith) i (omega arith);
+      }
+
+  pub prefer-more : PrefersMore v a e value w told
+  prefer-more first p same x h = by (ltb x a) refl
+    where
+      by : (t : Bool) → ltb x a ≡ t → get_or told (6 * v + x) 0 ≡ cond (first x) 1 0
+      by true q = filled-before (6 * v + a) k b w (omega arith) (6 * v + x) (omega (arith, ltb-true x a q)) ∙ p x (ltb-true x a q)
+      by false q =
+          let here : 6 * v + a + (x - a) ≡ 6 * v + x = omega (arith, ltb-false x a q) in
+          ap (λ (n : ℕ). get_or told n 0) (sym here)
+          ∙ filled-at (6 * v + a) k b w (omega arith) (x - a) (omega (arith, ltb-false x a q))
+          ∙ is
+          ∙ ap (λ (t : Bool). cond t 1 0) (sym (same x (omega (arith, ltb-false x a q)) h))

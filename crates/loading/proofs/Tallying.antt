@@ -1,5 +1,5 @@
 -- A turn of counting: one literal more of the clause.
-use mathlib.Core.Path.{◌≡◌, refl, sym, ap, ◌∙◌, subst}
+use mathlib.Core.Path.{◌≡◌, refl, sym, ap, ◌∙◌}
 use mathlib.Core.Bool.{Bool, true, false, cond}
 use mathlib.Core.List.{List, [], ◌∷◌, ◌++◌}
 use Prim.Native.Nat.{ℕ, ◌+◌, ◌*◌, ◌≤◌, ◌<◌}
@@ -7,7 +7,7 @@ use native.Mathlib.Numerals.{add-one}
 use native.Mathlib.Omega.{arith}
 use lib.Dec.{eqb}
 use lib.ListN.{length, get_or, set, take}
-use lib.Seq.{get_or-set_same, get_or-set_other, take-length, length-take-le}
+use lib.Seq.{get_or-set_same, get_or-set_other, length-take-le}
 use Rattle.theory.proofs.Tests.{eqb-true, eqb-ne}
 use Rattle.loading.specs.Filling.{occurs, occurrences, literals}
 use Rattle.loading.specs.Loading.{InRange, Tallied}
@@ -25,22 +25,24 @@ pub tallying-start : (v : ℕ) (clause w : List ℕ) → Tallying v clause w w 0
 tallying-start v clause w seen t =
     record { counts = λ x h. t.counts x h ∙ omega (arith, occurrences-snoc x seen []); values = t.values; rest = t.rest }
 
-module _ (v : ℕ) (clause w₀ w : List ℕ) (i : ℕ) (go : i < length clause) (range : InRange v clause) (size : 7 * v ≤ length w) (at : ℕ)
-    (ae : at ≡ 2 * v + 2 * get_or clause i 0 + 1) where
+module _ (v : ℕ) (clause w₀ w : List ℕ) (i : ℕ) (go : i < length clause) (range : InRange v clause) (size : 7 * v ≤ length w) where
   abbrev u : ℕ
   u = get_or clause i 0
+
+  abbrev at : ℕ
+  at = 2 * v + 2 * u + 1
 
   -- a count fits
   pub count_fits : (seen : List (List ℕ)) → Tallied v seen w₀ → Tallying v clause w₀ w i → get_or w at 0 + 1 ≤ literals seen + length clause
   count_fits seen t g =
-      omega (arith, ap (λ (k : ℕ). get_or w k 0) ae, (g seen t).counts u (range i go), occurrences-snoc u seen (take i clause), occurrences-≤ u seen, occurs-≤ u (take i clause), length-take-le i clause (omega arith))
+      omega (arith, (g seen t).counts u (range i go), occurrences-snoc u seen (take i clause), occurrences-≤ u seen, occurs-≤ u (take i clause), length-take-le i clause (omega arith))
 
   pub tallying-turn : Tallying v clause w₀ w i → Tallying v clause w₀ (set w at (get_or w at 0 + 1)) (i + 1)
   tallying-turn g seen t =
       record {
         counts = λ x h. by x h (eqb x u) refl;
-        values = λ j h. other j (λ e. omega (arith, e, h, ae)) ∙ (g seen t).values j h;
-        rest = λ j h. other j (λ e. omega (arith, e, h, ae, range i go)) ∙ (g seen t).rest j h;
+        values = λ j h. other j (λ e. omega (arith, e, h)) ∙ (g seen t).values j h;
+        rest = λ j h. other j (λ e. omega (arith, e, h, range i go)) ∙ (g seen t).rest j h;
       }
     where
       w' : List ℕ
@@ -55,15 +57,10 @@ module _ (v : ℕ) (clause w₀ w : List ℕ) (i : ℕ) (go : i < length clause)
 
       by : (x : ℕ) → x < 2 * v → (b : Bool) → eqb x u ≡ b → get_or w' (2 * v + 2 * x + 1) 0 ≡ occurrences x (seen ++ (take (i + 1) clause ∷ []))
       by x h true e =
-          let s : 2 * v + 2 * x + 1 ≡ at = omega (arith, ae, eqb-true x u e) in
+          let s : 2 * v + 2 * x + 1 ≡ at = omega (arith, eqb-true x u e) in
           let k : ◌≡◌ {A = ℕ} (cond (eqb x u) 1 0) 1 = ap (λ (b : Bool). cond b 1 0) e in
           let n : get_or w at 0 ≡ occurrences x (seen ++ (take i clause ∷ [])) = ap (λ (k : ℕ). get_or w k 0) (sym s) ∙ (g seen t).counts x h in
-          ap (λ (k : ℕ). get_or w' k 0) s ∙ get_or-set_same w at (get_or w at 0 + 1) 0 (omega (arith, ae, size, range i go)) ∙ omega (arith, n, k, counted x)
+          ap (λ (k : ℕ). get_or w' k 0) s ∙ get_or-set_same w at (get_or w at 0 + 1) 0 (omega (arith, size, range i go)) ∙ omega (arith, n, k, counted x)
       by x h false e =
           let k : ◌≡◌ {A = ℕ} (cond (eqb x u) 1 0) 0 = ap (λ (b : Bool). cond b 1 0) e in
-          other (2 * v + 2 * x + 1) (λ z. omega (arith, z, ae, eqb-ne x u e)) ∙ (g seen t).counts x h ∙ omega (arith, k, counted x)
-
-pub tallying-done : (v : ℕ) (clause w₀ w : List ℕ) (i : ℕ) → i ≡ length clause → Tallying v clause w₀ w i
-    → (seen : List (List ℕ)) → Tallied v seen w₀ → Tallied v (seen ++ (clause ∷ [])) w
-tallying-done v clause w₀ w i e g seen t =
-    subst (λ (l : List ℕ). Tallied v (seen ++ (l ∷ [])) w) (ap (λ (k : ℕ). take k clause) e ∙ take-length clause) (g seen t)
+          other (2 * v + 2 * x + 1) (λ z. omega (arith, z, eqb-ne x u e)) ∙ (g seen t).counts x h ∙ omega (arith, k, counted x)

@@ -4,8 +4,9 @@ use mathlib.Core.Path.{◌≡◌, sym, ap, ◌∙◌}
 use mathlib.Core.List.{List, [], ◌∷◌, ◌++◌, map}
 use native.Mathlib.Omega.{arith}
 use lib.ListN.{length, get_or, take, drop, set, length-map, length-drop}
-use lib.Seq.{length-take-le, take-suc, drop-cons, set_at, append_snoc, get_or-append_seam, get_or-append-add, get_or-take, get_or-drop, take_at, drop_at, take-take, take-add, paste, paste-zero, length_paste_head, paste-suc, take-paste}
+use lib.Seq.{length-take-le, take-suc, drop-cons, set_at, append_snoc, get_or-append_seam, get_or-take, take_at, drop_at, take-take, take-add, paste, take-paste}
 use Rattle.theory.proofs.Lists.{get_d_map, map-take}
+use Rattle.std.specs.List.{copy_within}
 use Rattle.merging.specs.Merged.{renamed_code, deleted_at, without_at}
 
 -- the first i codes are renamed, the others as they were
@@ -43,52 +44,12 @@ module _ (f : ℕ → ℕ) (ns : List ℕ) (i : ℕ) (h : i < length ns) where
 pub renamed-all : (f : ℕ → ℕ) (ns : List ℕ) (n : ℕ) → n ≤ length ns → take n (renamed_to f ns n) ≡ map f (take n ns)
 renamed-all f ns n h = take_at (take n (map f ns)) (drop n ns) n (length-take-le n (map f ns) (omega (arith, length-map ns f))) ∙ sym (map-take f n ns)
 
--- the codes from `at` to i are moved up by four, the others as they were
-abbrev pub moved_to : List ℕ → ℕ → ℕ → List ℕ
-moved_to ns at i = paste ns at (drop (at + 4) ns) (i - at)
-
-pub moved-start : (ns : List ℕ) (at : ℕ) → ns ≡ moved_to ns at at
-moved-start ns at =
-    let k : 0 ≡ at - at = omega arith in
-    paste-zero ns at (drop (at + 4) ns) ∙ ap (paste ns at (drop (at + 4) ns)) k
-
-module _ (ns : List ℕ) (at i : ℕ) (from : at ≤ i) (h : i + 4 < length ns) where
-  k : at + (i - at) ≡ i
-  k = omega arith
-
-  short : i - at < length (drop (at + 4) ns)
-  short = simp length-drop (omega arith)
-
-  -- the code that comes to i is as it was
-  moved-next : get_or (moved_to ns at i) (i + 4) 0 ≡ get_or ns (i + 4) 0
-  moved-next =
-      let p : List ℕ = take at ns ++ take (i - at) (drop (at + 4) ns) in
-      let n : length p ≡ i = length_paste_head ns at (drop (at + 4) ns) (i - at) (omega arith) (omega (arith, short)) ∙ k in
-      ap (λ (j : ℕ). get_or (p ++ drop j ns) (i + 4) 0) k
-      ∙ ap (λ (j : ℕ). get_or (p ++ drop i ns) (j + 4) 0) (sym n)
-      ∙ get_or-append-add p (drop i ns) 4 0
-      ∙ get_or-drop i ns 4 0
-
-  -- and is moved
-  moved_more : set (moved_to ns at i) i (get_or ns (i + 4) 0) ≡ moved_to ns at (suc i)
-  moved_more =
-      let s : List ℕ = drop (at + 4) ns in
-      let m : at + 4 + (i - at) ≡ i + 4 = omega arith in
-      let v : get_or s (i - at) 0 ≡ get_or ns (i + 4) 0 = get_or-drop (at + 4) ns (i - at) 0 ∙ ap (λ (j : ℕ). get_or ns j 0) m in
-      let e : suc (i - at) ≡ suc i - at = omega arith in
-      ap (λ (j : ℕ). set (moved_to ns at i) j (get_or ns (i + 4) 0)) (sym k)
-      ∙ ap (λ (n : ℕ). set (moved_to ns at i) (at + (i - at)) n) (sym v)
-      ∙ paste-suc ns at s (i - at) 0 (omega (arith, k)) short
-      ∙ ap (paste ns at s) e
-
-  pub moved-step : (out : List ℕ) → out ≡ moved_to ns at i → set out i (get_or out (i + 4) 0) ≡ moved_to ns at (suc i)
-  moved-step out e = ap (λ (r : List ℕ). set r i (get_or r (i + 4) 0)) e ∙ ap (λ (n : ℕ). set (moved_to ns at i) i n) moved-next ∙ moved_more
-
--- the first n are then those left of n + 4
-pub moved_all : (ns : List ℕ) (at n : ℕ) → at ≤ n → n + 4 ≤ length ns → take n (moved_to ns at n) ≡ deleted_at (take (n + 4) ns) at
+-- the codes from `at + 4` to n + 4 are moved up by four: the first n are then those left of n + 4
+pub moved_all : (ns : List ℕ) (at n : ℕ) → at ≤ n → n + 4 ≤ length ns → take n (copy_within ns (at + 4) (n + 4) at) ≡ deleted_at (take (n + 4) ns) at
 moved_all ns at n from h =
-    let k : at + (n - at) ≡ n = omega arith in
     let s : List ℕ = drop (at + 4) ns in
+    let j : n + 4 - (at + 4) ≡ n - at = omega arith in
+    let k : at + (n - at) ≡ n = omega arith in
     let d : length s ≡ length ns - (at + 4) = length-drop (at + 4) ns in
     let e : at + 4 + (n - at) ≡ n + 4 = omega arith in
     let w : length (take (at + 4) ns) ≡ at + 4 = length-take-le (at + 4) ns (omega arith) in
@@ -96,7 +57,8 @@ moved_all ns at n from h =
     ap (λ (j : ℕ). drop (at + 4) (take j ns)) (sym e)
     ∙ ap (drop (at + 4)) (take-add (at + 4) (n - at) ns)
     ∙ drop_at (take (at + 4) ns) (take (n - at) s) (at + 4) w in
-    ap (λ (j : ℕ). take j (moved_to ns at n)) (sym k)
+    ap (λ (i : ℕ). take n (paste ns at s i)) j
+    ∙ ap (λ (i : ℕ). take i (paste ns at s (n - at))) (sym k)
     ∙ take-paste ns at s (n - at) (omega arith) (omega arith)
     ∙ ap (λ (r : List ℕ). r ++ take (n - at) s) (sym (take-take at (n + 4) ns (omega arith)))
     ∙ ap (λ (r : List ℕ). take at (take (n + 4) ns) ++ r) (sym moved)

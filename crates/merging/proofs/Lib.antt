@@ -1,4 +1,3 @@
-pub mod WordTests
 pub mod Leftmost
 pub mod Renaming
 pub mod Deleting

@@ -1,5 +1,5 @@
 -- One round of step 1 on codes, and what the whole step answers.
-use Rattle.std.specs.Prelude.{ℕ, ◌+◌, ◌≡◌, cond, List, ◌++◌, map, eqb, ltb, get_or, take, drop}
+use Rattle.std.specs.Prelude.{ℕ, ◌+◌, ◌≡◌, cond, List, ◌++◌, map, eqb, get_or, take, drop}
 use Rattle.theory.specs.Syntax.{Signature}
 use Rattle.theory.specs.Flattening as theory
 use Rattle.syntax.specs.declared.words.ClauseWords.{ClauseWords}

@@ -1,7 +1,7 @@
 // Step 1 of flattening on clause words: negative equalities of two variables are deleted, the first variable put for the second.
 #![tactic(auto)]
 
-ghost use Rattle.std.specs.Prelude.{◌≡◌, cond, map, ◌+◌, ◌-◌, ◌≤◌, eqb, ltb, get_or, take};
+ghost use Rattle.std.specs.Prelude.{◌≡◌, ◌≢◌, MatchOption, cond, map, ◌+◌, ◌-◌, ◌≤◌, eqb, ltb, get_or, take};
 ghost use Rattle.theory.specs.Syntax.{Signature};
 ghost use Rattle.theory.specs.Problem.{max_words};
 ghost use Rattle.syntax.specs.Codes.{IsClause, code_word, words_in};
@@ -16,48 +16,37 @@ pub fn merged(c: ClauseWords) -> ClauseWords
     ensures { (g : Signature) → IsClause g c → Merged g c result }
 {
     let mut w = c;
-    loop {
-        let at = unequal_at(w);
-        if at == w.count {
-            return w;
-        }
+    while let Some(at) = unequal_at(w) {
         w = without(w, at);
     }
+    w
 }
 
-// The place of the leftmost `- = A B`, or the number of words where there is none.
-fn unequal_at(w: ClauseWords) -> usize
+// The place of the leftmost `- = A B`.
+fn unequal_at(w: ClauseWords) -> Option<usize>
     requires { w.count ≤ max_words }
-    ensures { result ≡ unequal_place (words_in w) }
+    ensures { MatchOption result (unequal_place (words_in w) ≡ w.count) (λ at. (at ≡ unequal_place (words_in w)) × (at ≢ w.count)) }
 {
-    let mut at: usize = 0;
-    while at + 3 < w.count {
+    for at in 0..w.count.saturating_sub(3) {
         if is_unequal(
             w.words[at],
             w.words[at + 1],
             w.words[at + 2],
             w.words[at + 3],
         ) {
-            return at;
+            return Some(at);
         }
-        at += 1;
     }
-    w.count
+    None
 }
 
 fn is_unequal(sign: u8, equals: u8, x: u8, y: u8) -> bool
     ensures { result ≡ is_unequal (code_word sign) (code_word equals) (code_word x) (code_word y) }
 {
-    if sign != ClauseWords::MINUS {
-        return false;
-    }
-    if equals != ClauseWords::EQUALS {
-        return false;
-    }
-    if x < ClauseWords::LETTER {
-        return false;
-    }
-    ClauseWords::LETTER <= y
+    sign == ClauseWords::MINUS
+        && equals == ClauseWords::EQUALS
+        && ClauseWords::LETTER <= x
+        && ClauseWords::LETTER <= y
 }
 
 // The words without the four from `at` on, their first variable put for their second in the whole clause, left of them too.
@@ -68,10 +57,8 @@ fn without(mut w: ClauseWords, at: usize) -> ClauseWords
 {
     let x = w.words[at + 2];
     let y = w.words[at + 3];
-    let mut i: usize = 0;
-    while i < w.count {
+    for i in 0..w.count {
         w.words[i] = renamed(w.words[i], x, y);
-        i += 1;
     }
     deleted(w, at)
 }
@@ -91,11 +78,8 @@ fn deleted(mut w: ClauseWords, at: usize) -> ClauseWords
     ensures count { result.count ≡ w.count - 4 }
     ensures words { take result.count result.words ≡ deleted_at (take w.count w.words) at }
 {
-    w.count = w.count - 4;
-    let mut to = at;
-    while to < w.count {
-        w.words[to] = w.words[to + 4];
-        to += 1;
-    }
+    let count = w.count;
+    w.words.copy_within(at + 4..count, at);
+    w.count = count - 4;
     w
 }

@@ -1,10 +1,10 @@
 -- How many values each cell has, cell by cell and symbol by symbol.
-use Prim.Native.Nat.{ℕ, zero, suc, ◌+◌, ◌-◌, ◌^◌, ◌≤◌, ◌<◌}
+use Prim.Native.Nat.{ℕ, zero, suc, ◌+◌, ◌^◌, ◌≤◌, ◌<◌}
 use mathlib.Core.Path.{◌≡◌, refl, sym, ap, ◌∙◌}
-use mathlib.Core.List.{List, [], ◌∷◌, ◌++◌, map, append_assoc, append-nil, map-append}
+use mathlib.Core.List.{List, [], ◌∷◌, ◌++◌, map, append-nil, map-append}
 use native.Mathlib.Numerals.{add-one}
 use native.Mathlib.Omega.{arith}
-use lib.ListN.{length, set, take, replicate, length-set, replicate-append-replicate}
+use lib.ListN.{length, take, replicate}
 use lib.Seq.{take-suc, take-length}
 use Rattle.theory.specs.Lists.{concat_map}
 use Rattle.theory.specs.Syntax.{Kind, Symbol, Signature, symbol_at, no_symbol}
@@ -16,37 +16,6 @@ use Rattle.syntax.specs.Signatures.{kind_of, symbol_in}
 use Rattle.case_writer.proofs.Lines.{base-within}
 use Rattle.plain.specs.declared.cells.Choices.{Choices}
 use Rattle.plain.specs.Filling.{choices_of}
-use Rattle.plain.proofs.Guesses.{guess-taken}
-
--- r is a with cells of v values each behind its own, as many as it has more
-pub record Lengthened (a r : Choices) (v : ℕ) : Type 0 where
-  pub longer : a.count ≤ r.count
-  pub held : length r.values ≡ 64
-  pub values : take r.count r.values ≡ take a.count a.values ++ replicate (r.count - a.count) v
-
-pub not_yet : (a : Choices) (v : ℕ) → length a.values ≡ 64 → Lengthened a a v
-not_yet a v h =
-    let e : 0 ≡ a.count - a.count = omega arith in
-    record {
-      longer = omega arith;
-      held = h;
-      values = sym (append-nil (take a.count a.values)) ∙ ap (λ (n : ℕ). take a.count a.values ++ replicate n v) e;
-    }
-
--- one cell more
-pub one-longer : (a r : Choices) (v : ℕ) → Lengthened a r v → r.count < 64 → Lengthened a (record { values = set r.values r.count v; count = r.count + 1 }) v
-one-longer a r v h l =
-    let k : ℕ = r.count - a.count in
-    let e : k + 1 ≡ r.count + 1 - a.count = omega (arith, h.longer) in
-    record {
-      longer = omega (arith, h.longer);
-      held = length-set r.values r.count v ∙ h.held;
-      values =
-          guess-taken r.values r.count v (omega (arith, h.held))
-          ∙ ap (λ (l : List ℕ). l ++ (v ∷ [])) h.values
-          ∙ append_assoc (take a.count a.values) (replicate k v) (v ∷ [])
-          ∙ ap (λ (l : List ℕ). take a.count a.values ++ l) (replicate-append-replicate k 1 v ∙ ap (λ (n : ℕ). replicate n v) e);
-    }
 
 map-replicate : {A B : Type 0} (f : A → B) (n : ℕ) (x : A) → map f (replicate n x) ≡ replicate n (f x)
 map-replicate f zero x = refl

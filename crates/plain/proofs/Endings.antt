@@ -20,9 +20,9 @@ use Rattle.theory.proofs.Answers.{bind-step, bind-refused, check-of-true, check-
 use Rattle.theory.proofs.CaseLengths.{case-lengths}
 use Rattle.theory.proofs.Least.{least}
 use Rattle.answers.specs.declared.Refusal.{Refusal}
-use Rattle.answers.specs.declared.FindAnswer.{FindAnswer}
-use Rattle.answers.specs.declared.FindAnswer.TheVariants as find
-use Rattle.answers.specs.Answers.{refusal_in, find_in}
+use Rattle.std.specs.Prelude.{Ok, Err}
+use Rattle.answers.specs.declared.PlainResult.TheVariants as find
+use Rattle.answers.specs.Answers.{FindAnswer, refusal_in, find_in}
 use Rattle.answers.specs.Calls.{PlainSearchingCall}
 use Rattle.ranges.specs.Ranges.{are_sizes}
 use Rattle.plain.specs.Ending.{found_within, found_in}
@@ -37,25 +37,25 @@ module _ (result : Answer Search) (r : FindAnswer) (output output' : List ℕ) w
   ends_as a e h = ends_by a e h.answer h.left
 
 -- a refusal changes nothing
-pub ends-refused : (result : Answer Search) (r : Refusal) (q : theory.Refusal) (output : List ℕ) → result ≡ refused q → refusal_in r ≡ q → PlainSearchingCall result (find.Refused r) output output
-ends-refused result r q output e f = ends_by result (find.Refused r) output output (refused q) e (ap (λ (q : theory.Refusal). refused q) f) refl
+pub ends-refused : (result : Answer Search) (r : Refusal) (q : theory.Refusal) (output : List ℕ) → result ≡ refused q → refusal_in r ≡ q → PlainSearchingCall result (Err r) output output
+ends-refused result r q output e f = ends_by result (Err r) output output (refused q) e (ap (λ (q : theory.Refusal). refused q) f) refl
 
 module _ (p : Problem) (low high : ℕ) (output output' : List ℕ) where
   -- the least model at the smallest size was written
   pub ends_found : (s n : ℕ) (vs : List ℕ) → 1 ≤ s → least_model s p ≡ some vs → n ≡ case_length s p.symbols → output' ≡ over (case_text s p.symbols vs) output
-      → smallest_model p low high ≡ with_size s (least_model s p) → PlainSearchingCall (found_within p low high) (find.Found s n) output output'
+      → smallest_model p low high ≡ with_size s (least_model s p) → PlainSearchingCall (found_within p low high) (Ok (find.Found s n)) output output'
   ends_found s n vs pos m l o e =
       let long : length (case_text s p.symbols vs) ≡ case_length s p.symbols = case-lengths s p.symbols vs pos ((least p).is_least s vs m).0.interpretation in
-      ends_by (found_within p low high) (find.Found s n) output output'
+      ends_by (found_within p low high) (Ok (find.Found s n)) output output'
       (answer (found s (case_text s p.symbols vs)))
       (ap (λ (k : Option Case). answer (search_of p low high k)) (e ∙ ap (with_size s) m))
       (ap (λ (k : ℕ). answer (found_case s k)) (l ∙ sym long))
       o
 
   -- no size has a model
-  pub ends-none : (b : Bool) → smallest_model p low high ≡ none → b ≡ settled p low high → output' ≡ output → PlainSearchingCall (found_within p low high) (find.Nothing b) output output'
+  pub ends-none : (b : Bool) → smallest_model p low high ≡ none → b ≡ settled p low high → output' ≡ output → PlainSearchingCall (found_within p low high) (Ok (find.Nothing b)) output output'
   ends-none b e t o =
-      ends_by (found_within p low high) (find.Nothing b) output output'
+      ends_by (found_within p low high) (Ok (find.Nothing b)) output output'
       (answer (nothing (settled p low high)))
       (ap (λ (k : Option Case). answer (search_of p low high k)) e)
       (ap (λ (b : Bool). answer (no_case b)) t)

@@ -16,7 +16,8 @@ use Rattle.syntax.specs.declared.limits.Problem.{Problem}
 use Rattle.problem.specs.Problems.{problem_in}
 use Rattle.text.specs.Put.{put, put-none}
 use Rattle.plain.specs.declared.cells.PlainCells.{PlainCells}
-use Rattle.plain.specs.declared.filling.Filling.{Filling}
+use Rattle.std.specs.Prelude as rust
+use Rattle.std.specs.Prelude.{Ok, Err, is_ok}
 use Rattle.plain.specs.Filling.{filled_from, filling}
 
 -- the guess d at a cell
@@ -89,15 +90,15 @@ module _ (f : ℕ → Option (List ℕ)) (n d : ℕ) where
 
 -- a full case is a model, or it is none
 pub judged-full : (sheet : List ℕ) (p : Problem) (s : ℕ) (choices : List ℕ) (cells : PlainCells) (at : ℕ) (b : Bool) → length choices ≤ at
-    → b ≡ is_model s (problem_in sheet p).symbols (problem_in sheet p).clauses (take at cells.values) → record { found = b; cells = cells } ≡ filling cells at (filled_from sheet p s choices cells.values at)
+    → b ≡ is_model s (problem_in sheet p).symbols (problem_in sheet p).clauses (take at cells.values) → cond {A = rust.Result PlainCells PlainCells} b (Ok cells) (Err cells) ≡ filling cells at (filled_from sheet p s choices cells.values at)
 judged-full sheet p s choices cells at b h e = go b ∙ ap (filling cells at) (sym (full sheet p s choices cells.values at h ∙ ap (λ (c : Bool). cond c (some []) none) (sym e)))
   where
-    go : (b : Bool) → ◌≡◌ {A = Filling} (record { found = b; cells = cells }) (filling cells at (cond b (some []) none))
-    go true = ap (λ (l : List ℕ). record { found = true; cells = record { values = l } }) (sym (put-none cells.values at))
+    go : (b : Bool) → cond {A = rust.Result PlainCells PlainCells} b (Ok cells) (Err cells) ≡ filling cells at (cond b (some []) none)
+    go true = ap {B = rust.Result PlainCells PlainCells} (λ (l : List ℕ). Ok (record { values = l })) (sym (put-none cells.values at))
     go false = refl
 
 -- what the filling after the guess d tells, the tables being the old ones before it
-module _ (sheet : List ℕ) (p : Problem) (s : ℕ) (choices : List ℕ) (old cells : PlainCells) (at d : ℕ) (r : Filling) (same : cells ≡ old)
+module _ (sheet : List ℕ) (p : Problem) (s : ℕ) (choices : List ℕ) (old cells : PlainCells) (at d : ℕ) (r : rust.Result PlainCells PlainCells) (same : cells ≡ old)
     (e : r ≡ filling (record { values = set cells.values at d }) (at + 1) (filled_from sheet p s choices (set cells.values at d) (at + 1))) where
   abbrev rest : PlainCells → Option (List ℕ)
   rest k = filled_from sheet p s choices (set k.values at d) (at + 1)
@@ -105,16 +106,16 @@ module _ (sheet : List ℕ) (p : Problem) (s : ℕ) (choices : List ℕ) (old ce
   of-old : r ≡ filling (record { values = set old.values at d }) (at + 1) (rest old)
   of-old = e ∙ ap (λ (k : PlainCells). filling (record { values = set k.values at d }) (at + 1) (rest k)) same
 
-  pub guess-found : at < length old.values → r.found ≡ true → (r ≡ filling old at (prefix d (rest old))) × ((v : List ℕ) × (prefix d (rest old) ≡ some v))
+  pub guess-found : at < length old.values → is_ok r ≡ true → (r ≡ filling old at (prefix d (rest old))) × ((v : List ℕ) × (prefix d (rest old) ≡ some v))
   guess-found h b = go (rest old) of-old
     where
       go : (x : Option (List ℕ)) → r ≡ filling (record { values = set old.values at d }) (at + 1) x → (r ≡ filling old at (prefix d x)) × ((v : List ℕ) × (prefix d x ≡ some v))
-      go none k = absurd (false≢true (sym (ap (λ (f : Filling). f.found) k) ∙ b))
-      go (some v) k = (k ∙ ap (λ (l : List ℕ). record { found = true; cells = record { values = l } }) (guess-put old.values at d h v), (d ∷ v, refl))
+      go none k = absurd (false≢true (sym (ap (λ (o : rust.Result PlainCells PlainCells). is_ok o) k) ∙ b))
+      go (some v) k = (k ∙ ap {B = rust.Result PlainCells PlainCells} (λ (l : List ℕ). Ok (record { values = l })) (guess-put old.values at d h v), (d ∷ v, refl))
 
-  pub guess-missed : r.found ≡ false → prefix d (rest old) ≡ none
+  pub guess-missed : is_ok r ≡ false → prefix d (rest old) ≡ none
   guess-missed b = go (rest old) of-old
     where
       go : (x : Option (List ℕ)) → r ≡ filling (record { values = set old.values at d }) (at + 1) x → prefix d x ≡ none
       go none k = refl
-      go (some v) k = absurd (false≢true (sym b ∙ ap (λ (f : Filling). f.found) k))
+      go (some v) k = absurd (false≢true (sym b ∙ ap (λ (o : rust.Result PlainCells PlainCells). is_ok o) k))

@@ -20,7 +20,9 @@ use Rattle.syntax.specs.Signatures.{symbol_in, signature_in}
 use Rattle.problem.specs.Problems.{problem_in}
 use Rattle.judging.specs.Cases.{cells_of}
 use Rattle.text.specs.Put.{put, take_put}
-use Rattle.plain.specs.declared.filling.Filling.{Filling}
+use Rattle.std.specs.Prelude as rust
+use Rattle.std.specs.Result.{result_ok}
+use Rattle.plain.specs.declared.cells.PlainCells.{PlainCells}
 use Rattle.plain.specs.Filling.{choices_of, Searchable, Fillable, filled_from, filling, model_in}
 
 -- the number of cells does not hang on the names
@@ -72,9 +74,9 @@ module _ (sheet : List ℕ) (p : Problem) (s : ℕ) (h : Searchable sheet p s) (
       let n : cell_count s (signature_in sheet p.signature) ≡ 0 + length v = omega (arith, l) in
       ap (λ (n : ℕ). take n (put values 0 v)) n ∙ take_put values 0 v (omega (arith, l, h.few, long))
 
-  pub least-filled : (r : Filling) → r ≡ filling (record { values = values }) 0 (filled_from sheet p s choices values 0) → model_in sheet p s r ≡ least_model s q
+  pub least-filled : (r : rust.Result PlainCells PlainCells) → r ≡ filling (record { values = values }) 0 (filled_from sheet p s choices values 0) → model_in sheet p s (result_ok r) ≡ least_model s q
   least-filled r k = go (least_model s q) refl (k ∙ ap (filling (record { values = values }) 0) all-filled)
     where
-      go : (x : Option (List ℕ)) → least_model s q ≡ x → r ≡ filling (record { values = values }) 0 x → model_in sheet p s r ≡ x
-      go none m j = ap (model_in sheet p s) j
-      go (some v) m j = ap (model_in sheet p s) j ∙ ap some (taken v (sized v m))
+      go : (x : Option (List ℕ)) → least_model s q ≡ x → r ≡ filling (record { values = values }) 0 x → model_in sheet p s (result_ok r) ≡ x
+      go none m j = ap (λ (o : rust.Result PlainCells PlainCells). model_in sheet p s (result_ok o)) j
+      go (some v) m j = ap (λ (o : rust.Result PlainCells PlainCells). model_in sheet p s (result_ok o)) j ∙ ap some (taken v (sized v m))

@@ -1,8 +1,8 @@
 -- The model of a size that was found, or was not, and the sizes below high.
 use Prim.Native.Nat.{ℕ, ◌-◌, ◌≤◌}
 use mathlib.Core.Path.{◌≡◌, sym, ap, ◌∙◌}
-use mathlib.Core.Bool.{Bool, true, false, cond}
-use mathlib.Core.Option.{Option, none, some}
+use mathlib.Core.Bool.{true}
+use mathlib.Core.Option.{none, some}
 use mathlib.Core.List.{List}
 use native.Mathlib.Omega.{arith}
 use lib.ListN.{length, take, length-take}
@@ -19,20 +19,19 @@ use Rattle.syntax.specs.Signatures.{signature_in}
 use Rattle.problem.specs.Problems.{problem_in}
 use Rattle.judging.specs.Cases.{cells_of}
 use Rattle.case_writer.specs.Writable.{Writable}
-use Rattle.plain.specs.declared.filling.Filling.{Filling}
+use Rattle.std.specs.Prelude as rust
+use Rattle.std.specs.Prelude.{Some, None}
+use Rattle.plain.specs.declared.cells.PlainCells.{PlainCells}
 use Rattle.plain.specs.Filling.{Searchable, model_in}
 use Rattle.plain.specs.Ending.{Ranged, Sizes}
 
 -- the least model as a filling tells it
-module _ (sheet : List ℕ) (p : Problem) (s : ℕ) (r : Filling) (e : model_in sheet p s r ≡ least_model s (problem_in sheet p)) where
-  abbrev told : Bool → Option (List ℕ)
-  told b = cond b (some (cells_of sheet p r.cells.values s)) none
+module _ (sheet : List ℕ) (p : Problem) (s : ℕ) (r : rust.Option PlainCells) (e : model_in sheet p s r ≡ least_model s (problem_in sheet p)) where
+  pub model-found : (cells : PlainCells) → r ≡ Some cells → least_model s (problem_in sheet p) ≡ some (cells_of sheet p cells.values s)
+  model-found cells f = sym e ∙ ap (model_in sheet p s) f
 
-  pub model-found : r.found ≡ true → least_model s (problem_in sheet p) ≡ some (cells_of sheet p r.cells.values s)
-  model-found f = sym e ∙ ap told f
-
-  pub model-missed : r.found ≡ false → least_model s (problem_in sheet p) ≡ none
-  model-missed f = sym e ∙ ap told f
+  pub model-missed : r ≡ None → least_model s (problem_in sheet p) ≡ none
+  model-missed f = sym e ∙ ap (model_in sheet p s) f
 
 -- its cells can be written as a case
 module _ (sheet : List ℕ) (p : Problem) (s : ℕ) (h : Searchable sheet p s) (values : List ℕ) (m : least_model s (problem_in sheet p) ≡ some (cells_of sheet p values s)) where

@@ -1,5 +1,5 @@
 -- Filling cells in order, the least value first.
-use Rattle.std.specs.Prelude.{ℕ, ◌≤◌, ◌≡◌, true, false, cond, List, ◌++◌, map, length, take, drop}
+use Rattle.std.specs.Prelude.{ℕ, ◌≤◌, ◌≡◌, true, List, ◌++◌, map, length, take, drop}
 use Rattle.std.proofs.Math.Option.{Option, none, some}
 use Rattle.theory.specs.Lists.{up_to}
 use Rattle.theory.specs.Syntax.{Signature}
@@ -13,7 +13,8 @@ use Rattle.problem.specs.Problems.{problem_in, Accepted}
 use Rattle.judging.specs.Cases.{cells_of}
 use Rattle.text.specs.Put.{put}
 use Rattle.plain.specs.declared.cells.PlainCells.{PlainCells}
-use Rattle.plain.specs.declared.filling.Filling.{Filling}
+use Rattle.std.specs.Prelude as rust
+use Rattle.std.specs.Prelude.{Some, None, Ok, Err}
 
 -- how many values each cell has
 unfoldable pub choices_of : ℕ → Signature → List ℕ
@@ -42,11 +43,12 @@ unfoldable pub filled_from : List ℕ → Problem → ℕ → List ℕ → List 
 filled_from sheet p s choices values at =
     first_list (map up_to (drop at choices)) (λ v. is_model s (problem_in sheet p).symbols (problem_in sheet p).clauses (take at values ++ v))
 
--- the tables with these values from `at` on; without any, the tables as they were
-abbrev pub filling : PlainCells → ℕ → Option (List ℕ) → Filling
-filling cells at none = record { found = false; cells = cells }
-filling cells at (some v) = record { found = true; cells = record { values = put cells.values at v } }
+-- the tables with these values from `at` on, or the tables as they were
+abbrev pub filling : PlainCells → ℕ → Option (List ℕ) → rust.Result PlainCells PlainCells
+filling cells at none = Err cells
+filling cells at (some v) = Ok (record { values = put cells.values at v })
 
 -- the model that was found
-abbrev pub model_in : List ℕ → Problem → ℕ → Filling → Option (List ℕ)
-model_in sheet p s f = cond f.found (some (cells_of sheet p f.cells.values s)) none
+abbrev pub model_in : List ℕ → Problem → ℕ → rust.Option PlainCells → Option (List ℕ)
+model_in sheet p s (Some cells) = some (cells_of sheet p cells.values s)
+model_in sheet p s None = none

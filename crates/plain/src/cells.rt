@@ -36,12 +36,10 @@ impl Choices {
         ensures count { result.count ≡ self.count + n }
         ensures values { take result.count result.values ≡ take self.count self.values ++ replicate n values }
     {
-        let end = self.count + n;
-        while self.count < end {
-            let i = self.count;
-            self.values[i] = values;
-            self.count = i + 1;
-        }
+        let from = self.count;
+        let end = from + n;
+        self.values[from..end].fill(values);
+        self.count = end;
         self
     }
 }
@@ -57,12 +55,10 @@ pub fn choices_of(signature: Signature, size: DomainSize) -> Choices
         values: [0; PlainCells::MAX],
         count: 0,
     };
-    let mut i: usize = 0;
-    while i < signature.count {
+    for i in 0..signature.count {
         let symbol = signature.symbols[i];
         let n = power(size.0, symbol.arity as usize);
         choices = choices.with(value_count(symbol.function, size), n);
-        i += 1;
     }
     choices
 }

@@ -10,15 +10,8 @@ use judging::failures::case_failure;
 use syntax::limits::Problem;
 use syntax::size::DomainSize;
 
-// Whether a model was found, and the tables: the model's, or else those that were handed in.
-#[derive(Drop)]
-pub struct Filling {
-    pub found: bool,
-    pub cells: PlainCells,
-}
-
 // The least model of a size: all cells are filled, from the first on.
-pub fn least_model(sheet: &[u8], p: Problem, size: DomainSize) -> Filling
+pub fn least_model(sheet: &[u8], p: Problem, size: DomainSize) -> Option<PlainCells>
     requires { Searchable sheet.now p size.0 }
     ensures { model_in sheet.now p size.0 result ≡ least_model size.0 (problem_in sheet.now p) }
 {
@@ -29,11 +22,11 @@ pub fn least_model(sheet: &[u8], p: Problem, size: DomainSize) -> Filling
     let cells = PlainCells {
         values: [0; PlainCells::MAX],
     };
-    fill(sheet, p, size, &values[0..count], cells, 0)
+    fill(sheet, p, size, &values[0..count], cells, 0).ok()
 }
 
-// Fills the cells from `at` on; `choices` says how many values each cell has. The tables are copied before each guess, and the old ones restored
-// after one that leads to no model.
+// Fills the cells from `at` on to a model, or hands the tables back as they were; `choices` says how many values each cell has. The tables are copied
+// before each guess, and the old ones restored after one that leads to no model.
 pub fn fill(
     sheet: &[u8],
     p: Problem,
@@ -41,32 +34,27 @@ pub fn fill(
     choices: &[u8],
     mut cells: PlainCells,
     at: usize,
-) -> Filling
+) -> Result<PlainCells, PlainCells>
     requires { Fillable sheet.now p size.0 choices.now cells.values at }
     ensures { result ≡ filling cells at (filled_from sheet.now p size.0 choices.now cells.values at) }
 {
     if choices.len() <= at {
-        return Filling {
-            found: is_model(sheet, p, cells, size),
-            cells,
-        };
+        if is_model(sheet, p, cells, size) {
+            return Ok(cells);
+        }
+        return Err(cells);
     }
     let count = choices[at];
-    let mut d: u8 = 0;
-    while d < count {
+    for d in 0..count {
         let old = cells;
         cells.values[at] = d;
-        let r = fill(sheet, p, size, choices, cells, at + 1);
-        if r.found {
-            return r;
+        let model = fill(sheet, p, size, choices, cells, at + 1);
+        if model.is_ok() {
+            return model;
         }
         cells = old;
-        d += 1;
     }
-    Filling {
-        found: false,
-        cells,
-    }
+    Err(cells)
 }
 
 // No clause fails in the interpretation that the first cells are.
@@ -75,6 +63,5 @@ fn is_model(sheet: &[u8], p: Problem, cells: PlainCells, size: DomainSize) -> bo
     ensures { result ≡ is_model_in sheet.now p cells.values size.0 }
 {
     let values = cells.values;
-    let f = case_failure(sheet, p, &values, size);
-    !f.fails
+    case_failure(sheet, p, &values, size).is_none()
 }

@@ -13,11 +13,11 @@ ghost use Rattle.plain.specs.Ending.{Ranged, found_in};
 use answers::{FindAnswer, at_line, needing};
 use cases::writing::case_length;
 use cells::PlainCells;
-use columns::sheet::sheet_refusal;
+use columns::opened::open_sheet;
 use interpretation::tables::tables_of;
-use problem::sheet::read_problem;
-use ranges::range::{RangeCheck, checked_range};
+use ranges::range::checked_range;
 use sizes::search_sizes;
+use syntax::faults::Fault;
 use syntax::limits::Problem;
 use syntax::size::DomainSize;
 
@@ -25,15 +25,11 @@ use syntax::size::DomainSize;
 pub fn find_plainly(sheet: &[u8], low: u64, high: u64, output: &mut [u8]) -> FindAnswer
     ensures { PlainCall sheet.now low high result output.old output.new }
 {
-    let r = read_problem(sheet);
-    if r.fault != 0 {
-        return FindAnswer::Refused(sheet_refusal(sheet, r.fault, r.line));
-    }
-    let p = r.problem;
-    match checked_range(low, high) {
-        RangeCheck::Refused => FindAnswer::Refused(at_line(8, 0)),
-        RangeCheck::Is(least, most) => find_in(sheet, p, least, most, output),
-    }
+    let p = open_sheet(sheet, false)?;
+    let Some((least, most)) = checked_range(low, high) else {
+        return Err(at_line(Fault::Size, 0));
+    };
+    find_in(sheet, p, least, most, output)
 }
 
 // At checked sizes: 20, then 11, then the search.
@@ -50,11 +46,11 @@ fn find_in(
     let signature = p.signature;
     let t = tables_of(signature, high);
     if PlainCells::MAX < t.cells {
-        return FindAnswer::Refused(at_line(20, 0));
+        return Err(at_line(Fault::PlainCells, 0));
     }
     let length = case_length(signature, high);
     if output.len() < length {
-        return FindAnswer::Refused(needing(11, length));
+        return Err(needing(Fault::OutputLength, length));
     }
     search_sizes(sheet, p, low, high, output)
 }

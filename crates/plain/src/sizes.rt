@@ -12,7 +12,7 @@ ghost use Rattle.plain.specs.Ending.{Sizes, found_within};
 
 use crate::cells::PlainCells;
 use crate::filling::least_model;
-use answers::FindAnswer;
+use answers::{FindAnswer, PlainResult};
 use case_writer::write_cells;
 use interpretation::tables::tables_of;
 use ranges::settled::is_settled;
@@ -30,19 +30,14 @@ pub fn search_sizes(
     requires { Sizes sheet.now p low.0 high.0 (length output.old) }
     ensures { PlainSearchingCall (found_within (problem_in sheet.now p) low.0 high.0) result output.old output.new }
 {
-    let mut size = low;
-    loop {
-        let r = least_model(sheet, p, size);
-        if r.found {
-            let cells = r.cells;
+    for s in low.0..high.0 + 1 {
+        let size = DomainSize(s);
+        if let Some(cells) = least_model(sheet, p, size) {
             let length = put_model(sheet, p, size, cells, output);
-            return FindAnswer::Found(size.0 as u64, length);
+            return Ok(PlainResult::Found(s as u64, length));
         }
-        if high.0 <= size.0 {
-            return FindAnswer::Nothing(is_settled(p, low, high));
-        }
-        size = size.next();
     }
+    Ok(PlainResult::Nothing(is_settled(p, low, high)))
 }
 
 // Writes the model that was found to the front of the output and answers the length of its case.

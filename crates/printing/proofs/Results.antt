@@ -1,24 +1,25 @@
 -- The result that an answer of the search stands for, and the case in the output.
-use Prim.Native.Nat.{ℕ, ◌+◌, ◌-◌, ◌≤◌, ◌<◌, ◌^◌}
+use Prim.Native.Nat.{ℕ, ◌+◌, ◌≤◌}
 use mathlib.Core.Path.{◌≡◌, refl, sym, ap, ◌∙◌, subst}
 use mathlib.Core.Bool.{Bool}
 use mathlib.Core.List.{List, ◌++◌}
 use native.Mathlib.Omega.{arith}
 use lib.ListN.{length, take, drop, take-append-drop, length-append, length-drop}
 use lib.Seq.{take_at, drop_at, drop-drop, length-take-le}
-use Rattle.theory.specs.Refusals.{Refusal, Answer, answer, refused, at_place}
+use Rattle.theory.specs.Refusals.{Answer, answer, refused, at_place}
 use Rattle.theory.specs.Bytes.{bytes}
 use Rattle.theory.specs.Operations.{Search, found, nothing, over, Found, found_case, no_case}
 use Rattle.theory.specs.Program.{refusal_text, printed}
 use Rattle.theory.proofs.Answers.{refused-inj, answer≢refused}
+use Rattle.syntax.specs.Faults.{number_of}
 use Rattle.answers.specs.declared.Refusal as answers
 use Rattle.answers.specs.Answers.{refusal_in}
 use Rattle.allowance.specs.AllowedFind.{Stoppable, finished, stopped, allowed_answer, allowed_output}
 use Rattle.allowance.specs.FinderProgram.{printed_within}
-use Rattle.finding.specs.declared.allowed.AllowedAnswer.{AllowedAnswer}
-use Rattle.finding.specs.declared.allowed.AllowedAnswer.TheVariants as find
-use Rattle.finding.specs.Calls.{allowed_in}
+use Rattle.finding.specs.declared.allowed.FindResult.TheVariants as find
+use Rattle.finding.specs.Calls.{AllowedAnswer, allowed_in}
 use Rattle.printing.specs.Reports.{Responds, Reportable}
+use Rattle.std.specs.Prelude.{Ok, Err}
 
 -- a case was found: it stands from place 13 on, and what comes after it is as it was before
 pub record WasFound (before output : List ℕ) (result : Answer (Stoppable Search)) (n : ℕ) : Type 0 where
@@ -33,7 +34,7 @@ module _ (output : List ℕ) (a : AllowedAnswer) (r : Reportable a output) where
   behind : drop 13 output ≡ allowed_output r.result (drop 13 r.before)
   behind = ap (drop 13) r.left ∙ drop_at (take 13 r.before) (allowed_output r.result (drop 13 r.before)) 13 (length-take-le 13 r.before (omega (arith, r.kept)))
 
-  pub was-found : (s n k : ℕ) → a ≡ find.Found s n k → WasFound r.before output r.result n
+  was-found : (s n k : ℕ) → a ≡ Ok (find.Found s n k) → WasFound r.before output r.result n
   was-found s n k e = go r.result refl (sym (ap allowed_in e) ∙ r.answered) behind
     where
       go : (q : Answer (Stoppable Search)) → r.result ≡ q → answer (finished (found_case s n) k) ≡ allowed_answer q → drop 13 output ≡ allowed_output q (drop 13 r.before) → WasFound r.before output r.result n
@@ -54,7 +55,7 @@ module _ (output : List ℕ) (a : AllowedAnswer) (r : Reportable a output) where
       go (answer (stopped t m)) p h l = let z : ◌≡◌ {A = ℕ} 0 1 = cc in absurd (omega arith)
       go (refused q) p h l = absurd (answer≢refused (finished (found_case s n) k) q h)
 
-  pub was-none : (b : Bool) (k : ℕ) → a ≡ find.Nothing b k → r.result ≡ answer (finished (nothing b) k)
+  was-none : (b : Bool) (k : ℕ) → a ≡ Ok (find.Nothing b k) → r.result ≡ answer (finished (nothing b) k)
   was-none b k e = go r.result refl (sym (ap allowed_in e) ∙ r.answered)
     where
       go : (q : Answer (Stoppable Search)) → r.result ≡ q → answer (finished (no_case b) k) ≡ allowed_answer q → r.result ≡ answer (finished (nothing b) k)
@@ -66,7 +67,7 @@ module _ (output : List ℕ) (a : AllowedAnswer) (r : Reportable a output) where
       go (answer (stopped t m)) p h = let z : ◌≡◌ {A = ℕ} 0 1 = cc in absurd (omega arith)
       go (refused q) p h = absurd (answer≢refused (finished (no_case b) k) q h)
 
-  pub was-stopped : (s n : ℕ) → a ≡ find.Stopped s n → r.result ≡ answer (stopped s n)
+  was-stopped : (s n : ℕ) → a ≡ Ok (find.Stopped s n) → r.result ≡ answer (stopped s n)
   was-stopped s n e = go r.result refl (sym (ap allowed_in e) ∙ r.answered)
     where
       go : (q : Answer (Stoppable Search)) → r.result ≡ q → answer (stopped s n) ≡ allowed_answer q → r.result ≡ answer (stopped s n)
@@ -78,7 +79,7 @@ module _ (output : List ℕ) (a : AllowedAnswer) (r : Reportable a output) where
           p ∙ ap (λ (t : ℕ). answer (stopped t m)) e ∙ ap (λ (m : ℕ). answer (stopped s m)) f
       go (refused q) p h = absurd (answer≢refused (stopped s n) q h)
 
-  pub was-refused : (q : answers.Refusal) → a ≡ find.Refused q → r.result ≡ refused (refusal_in q)
+  was-refused : (q : answers.Refusal) → a ≡ Err q → r.result ≡ refused (refusal_in q)
   was-refused q e = go r.result refl (sym (ap allowed_in e) ∙ r.answered)
     where
       go : (m : Answer (Stoppable Search)) → r.result ≡ m → refused (refusal_in q) ≡ allowed_answer m → r.result ≡ refused (refusal_in q)
@@ -87,11 +88,8 @@ module _ (output : List ℕ) (a : AllowedAnswer) (r : Reportable a output) where
       go (answer (stopped t m)) p h = absurd (answer≢refused (stopped t m) (refusal_in q) (sym h))
       go (refused x) p h = p ∙ ap refused (sym (refused-inj {A = Stoppable Found} (refusal_in q) x h))
 
-  pub place-small : (q : answers.Refusal) → a ≡ find.Refused q → (q.line < 2 ^ 32) × (q.column < 2 ^ 32)
-  place-small q e = r.placed (refusal_in q) (was-refused q e)
-
   -- what is printed over the output after the search is printed over the output before it
-  pub found-responds : (s n m k : ℕ) (output' : List ℕ) → a ≡ find.Found s n m
+  pub found-responds : (s n m k : ℕ) (output' : List ℕ) → a ≡ Ok (find.Found s n m)
       → Responds (printed (answer (found 0 (take n (drop 13 output))))) k output output' → Responds (printed_within r.result) k r.before output'
   unfolding printed printed_within
   found-responds s n m k output' e h =
@@ -119,7 +117,7 @@ module _ (output : List ℕ) (a : AllowedAnswer) (r : Reportable a output) where
       ∙ ap (λ (l : List ℕ). take 13 r.before ++ l) f
       ∙ take-append-drop 13 r.before
 
-  pub none-responds : (b : Bool) (m k : ℕ) (output' : List ℕ) → a ≡ find.Nothing b m → Responds (printed (answer (nothing b))) k output output'
+  pub none-responds : (b : Bool) (m k : ℕ) (output' : List ℕ) → a ≡ Ok (find.Nothing b m) → Responds (printed (answer (nothing b))) k output output'
       → Responds (printed_within r.result) k r.before output'
   unfolding printed_within
   none-responds b m k output' e h =
@@ -127,10 +125,7 @@ module _ (output : List ℕ) (a : AllowedAnswer) (r : Reportable a output) where
       subst (λ (l : List ℕ). Responds (printed_within r.result) k l output') (unwritten (answer (finished (nothing b) m)) is refl)
       (subst (λ (x : Answer (Stoppable Search)). Responds (printed_within x) k output output') (sym is) h)
 
-  pub size_small : (s n : ℕ) → a ≡ find.Stopped s n → s < 2 ^ 32
-  size_small s n e = r.sized s n (was-stopped s n e)
-
-  pub stopped-responds : (s n k : ℕ) (output' : List ℕ) → a ≡ find.Stopped s n → Responds (printed_within (answer (stopped s 0))) k output output'
+  pub stopped-responds : (s n k : ℕ) (output' : List ℕ) → a ≡ Ok (find.Stopped s n) → Responds (printed_within (answer (stopped s 0))) k output output'
       → Responds (printed_within r.result) k r.before output'
   unfolding printed_within
   stopped-responds s n k output' e h =
@@ -138,7 +133,7 @@ module _ (output : List ℕ) (a : AllowedAnswer) (r : Reportable a output) where
       subst (λ (l : List ℕ). Responds (printed_within r.result) k l output') (unwritten (answer (stopped s n)) is refl)
       (subst (λ (x : Answer (Stoppable Search)). Responds (printed_within x) k output output') (sym is) h)
 
-  pub refused-responds : (q : answers.Refusal) (k : ℕ) (output' : List ℕ) → a ≡ find.Refused q → Responds (refusal_text (at_place q.number (record { line = q.line; column = q.column }))) k output output'
+  pub refused-responds : (q : answers.Refusal) (k : ℕ) (output' : List ℕ) → a ≡ Err q → Responds (refusal_text (at_place (number_of q.fault) (record { line = q.line; column = q.column }))) k output output'
       → Responds (printed_within r.result) k r.before output'
   unfolding printed printed_within refusal_text
   refused-responds q k output' e h =

@@ -5,8 +5,7 @@ use Rattle.theory.specs.Vectors.{AllBelow}
 use Rattle.theory.specs.Refusals.{Refusal, Answer, answer, refused}
 use Rattle.theory.specs.Operations as operations
 use Rattle.answers.specs.declared.Reason.{Reason}
-use Rattle.answers.specs.declared.ExplainAnswer.{ExplainAnswer}
-use Rattle.answers.specs.Answers.{reason_bytes}
+use Rattle.answers.specs.Answers.{ExplainAnswer, reason_bytes}
 use Rattle.answers.specs.Calls.{ReasoningCall}
 
 -- a reason of few lines: a clause's number, and for each of at most eight letters a value of one digit

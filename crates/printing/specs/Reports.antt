@@ -3,8 +3,7 @@ use Rattle.std.specs.Prelude.{ℕ, ◌≤◌, ◌<◌, ◌^◌, ◌≡◌, List,
 use Rattle.theory.specs.Refusals.{Answer, Refusal, answer, refused}
 use Rattle.theory.specs.Operations.{Search, over}
 use Rattle.allowance.specs.AllowedFind.{Stoppable, stopped, allowed_answer, allowed_output}
-use Rattle.finding.specs.declared.allowed.AllowedAnswer.{AllowedAnswer}
-use Rattle.finding.specs.Calls.{allowed_in}
+use Rattle.finding.specs.Calls.{AllowedAnswer, allowed_in}
 
 -- n is the length of the text, which stands at the front of the output, and the bytes after it are as they were
 pub record Responds (text : List ℕ) (n : ℕ) (output output' : List ℕ) : Type 0 where

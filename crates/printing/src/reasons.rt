@@ -8,7 +8,7 @@ ghost use Rattle.printing.specs.Reports.{Responds};
 ghost use Rattle.printing.specs.Reasons.{Explicable, Printable};
 
 use crate::report::{put_field, put_refusal};
-use answers::{ExplainAnswer, JudgeAnswer, Reason};
+use answers::{ExplainAnswer, Reason};
 use text::writing::put_bytes;
 
 // Yes, the reason, or the refusal.
@@ -16,12 +16,10 @@ pub fn put_explained(out: &mut [u8], answer: ExplainAnswer) -> usize
     requires { Explicable answer out.old }
     ensures { (s : Explicable answer out.old) → Responds (theory.explained_text s.result) result out.old out.new }
 {
-    let verdict = answer.verdict;
-    let reason = answer.reason;
-    match verdict {
-        JudgeAnswer::Yes => put_yes(out),
-        JudgeAnswer::No => put_reason(out, reason),
-        JudgeAnswer::Refused(r) => put_refusal(out, r.number, r.line, r.column),
+    match answer {
+        Ok(None) => put_yes(out),
+        Ok(Some(reason)) => put_reason(out, reason),
+        Err(r) => put_refusal(out, r.fault.number(), r.line, r.column),
     }
 }
 
@@ -49,12 +47,9 @@ fn put_letters(out: &mut [u8], at: usize, reason: Reason) -> usize
     ensures written { (s : Printable reason) → out.new ≡ put out.old at (theory.letter_lines s.reason.letters s.reason.values) }
     ensures place { (s : Printable reason) → result ≡ at + length (theory.letter_lines s.reason.letters s.reason.values) }
 {
-    let count = reason.count;
     let mut end = at;
-    let mut i: usize = 0;
-    while i < count {
+    for i in 0..reason.count {
         end = put_letter(out, end, reason.letters[i], reason.values[i]);
-        i += 1;
     }
     end
 }

@@ -9,7 +9,7 @@ ghost use Rattle.allowance.specs.FinderProgram.{printed_within};
 ghost use Rattle.text.specs.Put.{put};
 ghost use Rattle.printing.specs.Reports.{Reportable, Responds};
 
-use finding::allowed::AllowedAnswer;
+use finding::allowed::{AllowedAnswer, FindResult};
 use text::writing::{put_bytes, put_number};
 
 // The bytes of the line before a found case.
@@ -21,10 +21,10 @@ pub fn put_result(out: &mut [u8], answer: AllowedAnswer) -> usize
     ensures { (s : Reportable answer out.old) → Responds (printed_within s.result) result s.before out.new }
 {
     match answer {
-        AllowedAnswer::Found(_, count, _) => put_found(out, count),
-        AllowedAnswer::Nothing(settled, _) => put_none(out, settled),
-        AllowedAnswer::Stopped(size, _) => put_stopped(out, size),
-        AllowedAnswer::Refused(r) => put_refusal(out, r.number, r.line, r.column),
+        Ok(FindResult::Found(_, count, _)) => put_found(out, count),
+        Ok(FindResult::Nothing(settled, _)) => put_none(out, settled),
+        Ok(FindResult::Stopped(size, _)) => put_stopped(out, size),
+        Err(r) => put_refusal(out, r.fault.number(), r.line, r.column),
     }
 }
 
@@ -63,7 +63,7 @@ pub fn put_refusal(out: &mut [u8], number: u8, line: usize, column: usize) -> us
     requires { (80 ≤ length out.old) × ((line < 2 ^ 32) × (column < 2 ^ 32)) }
     ensures { Responds (theory.refusal_text (refusals.at_place number (record { line = line; column = column }))) result out.old out.new }
 {
-    let a = put_field(out, 0, b"answer=refused\nreason=", number as u32);
+    let a = put_field(out, 0, b"answer=refused\nreason=", u32::from(number));
     let b = put_field(out, a, b"\nline=", line as u32);
     let c = put_field(out, b, b"\ncolumn=", column as u32);
     out[c] = 10;

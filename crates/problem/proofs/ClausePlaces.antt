@@ -7,33 +7,34 @@ use mathlib.Core.List.{List, ◌∷◌}
 use native.Mathlib.Numerals.{add-one}
 use native.Mathlib.Omega.{arith}
 use lib.ListN.{length, drop}
-use borrow.Author.Tests.{lt-ltb, eq-eqb, ne_eqb}
+use borrow.Author.Tests.{lt-ltb}
 use Rattle.theory.specs.Bytes.{bytes}
 use Rattle.theory.specs.Syntax.{Signature, Clause}
 use Rattle.theory.specs.Grammar.{Word, Grammar, clause, misplaced, unfinished, grammar, read_words, clause_if, read_clause}
 use Rattle.theory.specs.Lines.{Cut, words_of}
-use Rattle.theory.specs.Refusals.{Refusal, Answer, answer, refused, at_line, ◌>>=◌, check, or_refuse}
+use Rattle.theory.specs.Refusals.{Refusal, Answer, answer, at_line, ◌>>=◌, check, or_refuse}
 use Rattle.theory.specs.Problem.{key_line, read_all, within_limits, clause_of, clause_lines}
 use Rattle.theory.proofs.Answers.{answer-inj, unbind, bind-step, bind-refused, or_refuse-some}
 use Rattle.naming.specs.NamedReading.{is_within_named, named_clause_of, named_clause_lines}
 use Rattle.text.specs.Lines.{part, LineEnd}
 use Rattle.syntax.specs.Codes.{clause_in}
-use Rattle.clauses.specs.declared.clause.ClauseLine.{ClauseLine}
+use Rattle.syntax.specs.declared.words.ClauseWords.{ClauseWords}
 use Rattle.clauses.specs.Clauses.{ClauseRead}
-use Rattle.problem.specs.declared.lines.KeyLine.TheVariants as key
-use Rattle.problem.specs.declared.clause_lines.ClausePlace.{ClausePlace}
-use Rattle.problem.specs.declared.clause_lines.ClausePlace.TheVariants.{At, Fault}
 use Rattle.problem.specs.Lines.{KeyRead}
 use Rattle.problem.specs.Problems.{line_or, clause_from, clause_at, clause_of_in, ClauseThere}
-use Rattle.problem.specs.ClausePlaces.{LineFault, clause_lines_in, clause_line_in, clause_value, ClauseValueRead, ClauseLineRead}
+use Rattle.problem.specs.ClausePlaces.{LineHeld, clause_lines_in, clause_line_in, clause_value, ClauseValueRead, ClauseLineRead}
+use Rattle.syntax.specs.declared.faults.Fault.{Fault}
+use Rattle.syntax.specs.Faults.{number_of}
+use Rattle.syntax.specs.declared.faults.Fault.TheVariants as fault
+use Rattle.std.specs.Prelude.{Some, None, Ok, Err}
+use Rattle.std.specs.Prelude as rust
 
--- the number that reading a clause plain leaves
-pub plain-fault : (g : Signature) (value : List ℕ) (c : ClauseLine) → ClauseRead g value c → LineFault false g value c.fault
-plain-fault g value c h =
-    record {
-      fault = λ ne l. sym (h.read l) ∙ ap (λ (b : Bool). cond b (answer (clause_in g c.words)) (refused (at_line c.fault l))) (ne_eqb c.fault 0 ne);
-      taken = λ e. (clause_in g c.words, λ l. sym (h.read l) ∙ ap (λ (b : Bool). cond b (answer (clause_in g c.words)) (refused (at_line c.fault l))) (eq-eqb c.fault 0 e));
-    }
+-- what reading a clause plain says
+pub plain-held : (g : Signature) (value : List ℕ) (w : ClauseWords) → ClauseRead g value (Ok w) → LineHeld false g value (Ok tt)
+plain-held g value w h = record { taken = (clause_in g w, λ l. sym (h.read l)); fault = tt }
+
+pub plain-refused : (g : Signature) (value : List ℕ) (f : Fault) → ClauseRead g value (Err f) → LineHeld false g value (Err f)
+plain-refused g value f h = record { taken = tt; fault = λ l. sym (h.read l) }
 
 -- the clause that was answered is that of the line's words
 known-clause : (g : Signature) (v : List ℕ) (l : ℕ) (c : Clause) (k : List Word → Clause → Answer Clause)
@@ -68,32 +69,32 @@ clause-at named sheet g at t =
     let r = line-clause named g t.line.0 0 t.clause (t.answered 0) in
     ap (λ (o : Option Cut). clause_from g (read_all g (words_of (line_or o)))) t.cut ∙ ap (clause_from g) r.1.0 ∙ words-clause g r.0 t.clause r.1.1
 
-module _ (named : Bool) (sheet : List ℕ) (from end : ℕ) (g : Signature) (f : ℕ) (h : LineFault named g (part sheet from end) f) where
-  -- the value is no clause within the limits
-  pub clause-refused : (f ≡ 0 → ⊥) → ClauseValueRead named sheet from end g (Fault f)
-  unfolding clause_value
-  clause-refused ne = record { read = λ n l. sym (bind-refused (clause_of_in named g l (part sheet from end)) _ (at_line f l) (h.fault ne l)); within = ne }
+-- the value is no clause within the limits
+pub clause-refused : (named : Bool) (sheet : List ℕ) (from end : ℕ) (g : Signature) (f : Fault) → LineHeld named g (part sheet from end) (Err f) → ClauseValueRead named sheet from end g (Err f)
+unfolding clause_value
+clause-refused named sheet from end g f h =
+    record { read = λ n l. sym (bind-refused (clause_of_in named g l (part sheet from end)) _ (at_line (number_of f) l) (h.fault l)); within = tt }
 
-  module _ (e : f ≡ 0) (line : LineEnd sheet from end) (inside : end < length sheet) where
-    there : ClauseThere named sheet g from
-    there =
-        record {
-          within = omega (arith, line.from, line.within);
-          line = (part sheet from end, drop (suc end) sheet);
-          cut = line.cut ∙ ap (λ (b : Bool). cond b (some (part sheet from end, drop (suc end) sheet)) none) (lt-ltb end (length sheet) inside);
-          clause = (h.taken e).0;
-          answered = (h.taken e).1;
-        }
+module _ (named : Bool) (sheet : List ℕ) (from end : ℕ) (g : Signature) (h : LineHeld named g (part sheet from end) (Ok tt)) (line : LineEnd sheet from end) (inside : end < length sheet) where
+  there : ClauseThere named sheet g from
+  there =
+      record {
+        within = omega (arith, line.from, line.within);
+        line = (part sheet from end, drop (suc end) sheet);
+        cut = line.cut ∙ ap (λ (b : Bool). cond b (some (part sheet from end, drop (suc end) sheet)) none) (lt-ltb end (length sheet) inside);
+        clause = h.taken.0;
+        answered = h.taken.1;
+      }
 
-    pub clause-read : ClauseValueRead named sheet from end g (At from (end + 1))
-    unfolding clause_value there
-    clause-read =
-        record {
-          read = λ n l. ap (λ (k : ℕ). clause_lines_in named n g (suc l) (drop k sheet) >>= λ r. answer (clause_at sheet g from ∷ r.0, r.1)) (add-one end)
-              ∙ ap (λ (k : Clause). clause_lines_in named n g (suc l) (drop (suc end) sheet) >>= λ r. answer (k ∷ r.0, r.1)) (clause-at named sheet g from there)
-              ∙ sym (bind-step (clause_of_in named g l (part sheet from end)) _ (h.taken e).0 _ ((h.taken e).1 l) refl);
-          within = (there, omega arith);
-        }
+  pub clause-read : ClauseValueRead named sheet from end g (Ok (from, end + 1))
+  unfolding clause_value there
+  clause-read =
+      record {
+        read = λ n l. ap (λ (k : ℕ). clause_lines_in named n g (suc l) (drop k sheet) >>= λ r. answer (clause_at sheet g from ∷ r.0, r.1)) (add-one end)
+            ∙ ap (λ (k : Clause). clause_lines_in named n g (suc l) (drop (suc end) sheet) >>= λ r. answer (k ∷ r.0, r.1)) (clause-at named sheet g from there)
+            ∙ sym (bind-step (clause_of_in named g l (part sheet from end)) _ h.taken.0 _ (h.taken.1 l) refl);
+        within = (there, omega arith);
+      }
 
 -- one clause line, and those after it
 lines_next : (named : Bool) (n : ℕ) (g : Signature) (l : ℕ) (text : List ℕ) → clause_lines_in named (suc n) g l text ≡ (key_line (bytes "clause=") l text >>= λ p. clause_value named g n l p)
@@ -102,14 +103,14 @@ lines_next false n g l text = refl
 lines_next true n g l text = refl
 
 module _ (named : Bool) (sheet : List ℕ) (at : ℕ) (g : Signature) where
-  pub clause-unkeyed : KeyRead sheet at (bytes "clause=") key.Fault → ClauseLineRead named sheet at g (Fault 2)
+  pub clause-unkeyed : KeyRead sheet at (bytes "clause=") None → ClauseLineRead named sheet at g (Err fault.SheetLine)
   clause-unkeyed h =
       record {
         read = λ n l. sym (lines_next named n g l (drop at sheet) ∙ bind-refused (key_line (bytes "clause=") l (drop at sheet)) _ (at_line 2 l) (sym (h.read l)));
-        within = λ h. omega arith;
+        within = tt;
       }
 
-  pub clause-keyed : (from end : ℕ) (r : ClausePlace) → KeyRead sheet at (bytes "clause=") (key.Value from end) → ClauseValueRead named sheet from end g r → ClauseLineRead named sheet at g r
+  pub clause-keyed : (from end : ℕ) (r : rust.Result (ℕ × ℕ) Fault) → KeyRead sheet at (bytes "clause=") (Some (from, end)) → ClauseValueRead named sheet from end g r → ClauseLineRead named sheet at g r
   clause-keyed from end r h v =
       record {
         read = λ n l. sym (lines_next named n g l (drop at sheet)

@@ -2,15 +2,13 @@
 use Prim.Native.Nat.{ℕ, suc, ◌+◌, ◌-◌, ◌≤◌, ◌<◌}
 use mathlib.Core.Path.{◌≡◌, refl, sym, ap, ◌∙◌}
 use mathlib.Core.Logic.{◌⊎◌, inl, inr}
-use mathlib.Core.Bool.{Bool, true, false, cond}
+use mathlib.Core.Bool.{Bool, true, false}
 use mathlib.Core.List.{List, [], ◌∷◌, ◌++◌, map, map-append, append_assoc, append-nil}
 use native.Mathlib.Nat.{eq-or-lt_of_le}
 use native.Mathlib.Numerals.{add-one}
 use native.Mathlib.Omega.{arith}
-use lib.Dec.{eqb}
 use lib.ListN.{length, get_or, set, take, drop, replicate, length-set, length-replicate, drop_of_length-le}
 use lib.Seq.{take-suc-set, get_or-set_same, get_or-set_other, drop-cons}
-use borrow.Author.Tests.{ne_eqb}
 use Rattle.theory.specs.Lists.{same}
 use Rattle.theory.specs.Syntax.{Signature, Clause, functions}
 use Rattle.theory.specs.Refusals.{Answer, answer, refused, at_line, ◌>>=◌}
@@ -18,27 +16,22 @@ use Rattle.theory.specs.Problem.{clause_lines, nothing_left}
 use Rattle.theory.specs.Problem as theory
 use Rattle.naming.specs.NamedReading.{named_clause_lines}
 use Rattle.theory.proofs.Answers.{bind-step, bind-refused, check-of-true, check-of-false}
-use Rattle.syntax.specs.declared.limits.Problem.{Problem}
 use Rattle.syntax.specs.declared.signature.Signature as declared
 use Rattle.syntax.specs.declared.terms.FixedTerms.{FixedTerms}
 use Rattle.syntax.specs.Signatures.{max_declared, signature_in}
 use Rattle.clauses.specs.Names.{Readable}
-use Rattle.problem.specs.declared.clause_lines.ClausePlace.TheVariants.{At, Fault}
-use Rattle.problem.specs.declared.sheet.Reading.{Reading}
 use Rattle.problem.specs.Problems.{clause_at, handed_in, ClauseThere}
 use Rattle.problem.specs.Stages.{ProblemRead, clause_lines_from}
 use Rattle.problem.specs.ClausePlaces.{clause_lines_in, ClauseLineRead}
+use Rattle.syntax.specs.declared.faults.Fault.{Fault}
+use Rattle.syntax.specs.Faults.{number_of}
+use Rattle.syntax.specs.declared.faults.Fault.TheVariants as fault
+use Rattle.std.specs.Prelude.{Ok, Err}
+use Rattle.problem.specs.declared.sections.SheetFault.{SheetFault}
 
 -- a refusal that was read
-pub reading-refused : (named : Bool) (sheet : List ℕ) (a : Answer theory.Problem) (r : Reading) (f l : ℕ) → (f ≡ 0 → ⊥) → r.fault ≡ f → r.line ≡ l → a ≡ refused (at_line f l) → ProblemRead named sheet a r
-reading-refused named sheet a r f l ne fault line e =
-    record {
-      read = ap (λ (f : ℕ). cond (eqb f 0) (answer (handed_in sheet r.problem)) (refused (at_line f r.line))) fault
-          ∙ ap (λ (l : ℕ). cond (eqb f 0) (answer (handed_in sheet r.problem)) (refused (at_line f l))) line
-          ∙ ap (λ (b : Bool). cond b (answer (handed_in sheet r.problem)) (refused (at_line f l))) (ne_eqb f 0 ne)
-          ∙ sym e;
-      handed = λ z. absurd (ne (sym fault ∙ z));
-    }
+pub reading-refused : (named : Bool) (sheet : List ℕ) (a : Answer theory.Problem) (f : SheetFault) → a ≡ refused (at_line (number_of f.fault) f.line) → ProblemRead named sheet a (Err f)
+reading-refused named sheet a f e = record { read = sym e; handed = tt }
 
 -- no more lines
 no_lines : (named : Bool) (g : Signature) (l : ℕ) (text : List ℕ) → clause_lines_in named 0 g l text ≡ answer ([], text)
@@ -95,7 +88,7 @@ module _ (named : Bool) (sheet : List ℕ) (at line n : ℕ) (g : Signature) whe
           let e : n - i ≡ suc (n - (i + 1)) = omega arith in
           z.rest ∙ ap (λ (m : ℕ). infront front (clause_lines_in named m g (line + i) (drop next sheet))) e
 
-      pub turn : n ≤ 64 → (from after : ℕ) → ClauseLineRead named sheet next g (At from after) → Taken named sheet at line n g (set starts i from) after (i + 1)
+      pub turn : n ≤ 64 → (from after : ℕ) → ClauseLineRead named sheet next g (Ok (from, after)) → Taken named sheet at line n g (set starts i from) after (i + 1)
       unfolding front
       turn small from after h =
           let e : suc (line + i) ≡ line + (i + 1) = omega arith in
@@ -125,12 +118,12 @@ module _ (named : Bool) (sheet : List ℕ) (at line n : ℕ) (g : Signature) whe
               go (inr before) = rw (get_or-set_other starts i k from 0 (λ e. omega arith)) (z.there k before)
 
       -- the next line is faulty
-      pub faults : (f : ℕ) (r : Reading) → ClauseLineRead named sheet next g (Fault f) → r.fault ≡ f → r.line ≡ line + i → ProblemRead named sheet (clause_lines_from named n g line (drop at sheet)) r
+      pub faults : (f : Fault) → ClauseLineRead named sheet next g (Err f) → ProblemRead named sheet (clause_lines_from named n g line (drop at sheet)) (Err (record { fault = f; line = line + i }))
       unfolding clause_lines_from
-      faults f r h fault place =
-          reading-refused named sheet _ r f (line + i) h.within fault place
-          (bind-refused (clause_lines_in named n g line (drop at sheet)) _ (at_line f (line + i))
-          (first ∙ bind-refused (clause_lines_in named (suc (n - (i + 1))) g (line + i) (drop next sheet)) _ (at_line f (line + i)) (sym (h.read (n - (i + 1)) (line + i)))))
+      faults f h =
+          reading-refused named sheet _ _
+          (bind-refused (clause_lines_in named n g line (drop at sheet)) _ (at_line (number_of f) (line + i))
+          (first ∙ bind-refused (clause_lines_in named (suc (n - (i + 1))) g (line + i) (drop next sheet)) _ (at_line (number_of f) (line + i)) (sym (h.read (n - (i + 1)) (line + i)))))
 
     module _ (l : n ≤ i) where
       -- all lines were read
@@ -150,22 +143,22 @@ module _ (named : Bool) (sheet : List ℕ) (at line n : ℕ) (g : Signature) whe
       after-all a h = bind-step (clause_lines_in named n g line (drop at sheet)) _ (map (clause_at sheet g) (take n starts), drop next sheet) a whole h
 
       -- bytes after the end
-      pub bytes_left : (r : Reading) → next < length sheet → r.fault ≡ 2 → r.line ≡ line + n → ProblemRead named sheet (clause_lines_from named n g line (drop at sheet)) r
-      bytes_left r h fault place =
-          reading-refused named sheet _ r 2 (line + n) (λ e. omega arith) fault place
+      pub bytes_left : next < length sheet → ProblemRead named sheet (clause_lines_from named n g line (drop at sheet)) (Err (record { fault = fault.SheetLine; line = line + n }))
+      bytes_left h =
+          reading-refused named sheet _ _
           (after-all _ (bind-refused (nothing_left (line + n) (drop next sheet)) _ (at_line 2 (line + n)) (check-of-false (same (drop next sheet) []) (at_line 2 (line + n)) (ap (λ (t : List ℕ). same t []) (drop-cons sheet next 0 h)))))
 
 -- nothing stands after the last clause line
 pub all-taken : (named : Bool) (sheet : List ℕ) (at line n : ℕ) (s : declared.Signature) (count : ℕ) (starts : List ℕ) (next i : ℕ) → Taken named sheet at line n (signature_in sheet s) starts next i → n ≤ i
     → n ≤ 64 → length sheet ≤ next → Readable sheet s → s.count ≤ max_declared → count ≡ length (functions (signature_in sheet s)) → (terms : FixedTerms) → terms.count ≡ 0 → length terms.spans ≡ 32
-    → ProblemRead named sheet (clause_lines_from named n (signature_in sheet s) line (drop at sheet)) (record { problem = record { signature = s; functions = count; clauses = starts; count = n; terms = terms; symmetry = false }; fault = 0; line = 0 })
+    → ProblemRead named sheet (clause_lines_from named n (signature_in sheet s) line (drop at sheet)) (Ok (record { signature = s; functions = count; clauses = starts; count = n; terms = terms; symmetry = false }))
 unfolding handed_in
 all-taken named sheet at line n s count starts next i z l small end readable few counted terms none room =
     record {
       read = sym (after-all named sheet at line n (signature_in sheet s) starts next i z l _
           (bind-step (nothing_left (line + n) (drop next sheet)) _ tt _
           (check-of-true (same (drop next sheet) []) (at_line 2 (line + n)) (ap (λ (t : List ℕ). same t []) (drop_of_length-le sheet {i = next} end))) refl));
-      handed = λ _. record {
+      handed = record {
         readable = readable;
         few = few;
         functions = counted;

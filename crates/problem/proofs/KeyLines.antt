@@ -16,14 +16,15 @@ use Rattle.theory.proofs.Answers.{bind-step, bind-refused, or_refuse-of-some, or
 use Rattle.text.specs.Lines.{part, LineEnd, StartsWith}
 use Rattle.text.proofs.Ends.{line-later}
 use Rattle.text.proofs.Part.{drop-part, length_part}
-use Rattle.problem.specs.declared.lines.KeyLine.TheVariants as key
-use Rattle.problem.specs.declared.lines.CountLine.{CountLine}
-use Rattle.problem.specs.declared.lines.CountLine.TheVariants as count
 use Rattle.problem.specs.Lines.{KeyRead, count_value, count_line_in, CountRead, ValueCounted}
+use Rattle.std.specs.Prelude.{Some, None, Ok, Err}
+use Rattle.syntax.specs.declared.faults.Fault.TheVariants as fault
+use Rattle.std.specs.Prelude as rust
+use Rattle.syntax.specs.declared.faults.Fault.{Fault}
 
 module _ (sheet : List ℕ) (at end : ℕ) (key_bytes : List ℕ) (e : LineEnd sheet at end) where
   -- no LF ends the line
-  pub no_line : end ≡ length sheet → KeyRead sheet at key_bytes key.Fault
+  pub no_line : end ≡ length sheet → KeyRead sheet at key_bytes None
   no_line h =
       record {
         read = λ l. sym (bind-refused (or_refuse (cut_line (drop at sheet)) (at_line 2 l)) _ (at_line 2 l) (or_refuse-of-none (cut_line (drop at sheet)) (at_line 2 l)
@@ -39,14 +40,14 @@ module _ (sheet : List ℕ) (at end : ℕ) (key_bytes : List ℕ) (e : LineEnd s
     line-cut l r k = bind-step (or_refuse (cut_line (drop at sheet)) (at_line 2 l)) _ _ r (or_refuse-of-some (cut_line (drop at sheet)) (at_line 2 l) _ cut) k
 
     -- the line begins with another key
-    pub no_key : StartsWith (part sheet at end) key_bytes false → KeyRead sheet at key_bytes key.Fault
+    pub no_key : StartsWith (part sheet at end) key_bytes false → KeyRead sheet at key_bytes None
     no_key s =
         record {
           read = λ l. sym (line-cut l _ (bind-refused (or_refuse (after_key key_bytes (part sheet at end)) (at_line 2 l)) _ (at_line 2 l) (or_refuse-of-none (after_key key_bytes (part sheet at end)) (at_line 2 l) s.found)));
           within = tt;
         }
 
-    pub key-value : StartsWith (part sheet at end) key_bytes true → KeyRead sheet at key_bytes (key.Value (at + length key_bytes) end)
+    pub key-value : StartsWith (part sheet at end) key_bytes true → KeyRead sheet at key_bytes (Some ((at + length key_bytes), end))
     key-value s =
         record {
           read = λ l. sym (line-cut l _ (bind-step (or_refuse (after_key key_bytes (part sheet at end)) (at_line 2 l)) _ _ _ (or_refuse-of-some (after_key key_bytes (part sheet at end)) (at_line 2 l) _ s.found)
@@ -56,12 +57,12 @@ module _ (sheet : List ℕ) (at end : ℕ) (key_bytes : List ℕ) (e : LineEnd s
 
 module _ (sheet : List ℕ) (from end limit : ℕ) where
   -- the value is no count
-  pub no-count : none ≡ count_of (part sheet from end) → ValueCounted sheet from end limit (count.Fault 2)
+  pub no-count : none ≡ count_of (part sheet from end) → ValueCounted sheet from end limit (Err fault.SheetLine)
   unfolding count_value
   no-count e =
       record {
         read = λ l. sym (bind-refused (or_refuse (count_of (part sheet from end)) (at_line 2 l)) _ (at_line 2 l) (or_refuse-of-none (count_of (part sheet from end)) (at_line 2 l) (sym e)));
-        within = λ h. omega arith;
+        within = tt;
       }
 
   module _ (n : ℕ) (e : some n ≡ count_of (part sheet from end)) where
@@ -69,14 +70,14 @@ module _ (sheet : List ℕ) (from end limit : ℕ) where
     unfolding count_value
     counted l r k = bind-step (or_refuse (count_of (part sheet from end)) (at_line 2 l)) _ n r (or_refuse-of-some (count_of (part sheet from end)) (at_line 2 l) n (sym e)) k
 
-    pub count-over : limit < n → ValueCounted sheet from end limit (count.Fault 3)
+    pub count-over : limit < n → ValueCounted sheet from end limit (Err fault.CountOrArity)
     count-over h =
         record {
           read = λ l. sym (counted l _ (bind-refused (check (leb n limit) (at_line 3 l)) _ (at_line 3 l) (check-of-false (leb n limit) (at_line 3 l) (lt-leb n limit h))));
-          within = λ h. omega arith;
+          within = tt;
         }
 
-    pub count-read : n ≤ limit → end < length sheet → ValueCounted sheet from end limit (count.Read n (end + 1))
+    pub count-read : n ≤ limit → end < length sheet → ValueCounted sheet from end limit (Ok (n, (end + 1)))
     count-read h k =
         record {
           read = λ l. sym (counted l _ (bind-step (check (leb n limit) (at_line 3 l)) _ tt _ (check-of-true (leb n limit) (at_line 3 l) (le-leb n limit h))
@@ -85,11 +86,11 @@ module _ (sheet : List ℕ) (from end limit : ℕ) where
         }
 
 module _ (sheet : List ℕ) (at : ℕ) (key_bytes : List ℕ) (limit : ℕ) where
-  pub count-unkeyed : KeyRead sheet at key_bytes key.Fault → CountRead sheet at key_bytes limit (count.Fault 2)
+  pub count-unkeyed : KeyRead sheet at key_bytes None → CountRead sheet at key_bytes limit (Err fault.SheetLine)
   unfolding count_line
-  count-unkeyed h = record { read = λ l. sym (bind-refused (key_line key_bytes l (drop at sheet)) _ (at_line 2 l) (sym (h.read l))); within = λ h. omega arith }
+  count-unkeyed h = record { read = λ l. sym (bind-refused (key_line key_bytes l (drop at sheet)) _ (at_line 2 l) (sym (h.read l))); within = tt }
 
-  pub count-keyed : (from end : ℕ) (r : CountLine) → KeyRead sheet at key_bytes (key.Value from end) → ValueCounted sheet from end limit r → CountRead sheet at key_bytes limit r
+  pub count-keyed : (from end : ℕ) (r : rust.Result (ℕ × ℕ) Fault) → KeyRead sheet at key_bytes (Some (from, end)) → ValueCounted sheet from end limit r → CountRead sheet at key_bytes limit r
   unfolding count_line count_value
   count-keyed from end r h v =
       record {

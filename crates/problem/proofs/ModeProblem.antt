@@ -1,5 +1,5 @@
 -- A problem read in the mode: the one handed in with a helper for each term that is named.
-use Prim.Native.Nat.{ℕ, zero, suc, ◌+◌, ◌-◌, ◌≤◌, ◌<◌}
+use Prim.Native.Nat.{ℕ, zero, suc, ◌+◌, ◌≤◌, ◌<◌}
 use mathlib.Core.Path.{◌≡◌, refl, sym, ap, ◌∙◌, subst}
 use mathlib.Core.Bool.{Bool, true, false, cond}
 use mathlib.Core.List.{List, [], ◌∷◌, ◌++◌, map}
@@ -7,7 +7,7 @@ use native.Mathlib.Omega.{arith}
 use lib.Dec.{eqb, leb}
 use lib.ListN.{length, get_or, take, replicate, length-append, length-replicate}
 use lib.Seq.{take-take, take-append_seam, length-take-le}
-use borrow.Author.Tests.{eq-eqb, ne_eqb, le-leb, lt-leb}
+use borrow.Author.Tests.{le-leb, lt-leb}
 use Rattle.theory.specs.Lists.{all, select}
 use Rattle.theory.specs.Syntax.{is_function, Symbol, Signature, functions, Term, Clause}
 use Rattle.theory.specs.Problem as theory
@@ -31,7 +31,10 @@ use Rattle.shortening.specs.HelperWords.{helper_symbol, HelpersBehind}
 use Rattle.shortening.proofs.NamedTable.{length-terms}
 use Rattle.shortening.proofs.HelperSymbols.{signature-behind, readable-behind}
 use Rattle.shortening.proofs.MoreSymbols.{helpers-behind}
-use Rattle.problem.specs.declared.sheet.Reading.{Reading}
+use Rattle.problem.specs.declared.sections.SheetFault.{SheetFault}
+use Rattle.syntax.specs.Faults.{number_of}
+use Rattle.std.specs.Prelude.{Ok, Err}
+use Rattle.std.specs.Prelude as rust
 use Rattle.problem.specs.Problems.{clause_at, handed_in, sheet_signature, line_count, lines_in, problem_in, reading_of, HandedIn, LineThere, Accepted}
 use Rattle.problem.specs.Stages.{ProblemRead, read_lines_in, few_helpers}
 use Rattle.problem.proofs.LinesThere.{line-there}
@@ -132,38 +135,31 @@ module _ (sheet : List ℕ) (p : Problem) (h : HandedIn true sheet p) (s⁺ : de
         }
 
     -- what is answered
-    pub mode-read : reading_of sheet (record { problem = q; fault = 0; line = 0 }) ≡ (few_helpers (handed_in sheet p) >>= λ x. answer (in_mode x))
+    pub mode-read : reading_of sheet (Ok q) ≡ (few_helpers (handed_in sheet p) >>= λ x. answer (in_mode x))
     mode-read =
         ap answer problem-in-mode
         ∙ sym (bind-step (few_helpers (handed_in sheet p)) _ (handed_in sheet p) _
         (bind-step (check (leb (length (named_terms cs)) max_helpers) (unplaced 21)) _ tt _ (check-of-true (leb (length (named_terms cs)) max_helpers) (unplaced 21) (le-leb (length (named_terms cs)) max_helpers (omega (arith, counted, there.table.count)))) refl) refl)
 
 -- too many terms
-pub mode-refused : (sheet : List ℕ) (p : Problem) (r : Reading) → max_helpers < length (named_terms (handed_in sheet p).clauses) → r.fault ≡ 21 → r.line ≡ 0
-    → reading_of sheet r ≡ (few_helpers (handed_in sheet p) >>= λ x. answer (in_mode x))
-mode-refused sheet p r many fault line =
+pub mode-refused : (sheet : List ℕ) (p : Problem) → max_helpers < length (named_terms (handed_in sheet p).clauses) → refused (unplaced 21) ≡ (few_helpers (handed_in sheet p) >>= λ x. answer (in_mode x))
+mode-refused sheet p many =
     let cs : List Clause = (handed_in sheet p).clauses in
-    ap (λ (f : ℕ). cond (eqb f 0) (answer (problem_in sheet r.problem)) (refused (at_line f r.line))) fault
-    ∙ ap (λ (l : ℕ). refused (at_line 21 l)) line
-    ∙ sym (bind-refused (few_helpers (handed_in sheet p)) _ (unplaced 21)
+    sym (bind-refused (few_helpers (handed_in sheet p)) _ (unplaced 21)
     (bind-refused (check (leb (length (named_terms cs)) max_helpers) (unplaced 21)) _ (unplaced 21) (check-of-false (leb (length (named_terms cs)) max_helpers) (unplaced 21) (lt-leb (length (named_terms cs)) max_helpers many))))
 
 -- after the lines
-module _ (sheet : List ℕ) (r : Reading) (z : ProblemRead true sheet (read_lines_in true sheet) r) (whole : read_named sheet ≡ (read_lines_in true sheet >>= few_helpers)) where
+module _ (sheet : List ℕ) (whole : read_named sheet ≡ (read_lines_in true sheet >>= few_helpers)) where
   -- they are refused
-  pub lines-refused : (r.fault ≡ 0 → ⊥) → reading_of sheet r ≡ (read_named sheet >>= λ x. answer (in_mode x))
-  lines-refused ne =
-      let e : read_lines_in true sheet ≡ refused (at_line r.fault r.line) =
-      sym z.read ∙ ap (λ (b : Bool). cond b (answer (handed_in sheet r.problem)) (refused (at_line r.fault r.line))) (ne_eqb r.fault 0 ne) in
-      ap (λ (b : Bool). cond b (answer (problem_in sheet r.problem)) (refused (at_line r.fault r.line))) (ne_eqb r.fault 0 ne)
-      ∙ sym (bind-refused (read_named sheet) _ (at_line r.fault r.line) (whole ∙ bind-refused (read_lines_in true sheet) _ (at_line r.fault r.line) e))
+  pub lines-refused : (f : SheetFault) → ProblemRead true sheet (read_lines_in true sheet) (Err f) → reading_of sheet (Err f) ≡ (read_named sheet >>= λ x. answer (in_mode x))
+  lines-refused f z =
+      sym (bind-refused (read_named sheet) _ (at_line (number_of f.fault) f.line) (whole ∙ bind-refused (read_lines_in true sheet) _ (at_line (number_of f.fault) f.line) (sym z.read)))
 
   -- they are not
-  pub lines-taken : r.fault ≡ 0 → (q : Reading) → reading_of sheet q ≡ (few_helpers (handed_in sheet r.problem) >>= λ x. answer (in_mode x)) → reading_of sheet q ≡ (read_named sheet >>= λ x. answer (in_mode x))
-  lines-taken ok q e =
-      let t : read_lines_in true sheet ≡ answer (handed_in sheet r.problem) =
-      sym z.read ∙ ap (λ (b : Bool). cond b (answer (handed_in sheet r.problem)) (refused (at_line r.fault r.line))) (eq-eqb r.fault 0 ok) in
-      e ∙ ap (λ (a : Answer theory.Problem). a >>= λ x. answer (in_mode x)) (sym (whole ∙ bind-step (read_lines_in true sheet) _ (handed_in sheet r.problem) _ t refl))
+  pub lines-taken : (p : Problem) (q : rust.Result Problem SheetFault) → ProblemRead true sheet (read_lines_in true sheet) (Ok p)
+      → reading_of sheet q ≡ (few_helpers (handed_in sheet p) >>= λ x. answer (in_mode x)) → reading_of sheet q ≡ (read_named sheet >>= λ x. answer (in_mode x))
+  lines-taken p q z e =
+      e ∙ ap (λ (a : Answer theory.Problem). a >>= λ x. answer (in_mode x)) (sym (whole ∙ bind-step (read_lines_in true sheet) _ (handed_in sheet p) _ (sym z.read) refl))
 
 pub select-fewer : {A : Type 0} (test : A → Bool) (xs : List A) → length (select test xs) ≤ length xs
 select-fewer test [] = omega arith

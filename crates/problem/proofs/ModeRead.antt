@@ -1,11 +1,10 @@
 -- What was read of a sheet in a mode is the problem that the definition reads, or its refusal.
 use Prim.Native.Nat.{ℕ, ◌≤◌}
 use mathlib.Core.Path.{◌≡◌, refl, sym, ap, ◌∙◌}
-use mathlib.Core.Bool.{Bool, true, false, cond}
+use mathlib.Core.Bool.{Bool, true, false}
 use mathlib.Core.List.{List, [], append-nil}
 use lib.Dec.{leb}
 use lib.ListN.{length}
-use borrow.Author.Tests.{eq-eqb, ne_eqb}
 use Rattle.theory.specs.Refusals.{Answer, answer, refused, at_line, unplaced, ◌>>=◌}
 use Rattle.theory.specs.Syntax.{all_declared}
 use Rattle.theory.specs.Problem.{max_bytes, Problem, read_problem}
@@ -19,7 +18,9 @@ use Rattle.naming.specs.NamedReading.{read_named}
 use Rattle.naming.specs.NamedOperations.{read_problem_in, placed_in, mode_problem}
 use Rattle.naming.proofs.Reading.{read_named-taken, placed-named}
 use Rattle.syntax.specs.declared.limits.Problem as code
-use Rattle.problem.specs.declared.sheet.Reading.{Reading}
+use Rattle.problem.specs.declared.sections.SheetFault.{SheetFault}
+use Rattle.syntax.specs.Faults.{number_of}
+use Rattle.std.specs.Prelude.{Ok, Err}
 use Rattle.problem.specs.Problems.{problem_in, reading_of}
 use Rattle.problem.specs.Modes.{read_in, Shows}
 use Rattle.problem.proofs.Showing.{shows}
@@ -64,25 +65,21 @@ unfolding problem_in in_mode
 read-shows false sheet p h = shows sheet p.signature h.problem.symbols [] (ap (λ (q : Problem). q.symbols) h.is ∙ sym (append-nil h.problem.symbols)) h.declared
 read-shows true sheet p h = shows sheet p.signature h.problem.symbols (named_terms h.problem.clauses) (ap (λ (q : Problem). q.symbols) h.is) h.declared
 
-module _ (sheet : List ℕ) (named : Bool) (r : Reading) (read : reading_of sheet r ≡ read_in named sheet) where
-  -- number 0: the sheet is accepted
-  pub mode-accepted : r.fault ≡ 0 → ReadAs named sheet r.problem
-  mode-accepted e =
-      let q : read_in named sheet ≡ answer (problem_in sheet r.problem) =
-      sym read ∙ ap (λ (b : Bool). cond b (answer (problem_in sheet r.problem)) (refused (at_line r.fault r.line))) (eq-eqb r.fault 0 e) in
-      unbind (read_problem_in named sheet) _ (problem_in sheet r.problem) q λ (p : Problem) h k.
-      record {
-        problem = p;
-        read = h;
-        is = sym (answer-inj (mode_problem named p) (problem_in sheet r.problem) k);
-        placed = placed-in named sheet p h;
-        declared = declared-in named sheet p h;
-        bytes = bytes-in named sheet p h;
-      }
+-- the sheet is accepted
+pub mode-accepted : (sheet : List ℕ) (named : Bool) (p : code.Problem) → reading_of sheet (Ok p) ≡ read_in named sheet → ReadAs named sheet p
+mode-accepted sheet named q read =
+    unbind (read_problem_in named sheet) _ (problem_in sheet q) (sym read) λ (p : Problem) h k.
+    record {
+      problem = p;
+      read = h;
+      is = sym (answer-inj (mode_problem named p) (problem_in sheet q) k);
+      placed = placed-in named sheet p h;
+      declared = declared-in named sheet p h;
+      bytes = bytes-in named sheet p h;
+    }
 
-  -- another number: the sheet is refused with it
-  pub mode-refused : (r.fault ≡ 0 → ⊥) → read_problem_in named sheet ≡ refused (at_line r.fault r.line)
-  mode-refused ne =
-      unrefused (read_problem_in named sheet) _ (at_line r.fault r.line)
-      (sym read ∙ ap (λ (b : Bool). cond b (answer (problem_in sheet r.problem)) (refused (at_line r.fault r.line))) (ne_eqb r.fault 0 ne))
-      (λ h. h) λ (p : Problem) _ k. absurd (answer≢refused (mode_problem named p) (at_line r.fault r.line) k)
+-- it is refused
+pub mode-refused : (sheet : List ℕ) (named : Bool) (f : SheetFault) → reading_of sheet (Err f) ≡ read_in named sheet → read_problem_in named sheet ≡ refused (at_line (number_of f.fault) f.line)
+mode-refused sheet named f read =
+    unrefused (read_problem_in named sheet) _ (at_line (number_of f.fault) f.line) (sym read)
+    (λ h. h) λ (p : Problem) _ k. absurd (answer≢refused (mode_problem named p) (at_line (number_of f.fault) f.line) k)

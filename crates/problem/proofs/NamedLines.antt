@@ -4,7 +4,6 @@ use mathlib.Core.Path.{◌≡◌, refl, sym, ap, ◌∙◌}
 use mathlib.Core.Bool.{true, false, ◌&&◌}
 use mathlib.Core.Option.{none, some}
 use mathlib.Core.List.{List}
-use native.Mathlib.Omega.{arith}
 use lib.ListN.{length}
 use Rattle.theory.specs.Lists.{all}
 use Rattle.theory.specs.Lines.{words_of}
@@ -23,7 +22,9 @@ use Rattle.text.specs.Lines.{part}
 use Rattle.naming.specs.NamedReading.{is_within_named, named_clause_of}
 use Rattle.shortening.specs.Spans.{words_between}
 use Rattle.shortening.specs.ShortLines.{LineClause}
-use Rattle.problem.specs.ClausePlaces.{LineFault}
+use Rattle.problem.specs.ClausePlaces.{LineHeld}
+use Rattle.syntax.specs.declared.faults.Fault.TheVariants as fault
+use Rattle.std.specs.Prelude.{Ok, Err}
 
 -- words that are read as a clause are its words, and it is over the signature
 pub words-of : (g : Signature) (v : List ℕ) (ws : List Word) (c : Clause) → read_all g (words_of v) ≡ some ws → read_clause g ws ≡ some c → (clause_ok g c ≡ true) × (read_all g (words_of v) ≡ some (clause_words c))
@@ -33,12 +34,12 @@ words-of g v ws c e h =
     (s.0, e ∙ ap some (sym s.1))
 
 module _ (g : Signature) (v : List ℕ) where
-  pub unknown-words : read_all g (words_of v) ≡ none → LineFault true g v 5
+  pub unknown-words : read_all g (words_of v) ≡ none → LineHeld true g v (Err fault.Word)
   unfolding named_clause_of
   unknown-words e =
       record {
-        fault = λ _ l. bind-refused (or_refuse (read_all g (words_of v)) (at_line 5 l)) _ (at_line 5 l) (or_refuse-of-none (read_all g (words_of v)) (at_line 5 l) e);
-        taken = λ z. absurd (omega arith);
+        fault = λ l. bind-refused (or_refuse (read_all g (words_of v)) (at_line 5 l)) _ (at_line 5 l) (or_refuse-of-none (read_all g (words_of v)) (at_line 5 l) e);
+        taken = tt;
       }
 
   module _ (ws : List Word) (e : read_all g (words_of v) ≡ some ws) where
@@ -46,29 +47,29 @@ module _ (g : Signature) (v : List ℕ) where
     unfolding named_clause_of
     with-words l a h = bind-step (or_refuse (read_all g (words_of v)) (at_line 5 l)) _ ws a (or_refuse-of-some (read_all g (words_of v)) (at_line 5 l) ws e) h
 
-    pub no-clause : read_clause g ws ≡ none → LineFault true g v 6
+    pub no-clause : read_clause g ws ≡ none → LineHeld true g v (Err fault.Clause)
     no-clause h =
         record {
-          fault = λ _ l. with-words l _ (bind-refused (or_refuse (read_clause g ws) (at_line 6 l)) _ (at_line 6 l) (or_refuse-of-none (read_clause g ws) (at_line 6 l) h));
-          taken = λ z. absurd (omega arith);
+          fault = λ l. with-words l _ (bind-refused (or_refuse (read_clause g ws) (at_line 6 l)) _ (at_line 6 l) (or_refuse-of-none (read_clause g ws) (at_line 6 l) h));
+          taken = tt;
         }
 
     module _ (c : Clause) (h : read_clause g ws ≡ some c) where
       with-clause : (l : ℕ) (a : Answer Clause) → (check (is_within_named (length g) c) (at_line 7 l) >>= λ _. answer c) ≡ a → named_clause_of g l v ≡ a
       with-clause l a k = with-words l a (bind-step (or_refuse (read_clause g ws) (at_line 6 l)) _ c a (or_refuse-of-some (read_clause g ws) (at_line 6 l) c h) k)
 
-      pub over : is_within_named (length g) c ≡ false → LineFault true g v 7
+      pub over : is_within_named (length g) c ≡ false → LineHeld true g v (Err fault.ClauseLimits)
       over k =
           record {
-            fault = λ _ l. with-clause l _ (bind-refused (check (is_within_named (length g) c) (at_line 7 l)) _ (at_line 7 l) (check-of-false (is_within_named (length g) c) (at_line 7 l) k));
-            taken = λ z. absurd (omega arith);
+            fault = λ l. with-clause l _ (bind-refused (check (is_within_named (length g) c) (at_line 7 l)) _ (at_line 7 l) (check-of-false (is_within_named (length g) c) (at_line 7 l) k));
+            taken = tt;
           }
 
-      pub within : is_within_named (length g) c ≡ true → LineFault true g v 0
+      pub within : is_within_named (length g) c ≡ true → LineHeld true g v (Ok tt)
       within k =
           record {
-            fault = λ ne l. absurd (ne refl);
-            taken = λ _. (c, λ l. with-clause l _ (bind-step (check (is_within_named (length g) c) (at_line 7 l)) _ tt _ (check-of-true (is_within_named (length g) c) (at_line 7 l) k) refl));
+            fault = tt;
+            taken = (c, λ l. with-clause l _ (bind-step (check (is_within_named (length g) c) (at_line 7 l)) _ tt _ (check-of-true (is_within_named (length g) c) (at_line 7 l) k) refl));
           }
 
 -- the line as the limits are told of it

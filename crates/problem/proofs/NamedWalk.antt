@@ -2,7 +2,7 @@
 use Prim.Native.Nat.{ℕ, suc, ◌+◌, ◌≤◌, ◌<◌}
 use mathlib.Core.Path.{◌≡◌, sym, ap, ◌∙◌}
 use mathlib.Core.Logic.{◌⊎◌, inl, inr}
-use mathlib.Core.Bool.{true, false, true≢false, false≢true}
+use mathlib.Core.Bool.{true, false}
 use mathlib.Core.List.{List, [], map}
 use native.Mathlib.Numerals.{add-one}
 use native.Mathlib.Omega.{arith}
@@ -20,9 +20,10 @@ use Rattle.naming.specs.FixedTerms.{clause_named, named_terms}
 use Rattle.naming.specs.NamedReading.{max_helpers, is_within_named}
 use Rattle.shortening.specs.declared.short.ShortLine.{ShortLine}
 use Rattle.shortening.specs.Tables.{term_at, terms_in, TermsThere}
-use Rattle.shortening.specs.ShortLines.{names_with, Shortened}
+use Rattle.shortening.specs.ShortLines.{names_with, Shortened, ShortRead}
 use Rattle.shortening.proofs.ShortLengths.{short-within}
 use Rattle.problem.specs.NamedTerms.{TermsNamed}
+use Rattle.std.specs.Prelude.{Some, None}
 
 module _ (g g⁺ : Signature) (sheet : List ℕ) (cs : List Clause) where
   -- those of the clauses before k are in the table
@@ -48,16 +49,16 @@ module _ (g g⁺ : Signature) (sheet : List ℕ) (cs : List Clause) where
         ∙ add_terms-append (terms_in g sheet terms) (clause_named c) (concat_map clause_named (drop (suc k) cs))
         ∙ ap (λ (n : ℕ). add_terms (names_with g sheet terms c) (concat_map clause_named (drop n cs))) (sym (add-one k))
 
-    module _ (r : ShortLine) (s : Shortened g g⁺ sheet terms c r) where
-      -- too many
-      pub overflows : r.full ≡ true → max_helpers < length (named_terms cs)
-      overflows full =
-          let x = add_terms-extends (names_with g sheet terms c) (concat_map clause_named (drop (k + 1) cs)) in
-          omega (arith, s.full full, ap length (next ∙ x.1), length-append (names_with g sheet terms c) x.0)
+    -- too many
+    pub overflows : Shortened g g⁺ sheet terms c None → max_helpers < length (named_terms cs)
+    overflows full =
+        let x = add_terms-extends (names_with g sheet terms c) (concat_map clause_named (drop (k + 1) cs)) in
+        omega (arith, full, ap length (next ∙ x.1), length-append (names_with g sheet terms c) x.0)
 
-      pub goes_on : r.full ≡ false → is_within_named (length g) c ≡ true → TermsTo r.terms (k + 1)
-      goes_on full within =
-          let w = s.whole full (few (true-or-false (leb r.words.count max_words))) in
+    module _ (r : ShortLine) (s : ShortRead g g⁺ sheet terms c r) where
+      pub goes_on : is_within_named (length g) c ≡ true → TermsTo r.terms (k + 1)
+      goes_on within =
+          let w = s.whole (few (true-or-false (leb r.words.count max_words))) in
           record {
             within = omega arith;
             there = w.there;
@@ -66,15 +67,15 @@ module _ (g g⁺ : Signature) (sheet : List ℕ) (cs : List Clause) where
         where
           few : (leb r.words.count max_words ≡ true) ⊎ (leb r.words.count max_words ≡ false) → r.words.count ≤ max_words
           few (inl h) = leb-true r.words.count max_words h
-          few (inr h) = absurd (omega (arith, s.long full (leb-false r.words.count max_words h), short-within (length g) (names_with g sheet terms c) c within))
+          few (inr h) = absurd (omega (arith, s.long (leb-false r.words.count max_words h), short-within (length g) (names_with g sheet terms c) c within))
 
-  pub all_named : (terms : FixedTerms) (k : ℕ) → TermsTo terms k → length cs ≤ k → TermsNamed g sheet cs (record { terms = terms; full = false })
+  pub all_named : (terms : FixedTerms) (k : ℕ) → TermsTo terms k → length cs ≤ k → TermsNamed g sheet cs (Some terms)
   all_named terms k z l =
       record {
-        full = λ e. absurd (false≢true e);
-        there = λ _. z.there;
-        found = λ _. sym (z.found ∙ ap (λ (ds : List Clause). add_terms (terms_in g sheet terms) (concat_map clause_named ds)) (drop_of_length-le cs {i = k} l));
+        full = tt;
+        there = z.there;
+        found = sym (z.found ∙ ap (λ (ds : List Clause). add_terms (terms_in g sheet terms) (concat_map clause_named ds)) (drop_of_length-le cs {i = k} l));
       }
 
-  pub too_many : (terms : FixedTerms) → max_helpers < length (named_terms cs) → TermsNamed g sheet cs (record { terms = terms; full = true })
-  too_many terms h = record { full = λ _. h; there = λ e. absurd (true≢false e); found = λ e. absurd (true≢false e) }
+  pub too_many : max_helpers < length (named_terms cs) → TermsNamed g sheet cs None
+  too_many h = record { full = h; there = tt; found = tt }

@@ -1,17 +1,15 @@
 -- A problem read plain: it is the one handed in, without helpers.
 use Prim.Native.Nat.{ℕ, ◌-◌}
-use mathlib.Core.Path.{◌≡◌, refl, sym, ap, ◌∙◌, subst}
-use mathlib.Core.Bool.{Bool, true, false, cond}
+use mathlib.Core.Path.{◌≡◌, sym, ap, ◌∙◌, subst}
+use mathlib.Core.Bool.{Bool, false, cond}
 use mathlib.Core.List.{List, map}
 use native.Mathlib.Omega.{arith}
-use lib.Dec.{eqb}
 use lib.ListN.{length, get_or, take}
 use borrow.Author.Tests.{eq-eqb}
 use Rattle.theory.specs.Lists.{all}
-use Rattle.theory.proofs.Tests.{eqb-true}
 use Rattle.theory.specs.Syntax.{Signature, Clause}
 use Rattle.theory.specs.Problem as theory
-use Rattle.theory.specs.Refusals.{Answer, answer, refused, at_line}
+use Rattle.theory.specs.Refusals.{Answer, answer}
 use Rattle.syntax.specs.declared.limits.Problem.{Problem}
 use Rattle.syntax.specs.declared.signature.Signature as declared
 use Rattle.syntax.specs.Signatures.{signature_in}
@@ -20,8 +18,10 @@ use Rattle.naming.specs.NamedReading.{is_within}
 use Rattle.shortening.specs.HelperWords.{HelpersBehind}
 use Rattle.shortening.proofs.NamedTable.{none-there}
 use Rattle.shortening.proofs.HelperSymbols.{none-behind}
-use Rattle.problem.specs.declared.sheet.Reading.{Reading}
-use Rattle.problem.specs.Problems.{clause_at, handed_in, sheet_signature, line_count, lines_in, problem_in, handed_reading, reading_of, HandedIn, LineThere, Accepted}
+use Rattle.problem.specs.declared.sections.SheetFault.{SheetFault}
+use Rattle.std.specs.Prelude.{Ok, Err, IfOk}
+use Rattle.std.specs.Prelude as rust
+use Rattle.problem.specs.Problems.{clause_at, handed_in, sheet_signature, line_count, lines_in, problem_in, reading_of, HandedIn, LineThere, Accepted}
 use Rattle.problem.specs.Stages.{ProblemRead}
 use Rattle.problem.proofs.LinesThere.{line-there}
 use Rattle.problem.proofs.Handed.{plain-limits}
@@ -67,12 +67,8 @@ plain-accepted sheet p h =
     }
 
 -- what was read plain
-pub plain-read : (sheet : List ℕ) (a : Answer theory.Problem) (r : Reading) → ProblemRead false sheet a r → (reading_of sheet r ≡ a) × (r.fault ≡ 0 → Accepted sheet r.problem)
-plain-read sheet a r p = (go (eqb r.fault 0) refl ∙ p.read, λ e. plain-accepted sheet r.problem (p.handed e))
-  where
-    go : (b : Bool) → eqb r.fault 0 ≡ b → reading_of sheet r ≡ handed_reading sheet r
-    go true e =
-        ap (λ (x : theory.Problem). cond (eqb r.fault 0) (answer x) (refused (at_line r.fault r.line))) (problem-handed sheet r.problem (p.handed (eqb-true r.fault 0 e)).no-terms)
-    go false e =
-        ap (λ (b : Bool). cond b (answer (problem_in sheet r.problem)) (refused (at_line r.fault r.line))) e
-        ∙ sym (ap (λ (b : Bool). cond b (answer (handed_in sheet r.problem)) (refused (at_line r.fault r.line))) e)
+pub plain-read : (sheet : List ℕ) (a : Answer theory.Problem) (r : rust.Result Problem SheetFault) → ProblemRead false sheet a r → (reading_of sheet r ≡ a) × IfOk r (Accepted sheet)
+plain-read sheet a (Ok p) z =
+    let h : HandedIn false sheet p = z.handed in
+    (ap answer (problem-handed sheet p h.no-terms) ∙ z.read, plain-accepted sheet p h)
+plain-read sheet a (Err f) z = (z.read, tt)

@@ -1,17 +1,17 @@
 -- Symbol lines one after the other: what is left gives what all give.
 use Prim.Native.Nat.{ℕ, suc, ◌+◌, ◌-◌, ◌≤◌, ◌<◌}
 use mathlib.Core.Path.{◌≡◌, refl, sym, ap, ◌∙◌}
-use mathlib.Core.Bool.{Bool, true, cond, ◌&&◌}
+use mathlib.Core.Bool.{Bool, true, ◌&&◌}
 use mathlib.Core.List.{List, [], ◌∷◌, ◌++◌, map, map-append}
 use native.Mathlib.Omega.{arith}
 use lib.Dec.{eqb, leb}
 use lib.ListN.{length, take, drop, length-take, length-append}
 use lib.Seq.{length-take-le}
-use borrow.Author.Tests.{le-leb, ne_eqb}
+use borrow.Author.Tests.{le-leb}
 use Rattle.theory.specs.Lists.{all}
 use Rattle.theory.specs.Syntax.{Kind}
 use Rattle.theory.specs.Syntax as theory
-use Rattle.theory.specs.Refusals.{answer, refused, at_line}
+use Rattle.theory.specs.Refusals.{at_line}
 use Rattle.theory.specs.Problem.{max_symbols, count_line, symbol_lines}
 use Rattle.theory.proofs.Tests.{and-join}
 use Rattle.theory.proofs.Lists.{all_append}
@@ -19,14 +19,17 @@ use Rattle.theory.proofs.Answers.{bind-step, bind-refused}
 use Rattle.syntax.specs.declared.signature.Symbol.{Symbol}
 use Rattle.syntax.specs.declared.signature.Signature.{Signature}
 use Rattle.syntax.specs.Signatures.{symbol_in, signature_in}
-use Rattle.problem.specs.declared.symbols.SymbolLine.TheVariants.{Read, Fault}
-use Rattle.problem.specs.declared.lines.CountLine.TheVariants as count
 use Rattle.problem.specs.declared.sections.Section.{Section}
 use Rattle.problem.specs.Lines.{CountRead}
 use Rattle.clauses.specs.Names.{Readable}
 use Rattle.clauses.proofs.Held.{none-past}
 use Rattle.problem.specs.Symbols.{SymbolRead}
-use Rattle.problem.specs.Sections.{lines_from, section_from, SectionRead}
+use Rattle.problem.specs.Sections.{lines_from, section_from, section_in, SectionHeld, SectionRead}
+use Rattle.syntax.specs.declared.faults.Fault.{Fault}
+use Rattle.syntax.specs.Faults.{number_of}
+use Rattle.problem.specs.declared.sections.SheetFault.{SheetFault}
+use Rattle.std.specs.Prelude.{Ok, Err}
+use Rattle.std.specs.Prelude as rust
 
 -- no symbol
 pub signature_in-none : (sheet : List ℕ) (s : Signature) → s.count ≡ 0 → signature_in sheet s ≡ []
@@ -96,7 +99,7 @@ module _ (sheet : List ℕ) (at line : ℕ) (key : List ℕ) (k : Kind) (n : ℕ
           let e : n - i ≡ suc (n - (i + 1)) = omega arith in
           z.rest ∙ ap (λ (m : ℕ). symbol_lines m key k (signature_in sheet s) (line + i) (drop next sheet)) e
 
-      pub turn : (r : Signature) (y : Symbol) (after : ℕ) → SymbolRead sheet next key k (signature_in sheet s) (Read y after) → before.count + n ≤ 24
+      pub turn : (r : Signature) (y : Symbol) (after : ℕ) → SymbolRead sheet next key k (signature_in sheet s) (Ok (y, after)) → before.count + n ≤ 24
           → r.count ≡ s.count + 1 → take r.count r.symbols ≡ take s.count s.symbols ++ (y ∷ []) → Reached sheet at line key k n before r after (i + 1)
       turn r y after h small count symbols =
           let e : suc (line + i) ≡ line + (i + 1) = omega arith in
@@ -111,57 +114,53 @@ module _ (sheet : List ℕ) (at line : ℕ) (key : List ℕ) (k : Kind) (n : ℕ
           }
 
       -- the next line is faulty
-      pub faults : (f : ℕ) → SymbolRead sheet next key k (signature_in sheet s) (Fault f)
-          → SectionRead sheet (before.count + n) (line + n) (lines_from n key k (signature_in sheet before) line (drop at sheet)) (record { signature = s; next = next; line = line + i; fault = f })
+      pub faults : (f : Fault) → SymbolRead sheet next key k (signature_in sheet s) (Err f)
+          → SectionRead sheet (before.count + n) (line + n) (lines_from n key k (signature_in sheet before) line (drop at sheet)) (Err (record { fault = f; line = line + i }))
       unfolding lines_from
       faults f h =
           record {
-            read = ap (λ (b : Bool). cond b (answer (signature_in sheet s, line + i, drop next sheet)) (refused (at_line f (line + i)))) (ne_eqb f 0 h.within)
-                ∙ sym (bind-refused (symbol_lines n key k (signature_in sheet before) line (drop at sheet)) _ (at_line f (line + i)) (first ∙ sym (h.read (n - (i + 1)) (line + i))));
-            readable = z.readable;
-            count = omega (arith, z.count);
-            line = omega arith;
-            next = z.inside;
+            read = sym (bind-refused (symbol_lines n key k (signature_in sheet before) line (drop at sheet)) _ (at_line (number_of f) (line + i)) (first ∙ sym (h.read (n - (i + 1)) (line + i))));
+            held = tt;
+            refused = omega arith;
           }
 
-    pub ends : n ≤ i → SectionRead sheet (before.count + n) (line + n) (lines_from n key k (signature_in sheet before) line (drop at sheet)) (record { signature = s; next = next; line = line + n; fault = 0 })
+    pub ends : n ≤ i → SectionRead sheet (before.count + n) (line + n) (lines_from n key k (signature_in sheet before) line (drop at sheet)) (Ok (record { signature = s; next = next; line = line + n }))
     unfolding lines_from symbol_lines
     ends l =
         let e : n - i ≡ 0 = omega arith in
         record {
           read = sym (bind-step (symbol_lines n key k (signature_in sheet before) line (drop at sheet)) _ (signature_in sheet s, drop next sheet) _
               (z.rest ∙ ap (λ (m : ℕ). symbol_lines m key k (signature_in sheet s) (line + i) (drop next sheet)) e) refl);
-          readable = z.readable;
-          count = omega (arith, z.count, z.within);
-          line = omega arith;
-          next = z.inside;
+          held = record { readable = z.readable; count = omega (arith, z.count, z.within); line = omega arith; next = z.inside };
+          refused = tt;
         }
 
 module _ (sheet : List ℕ) (at line : ℕ) (counting key : List ℕ) (k : Kind) (before : Signature) where
   -- the count line is faulty
-  pub uncounted : (f : ℕ) → CountRead sheet at counting max_symbols (count.Fault f) → Readable sheet before → at ≤ length sheet
-      → SectionRead sheet (before.count + 12) (line + 13) (section_from counting key k (signature_in sheet before) line (drop at sheet)) (record { signature = before; next = at; line = line; fault = f })
+  pub uncounted : (f : Fault) → CountRead sheet at counting max_symbols (Err f)
+      → SectionRead sheet (before.count + 12) (line + 13) (section_from counting key k (signature_in sheet before) line (drop at sheet)) (Err (record { fault = f; line = line }))
   unfolding section_from
-  uncounted f h readable l =
+  uncounted f h =
       record {
-        read = ap (λ (b : Bool). cond b (answer (signature_in sheet before, line, drop at sheet)) (refused (at_line f line))) (ne_eqb f 0 h.within)
-            ∙ sym (bind-refused (count_line counting max_symbols line (drop at sheet)) _ (at_line f line) (sym (h.read line)));
-        readable = readable;
-        count = omega arith;
-        line = omega arith;
-        next = l;
+        read = sym (bind-refused (count_line counting max_symbols line (drop at sheet)) _ (at_line (number_of f) line) (sym (h.read line)));
+        held = tt;
+        refused = omega arith;
       }
 
   -- so many symbol lines follow it
-  pub counted : (n next : ℕ) (r : Section) → CountRead sheet at counting max_symbols (count.Read n next)
-      → SectionRead sheet (before.count + n) (line + 1 + n) (lines_from n key k (signature_in sheet before) (line + 1) (drop next sheet)) r
-      → SectionRead sheet (before.count + 12) (line + 13) (section_from counting key k (signature_in sheet before) line (drop at sheet)) r
-  unfolding section_from
-  counted n next r h s =
-      record {
-        read = s.read ∙ sym (bind-step (count_line counting max_symbols line (drop at sheet)) _ (n, drop next sheet) _ (sym (h.read line)) refl);
-        readable = s.readable;
-        count = omega (arith, s.count, h.within.0);
-        line = omega (arith, s.line, h.within.0);
-        next = s.next;
-      }
+  module _ (n next : ℕ) (h : CountRead sheet at counting max_symbols (Ok (n, next))) where
+    whole : (r : rust.Result Section SheetFault) → SectionRead sheet (before.count + n) (line + 1 + n) (lines_from n key k (signature_in sheet before) (line + 1) (drop next sheet)) r
+        → section_in sheet r ≡ section_from counting key k (signature_in sheet before) line (drop at sheet)
+    unfolding section_from
+    whole r s = s.read ∙ sym (bind-step (count_line counting max_symbols line (drop at sheet)) _ (n, drop next sheet) _ (sym (h.read line)) refl)
+
+    pub counted : (r : rust.Result Section SheetFault) → SectionRead sheet (before.count + n) (line + 1 + n) (lines_from n key k (signature_in sheet before) (line + 1) (drop next sheet)) r
+        → SectionRead sheet (before.count + 12) (line + 13) (section_from counting key k (signature_in sheet before) line (drop at sheet)) r
+    counted (Ok t) s =
+        record {
+          read = whole (Ok t) s;
+          held = let o : SectionHeld sheet (before.count + n) (line + 1 + n) t = s.held in
+              record { readable = o.readable; count = omega (arith, o.count, h.within.0); line = omega (arith, o.line, h.within.0); next = o.next };
+          refused = tt;
+        }
+    counted (Err f) s = record { read = whole (Err f) s; held = tt; refused = omega (arith, s.refused, h.within.0) }

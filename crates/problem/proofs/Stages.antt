@@ -1,59 +1,54 @@
 -- The parts of a sheet, read one after the other.
 use Prim.Native.Nat.{ℕ, ◌+◌}
 use mathlib.Core.Path.{◌≡◌, refl, sym, ap, ◌∙◌}
-use mathlib.Core.Bool.{Bool, true, cond, not, true≢false}
+use mathlib.Core.Bool.{Bool, true, not, true≢false}
 use mathlib.Core.List.{List, [], ◌++◌, append-nil}
 use lib.ListN.{length, drop}
-use borrow.Author.Tests.{eq-eqb, ne_eqb}
 use Rattle.theory.specs.Bytes.{bytes}
 use Rattle.theory.specs.Syntax.{Kind, function, predicate, is_function, is_predicate, Signature, Symbol, functions}
-use Rattle.theory.specs.Refusals.{Answer, answer, refused, at_line, ◌>>=◌}
+use Rattle.theory.specs.Refusals.{Answer, answer, at_line, ◌>>=◌}
 use Rattle.theory.specs.Problem.{max_symbols, max_clauses, count_line, symbol_lines}
 use Rattle.theory.specs.Problem as theory
 use Rattle.theory.proofs.Lists.{all-imply, select-append, select-all, select-none}
 use Rattle.theory.proofs.Answers.{answer-inj, unbind, bind-step, bind-refused}
 use Rattle.theory.proofs.Parsing.{Added, symbol_lines-added}
 use Rattle.syntax.specs.Signatures.{signature_in}
-use Rattle.problem.specs.declared.lines.CountLine.TheVariants as count
 use Rattle.problem.specs.declared.sections.Section.{Section}
-use Rattle.problem.specs.declared.sheet.Reading.{Reading}
+use Rattle.syntax.specs.declared.limits.Problem as code
 use Rattle.problem.specs.Lines.{CountRead}
 use Rattle.problem.specs.Sections.{Rest, lines_from, section_from, SectionRead}
 use Rattle.problem.specs.Stages.{ProblemRead, clause_lines_from, clauses_from}
 use Rattle.problem.proofs.ClauseTaking.{reading-refused}
+use Rattle.syntax.specs.declared.faults.Fault.{Fault}
+use Rattle.syntax.specs.Faults.{number_of}
+use Rattle.problem.specs.declared.sections.SheetFault.{SheetFault}
+use Rattle.std.specs.Prelude.{Ok, Err}
+use Rattle.std.specs.Prelude as rust
 
 -- the clauses: their count line is faulty, or so many lines follow
-module _ (named : Bool) (sheet : List ℕ) (at line : ℕ) (g : Signature) (r : Reading) where
-  pub clauses-uncounted : (f : ℕ) → CountRead sheet at (bytes "clauses=") max_clauses (count.Fault f) → r.fault ≡ f → r.line ≡ line → ProblemRead named sheet (clauses_from named g line (drop at sheet)) r
+module _ (named : Bool) (sheet : List ℕ) (at line : ℕ) (g : Signature) where
+  pub clauses-uncounted : (f : Fault) → CountRead sheet at (bytes "clauses=") max_clauses (Err f) → ProblemRead named sheet (clauses_from named g line (drop at sheet)) (Err (record { fault = f; line = line }))
   unfolding clauses_from
-  clauses-uncounted f h fault place =
-      reading-refused named sheet _ r f line h.within fault place (bind-refused (count_line (bytes "clauses=") max_clauses line (drop at sheet)) _ (at_line f line) (sym (h.read line)))
+  clauses-uncounted f h =
+      reading-refused named sheet _ _ (bind-refused (count_line (bytes "clauses=") max_clauses line (drop at sheet)) _ (at_line (number_of f) line) (sym (h.read line)))
 
-  pub clauses-counted : (n next : ℕ) → CountRead sheet at (bytes "clauses=") max_clauses (count.Read n next) → ProblemRead named sheet (clause_lines_from named n g (line + 1) (drop next sheet)) r
-      → ProblemRead named sheet (clauses_from named g line (drop at sheet)) r
+  pub clauses-counted : (r : rust.Result code.Problem SheetFault) (n next : ℕ) → CountRead sheet at (bytes "clauses=") max_clauses (Ok (n, next))
+      → ProblemRead named sheet (clause_lines_from named n g (line + 1) (drop next sheet)) r → ProblemRead named sheet (clauses_from named g line (drop at sheet)) r
   unfolding clauses_from
-  clauses-counted n next h p =
+  clauses-counted r n next h p =
       record {
         read = p.read ∙ sym (bind-step (count_line (bytes "clauses=") max_clauses line (drop at sheet)) _ (n, drop next sheet) _ (sym (h.read line)) refl);
         handed = p.handed;
       }
 
--- a section that was read
-pub section-answer : (sheet : List ℕ) (most last : ℕ) (a : Answer Rest) (s : Section) → SectionRead sheet most last a s → s.fault ≡ 0
-    → a ≡ answer (signature_in sheet s.signature, s.line, drop s.next sheet)
-section-answer sheet most last a s h e =
-    sym h.read ∙ ap (λ (b : Bool). cond b (answer (signature_in sheet s.signature, s.line, drop s.next sheet)) (refused (at_line s.fault s.line))) (eq-eqb s.fault 0 e)
+-- what follows a section that was read
+module _ (named : Bool) (sheet : List ℕ) (most last : ℕ) (a : Answer Rest) (k : Rest → Answer theory.Problem) where
+  pub section-refused : (f : SheetFault) → SectionRead sheet most last a (Err f) → ProblemRead named sheet (a >>= k) (Err f)
+  section-refused f h = reading-refused named sheet _ f (bind-refused a k (at_line (number_of f.fault) f.line) (sym h.read))
 
--- and what follows it
-module _ (named : Bool) (sheet : List ℕ) (most last : ℕ) (a : Answer Rest) (k : Rest → Answer theory.Problem) (s : Section) (r : Reading) (h : SectionRead sheet most last a s) where
-  pub section-refused : (s.fault ≡ 0 → ⊥) → r.fault ≡ s.fault → r.line ≡ s.line → ProblemRead named sheet (a >>= k) r
-  section-refused ne fault place =
-      reading-refused named sheet _ r s.fault s.line ne fault place
-      (bind-refused a k (at_line s.fault s.line)
-      (sym h.read ∙ ap (λ (b : Bool). cond b (answer (signature_in sheet s.signature, s.line, drop s.next sheet)) (refused (at_line s.fault s.line))) (ne_eqb s.fault 0 ne)))
-
-  pub section-read : s.fault ≡ 0 → ProblemRead named sheet (k (signature_in sheet s.signature, s.line, drop s.next sheet)) r → ProblemRead named sheet (a >>= k) r
-  section-read e p = record { read = p.read ∙ sym (bind-step a k _ _ (section-answer sheet most last a s h e) refl); handed = p.handed }
+  pub section-read : (s : Section) (r : rust.Result code.Problem SheetFault) → SectionRead sheet most last a (Ok s) → ProblemRead named sheet (k (signature_in sheet s.signature, s.line, drop s.next sheet)) r
+      → ProblemRead named sheet (a >>= k) r
+  section-read s r h p = record { read = p.read ∙ sym (bind-step a k _ _ (sym h.read) refl); handed = p.handed }
 
 -- the symbols that a section adds
 section-added : (counting key : List ℕ) (k : Kind) (g : Signature) (l : ℕ) (text : List ℕ) (r : Rest) → section_from counting key k g l text ≡ answer r → (n : ℕ) × Added k n g r.0

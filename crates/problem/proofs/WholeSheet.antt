@@ -16,7 +16,9 @@ use Rattle.theory.specs.Refusals.{Answer, answer, refused, at_line, unplaced, �
 use Rattle.theory.specs.Problem.{Problem, max_bytes, max_symbols, max_clauses, key_line, count_line, symbol_lines, nothing_left, read_problem}
 use Rattle.theory.proofs.Answers.{bind-step, bind-refused, check-of-true, check-of-false}
 use Rattle.naming.specs.NamedReading.{read_named}
-use Rattle.problem.specs.declared.sheet.Reading.{Reading}
+use Rattle.syntax.specs.declared.limits.Problem as code
+use Rattle.problem.specs.declared.sections.SheetFault.{SheetFault}
+use Rattle.std.specs.Prelude as rust
 use Rattle.problem.specs.Sections.{Rest, lines_from, section_from}
 use Rattle.problem.specs.ClausePlaces.{clause_lines_in}
 use Rattle.problem.specs.Stages.{ProblemRead, clause_lines_from, clauses_from, predicates_from, functions_from, read_lines_in, few_helpers}
@@ -149,6 +151,6 @@ module _ (named : Bool) (text : List ℕ) where
           empty [] l = refl
           empty (b ∷ v) l = absurd (omega arith)
 
-pub begun : (named : Bool) (sheet : List ℕ) (a : Answer Problem) (next : ℕ) (r : Reading) → a ≡ functions_from named 2 (drop (suc next) sheet) → ProblemRead named sheet (functions_from named 2 (drop (next + 1) sheet)) r
+pub begun : (named : Bool) (sheet : List ℕ) (a : Answer Problem) (next : ℕ) (r : rust.Result code.Problem SheetFault) → a ≡ functions_from named 2 (drop (suc next) sheet) → ProblemRead named sheet (functions_from named 2 (drop (next + 1) sheet)) r
     → ProblemRead named sheet a r
 begun named sheet a next r e p = record { read = p.read ∙ ap (λ (n : ℕ). functions_from named 2 (drop n sheet)) (add-one next) ∙ sym e; handed = p.handed }

@@ -1,5 +1,5 @@
 -- The words of a clause of an accepted problem: read again from its place, or with names in the place of terms.
-use Prim.Native.Nat.{ℕ, ◌+◌, ◌-◌, ◌≤◌, ◌<◌}
+use Prim.Native.Nat.{ℕ, ◌+◌, ◌≤◌, ◌<◌}
 use mathlib.Core.Path.{◌≡◌, refl, sym, ap, ◌∙◌, subst}
 use mathlib.Core.Logic.{◌⊎◌, inl, inr}
 use mathlib.Core.Bool.{Bool, true, false, cond}
@@ -15,7 +15,9 @@ use Rattle.theory.specs.Lines.{words_of}
 use Rattle.theory.specs.Flattening.{add_term, add_terms}
 use Rattle.theory.specs.Lifted.{among}
 use Rattle.theory.specs.Problem.{max_words, read_all, within_limits}
-use Rattle.theory.proofs.Tests.{not-true, true-or-false, leb-true, leb-false, and_left, and_right}
+use Rattle.std.specs.Prelude.{Some, None}
+use Rattle.std.specs.Prelude as rust
+use Rattle.theory.proofs.Tests.{true-or-false, leb-true, leb-false, and_left, and_right}
 use Rattle.theory.proofs.Lists.{all-at, map_at}
 use Rattle.theory.proofs.Grammar.{clause-read, read_clause-complete}
 use Rattle.text.specs.Lines.{part, LineEnd}
@@ -33,7 +35,7 @@ use Rattle.naming.proofs.ShortClauses.{named_clauses-ok}
 use Rattle.naming.proofs.Places.{helper-at, short-at}
 use Rattle.shortening.specs.declared.short.ShortLine.{ShortLine}
 use Rattle.shortening.specs.Tables.{no_span, spans_of, term_at}
-use Rattle.shortening.specs.ShortLines.{LineClause, names_with, RoomFor, Shortened}
+use Rattle.shortening.specs.ShortLines.{LineClause, names_with, RoomFor, Shortened, ShortRead}
 use Rattle.shortening.specs.HelperWords.{WordsTo}
 use Rattle.shortening.specs.Asked.{ShortAsked, HelperAsked}
 use Rattle.shortening.proofs.TableWalk.{length-spans, span-at}
@@ -87,36 +89,36 @@ module _ (sheet : List ℕ) (p : Problem) (h : Accepted sheet p) where
     plain-clause : get_or (problem_in sheet p).clauses k [] ≡ (h.lines k below).clause
     plain-clause = ap (λ (ds : List Clause). get_or ds k []) (clauses-plain sheet p h none) ∙ line_at sheet p h k below
 
-    pub words-again : (end : ℕ) (w : Words) → LineEnd sheet (get_or p.clauses k 0) end → WordsRead g⁺ (words_of (part sheet (get_or p.clauses k 0) end)) w → WordsOf sheet p k (codes_of w)
-    words-again end w e r = go (true-or-false w.unknown)
-      where
-        c : Clause
-        c = (h.lines k below).clause
+    -- the line's words, the same that were read when it was taken
+    module _ (end : ℕ) (e : LineEnd sheet (get_or p.clauses k 0) end) where
+      abbrev bytes : List ℕ
+      bytes = part sheet (get_or p.clauses k 0) end
 
-        v : List ℕ
-        v = part sheet (get_or p.clauses k 0) end
+      abbrev there : Clause
+      there = (h.lines k below).clause
 
-        same-symbols : g ≡ g⁺
-        same-symbols = symbols-plain sheet p h none
+      same-symbols : g ≡ g⁺
+      same-symbols = symbols-plain sheet p h none
 
-        read : read_all g⁺ (words_of v) ≡ some (clause_words c)
-        read =
-            let t = h.lines k below in
-            ap (λ (s : Signature). read_all s (words_of v)) (sym same-symbols) ∙ ap (λ (u : List ℕ). read_all g (words_of u)) (sym (same_line sheet (get_or p.clauses k 0) end t.line t.cut e)) ∙ t.words
+      read : read_all g⁺ (words_of bytes) ≡ some (clause_words there)
+      read =
+          let t = h.lines k below in
+          ap (λ (s : Signature). read_all s (words_of bytes)) (sym same-symbols) ∙ ap (λ (u : List ℕ). read_all g (words_of u)) (sym (same_line sheet (get_or p.clauses k 0) end t.line t.cut e)) ∙ t.words
 
-        ok : clause_ok g⁺ c ≡ true
-        ok = ap (λ (s : Signature). clause_ok s c) (sym same-symbols) ∙ (h.lines k below).ok
+      ok : clause_ok g⁺ there ≡ true
+      ok = ap (λ (s : Signature). clause_ok s there) (sym same-symbols) ∙ (h.lines k below).ok
 
-        go : (w.unknown ≡ true) ⊎ (w.unknown ≡ false) → WordsOf sheet p k (codes_of w)
-        go (inl u) = absurd (not-both (clause_words c) (read_all g⁺ (words_of v)) (r.unknown u) read)
-        go (inr u) =
-            let t = r.known u in
-            let ws = t.0 in
-            let same : ws ≡ clause_words c = some-injective ws (clause_words c) (sym t.1 ∙ read) in
-            let clause : read_clause g⁺ ws ≡ some c = ap (read_clause g⁺) same ∙ read_clause-complete g⁺ c ok in
-            let known = finished.known-words g⁺ v ws t.1 in
-            let within : within_limits ws c ≡ true = ap (λ (us : List Word). within_limits us c) same ∙ ap is_within (sym plain-clause) ∙ within-at k l in
-            record { accepted = finished.accepted g⁺ ws w t.2 c clause known within; clause = finished.accepted-clause g⁺ ws w t.2 c clause known within ∙ sym plain-clause }
+      pub words-there : WordsRead g⁺ (words_of bytes) None → ⊥
+      words-there u = not-both (clause_words there) (read_all g⁺ (words_of bytes)) u read
+
+      pub words-again : (w : Words) → WordsRead g⁺ (words_of bytes) (Some w) → WordsOf sheet p k (codes_of w)
+      words-again w t =
+          let ws = t.0 in
+          let same : ws ≡ clause_words there = some-injective ws (clause_words there) (sym t.1 ∙ read) in
+          let clause : read_clause g⁺ ws ≡ some there = ap (read_clause g⁺) same ∙ read_clause-complete g⁺ there ok in
+          let known = finished.known-words g⁺ bytes ws t.1 in
+          let within : within_limits ws there ≡ true = ap (λ (us : List Word). within_limits us there) same ∙ ap is_within (sym plain-clause) ∙ within-at k l in
+          record { accepted = finished.accepted g⁺ ws w t.2 there clause known within; clause = finished.accepted-clause g⁺ ws w t.2 there clause known within ∙ sym plain-clause }
 
   -- With helpers.
   module _ (some⁺ : p.terms.count ≡ 0 → ⊥) where
@@ -163,7 +165,7 @@ module _ (sheet : List ℕ) (p : Problem) (h : Accepted sheet p) where
           omega (arith, h.behind.count, length-signature_in sheet (sheet_signature p) (declared-held sheet p h))
 
       -- the shortened clause
-      pub short-again : (r : ShortLine) → Shortened g g⁺ sheet p.terms c r → WordsOf sheet p (p.terms.count + k) (codes_of r.words)
+      pub short-again : (r : ShortLine) → ShortRead g g⁺ sheet p.terms c r → WordsOf sheet p (p.terms.count + k) (codes_of r.words)
       short-again r s =
           words-at (p.terms.count + k) (omega (arith, h.helpers)) (short_clause (length g) (names_with g sheet p.terms c) c)
           (ap (λ (ds : List Clause). get_or ds (p.terms.count + k) []) (clauses-named sheet p h some⁺)
@@ -171,10 +173,10 @@ module _ (sheet : List ℕ) (p : Problem) (h : Accepted sheet p) where
           ∙ short-at (length g) cs k (omega (arith, line-count sheet p h))
           ∙ ap (short_clause (length g) (named_terms cs)) (line_at sheet p h k l)
           ∙ ap (λ (us : List Term). short_clause (length g) us c) (sym named-there))
-          r.words (record { long = s.long full; whole = λ few. (s.whole full few).passed; known = λ few. (s.whole full few).known })
-        where
-          full : r.full ≡ false
-          full = not-true r.full (λ e. omega (arith, s.full e, ap length named-there, named_count sheet p h some⁺, h.terms.table.count))
+          r.words (record { long = s.long; whole = λ few. (s.whole few).passed; known = λ few. (s.whole few).known })
+
+      pub never-full : Shortened g g⁺ sheet p.terms c None → ⊥
+      never-full full = omega (arith, full, ap length named-there, named_count sheet p h some⁺, h.terms.table.count)
 
 -- a line has one clause
 line-unique : (g : Signature) (sheet : List ℕ) (from to : ℕ) (a b : LineClause g sheet from to) → a.clause ≡ b.clause
@@ -187,7 +189,7 @@ line-unique g sheet from to a b =
 abbrev ShortAsks : List ℕ → Problem → ℕ → ℕ → declared.Signature → Type 0
 ShortAsks sheet p from end d = ShortAsked sheet d p.signature from end p.terms
 
-abbrev pub ShortTells : List ℕ → Problem → ℕ → ℕ → ShortLine → declared.Signature → Type 0
+abbrev pub ShortTells : List ℕ → Problem → ℕ → ℕ → rust.Option ShortLine → declared.Signature → Type 0
 ShortTells sheet p from end r d = (l : LineClause (signature_in sheet d) sheet from end) → Shortened (signature_in sheet d) (signature_in sheet p.signature) sheet p.terms l.clause r
 
 abbrev HelperAsks : List ℕ → Problem → ℕ → declared.Signature → Type 0
@@ -230,5 +232,8 @@ module _ (sheet : List ℕ) (p : Problem) (h : Accepted sheet p) (d : declared.S
           room = names-room sheet p h some⁺ k l at end line (λ x. line-unique (signature_in sheet (sheet_signature p)) sheet at end x line);
         })
 
-    pub short-told : (r : ShortLine) → ShortTells sheet p at end r d → WordsOf sheet p (p.terms.count + k) (codes_of r.words)
-    short-told r t = short-again sheet p h some⁺ k l r (subst (ShortTells sheet p at end r) same t line)
+    pub short-told : (r : ShortLine) → ShortTells sheet p at end (Some r) d → WordsOf sheet p (p.terms.count + k) (codes_of r.words)
+    short-told r t = short-again sheet p h some⁺ k l r (subst (ShortTells sheet p at end (Some r)) same t line)
+
+    pub short-there : ShortTells sheet p at end None d → ⊥
+    short-there t = never-full sheet p h some⁺ k l (subst (ShortTells sheet p at end None) same t line)

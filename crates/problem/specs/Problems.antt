@@ -19,7 +19,10 @@ use Rattle.clauses.specs.Names.{Readable}
 use Rattle.clauses.specs.Clauses as clauses
 use Rattle.shortening.specs.Tables.{terms_in, TermsThere}
 use Rattle.shortening.specs.HelperWords.{HelpersBehind}
-use Rattle.problem.specs.declared.sheet.Reading.{Reading}
+use Rattle.problem.specs.declared.sections.SheetFault.{SheetFault}
+use Rattle.syntax.specs.Faults.{number_of}
+use Rattle.std.specs.Prelude.{Ok, Err}
+use Rattle.std.specs.Prelude as rust
 
 -- the bytes of a line; none where no LF ends it
 abbrev pub line_or : Option Cut → List ℕ
@@ -63,17 +66,15 @@ problem_in sheet p =
       clauses = cond (eqb p.terms.count 0) (lines_in sheet p) (named_clauses (length (signature_in sheet (sheet_signature p))) (lines_in sheet p));
     }
 
--- what was read: a problem, or the refusal where its number is not 0
-abbrev pub reading_by : theory.Problem → Reading → Answer theory.Problem
-reading_by q r = cond (eqb r.fault 0) (answer q) (refused (at_line r.fault r.line))
-
 -- the problem as handed in, or the refusal
-abbrev pub handed_reading : List ℕ → Reading → Answer theory.Problem
-handed_reading sheet r = reading_by (handed_in sheet r.problem) r
+abbrev pub handed_reading : List ℕ → rust.Result Problem SheetFault → Answer theory.Problem
+handed_reading sheet (Ok p) = answer (handed_in sheet p)
+handed_reading sheet (Err f) = refused (at_line (number_of f.fault) f.line)
 
 -- the problem, or the refusal
-abbrev pub reading_of : List ℕ → Reading → Answer theory.Problem
-reading_of sheet r = reading_by (problem_in sheet r.problem) r
+abbrev pub reading_of : List ℕ → rust.Result Problem SheetFault → Answer theory.Problem
+reading_of sheet (Ok p) = answer (problem_in sheet p)
+reading_of sheet (Err f) = refused (at_line (number_of f.fault) f.line)
 
 -- a line's clause, with the limits of the mode where `named` says so
 abbrev pub clause_of_in : Bool → Signature → ℕ → List ℕ → Answer Clause

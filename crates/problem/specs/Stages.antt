@@ -11,7 +11,10 @@ use Rattle.naming.specs.NamedReading.{max_helpers}
 use Rattle.syntax.specs.declared.signature.Signature as declared
 use Rattle.syntax.specs.Signatures.{max_declared, signature_in}
 use Rattle.clauses.specs.Names.{Readable}
-use Rattle.problem.specs.declared.sheet.Reading.{Reading}
+use Rattle.syntax.specs.declared.limits.Problem as code
+use Rattle.problem.specs.declared.sections.SheetFault.{SheetFault}
+use Rattle.std.specs.Prelude.{IfOk}
+use Rattle.std.specs.Prelude as rust
 use Rattle.problem.specs.Sections.{section_from}
 use Rattle.problem.specs.Problems.{handed_reading, HandedIn}
 use Rattle.problem.specs.ClausePlaces.{clause_lines_in}
@@ -25,9 +28,9 @@ pub record SymbolsRead (sheet : List ℕ) (at l last : ℕ) (s : declared.Signat
   pub counted : n ≡ length (functions (signature_in sheet s))
 
 -- r is what was read, and the problem is as reading the lines leaves it
-pub record ProblemRead (named : Bool) (sheet : List ℕ) (a : Answer theory.Problem) (r : Reading) : Type 0 where
+pub record ProblemRead (named : Bool) (sheet : List ℕ) (a : Answer theory.Problem) (r : rust.Result code.Problem SheetFault) : Type 0 where
   pub read : handed_reading sheet r ≡ a
-  pub handed : r.fault ≡ 0 → HandedIn named sheet r.problem
+  pub handed : IfOk r (HandedIn named sheet)
 
 -- n clause lines from line l on, and nothing after them
 unfoldable pub clause_lines_from : Bool → ℕ → Signature → ℕ → List ℕ → Answer theory.Problem

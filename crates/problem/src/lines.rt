@@ -2,59 +2,47 @@
 ghost use Rattle.std.specs.Prelude.{◌≤◌, ◌<◌, length};
 ghost use Rattle.problem.specs.Lines.{KeyRead, CountRead, ValueCounted};
 
+use syntax::faults::Fault;
 use text::lines::{line_end, starts_with};
-use text::numbers::{Count, count_of};
+use text::numbers::count_of;
 
-// A line's key and LF are as laid out: where its value starts and where its LF stands.
-#[derive(Drop)]
-pub enum KeyLine {
-    Value(usize, usize),
-    Fault,
-}
-
-pub fn key_line(sheet: &[u8], at: usize, key: &[u8]) -> KeyLine
+// Where the value of a line with this key starts and where its LF stands; none where key or LF are not as laid out.
+pub fn key_line(sheet: &[u8], at: usize, key: &[u8]) -> Option<(usize, usize)>
     requires { at ≤ length sheet.now }
     ensures { KeyRead sheet.now at key.now result }
 {
     let end = line_end(sheet, at);
     if end == sheet.len() {
-        return KeyLine::Fault;
+        return None;
     }
     if !starts_with(&sheet[at..end], key) {
-        return KeyLine::Fault;
+        return None;
     }
-    KeyLine::Value(at + key.len(), end)
+    Some((at + key.len(), end))
 }
 
-// A count and the place of the next line, or the number of the refusal.
-#[derive(Drop)]
-pub enum CountLine {
-    Read(usize, usize),
-    Fault(u8),
-}
-
-pub fn count_line(sheet: &[u8], at: usize, key: &[u8], limit: usize) -> CountLine
+// A count and the place of the next line, or what is refused.
+pub fn count_line(
+    sheet: &[u8],
+    at: usize,
+    key: &[u8],
+    limit: usize,
+) -> Result<(usize, usize), Fault>
     requires { at ≤ length sheet.now }
     ensures { CountRead sheet.now at key.now limit result }
 {
-    match key_line(sheet, at, key) {
-        KeyLine::Fault => CountLine::Fault(2),
-        KeyLine::Value(from, end) => count_at(sheet, from, end, limit),
-    }
+    let (from, end) = key_line(sheet, at, key).ok_or(Fault::SheetLine)?;
+    count_at(sheet, from, end, limit)
 }
 
 // The count that the value is.
-fn count_at(sheet: &[u8], from: usize, end: usize, limit: usize) -> CountLine
+fn count_at(sheet: &[u8], from: usize, end: usize, limit: usize) -> Result<(usize, usize), Fault>
     requires { (from ≤ end) × (end < length sheet.now) }
     ensures { ValueCounted sheet.now from end limit result }
 {
-    match count_of(&sheet[from..end]) {
-        Count::Bad => CountLine::Fault(2),
-        Count::Number(n) => {
-            if limit < n {
-                return CountLine::Fault(3);
-            }
-            CountLine::Read(n, end + 1)
-        }
+    let n = count_of(&sheet[from..end]).ok_or(Fault::SheetLine)?;
+    if limit < n {
+        return Err(Fault::CountOrArity);
     }
+    Ok((n, end + 1))
 }

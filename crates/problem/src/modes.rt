@@ -1,13 +1,15 @@
 // A sheet read in one of the two modes: plain, or with named terms.
-ghost use Rattle.std.specs.Prelude.{◌≡◌};
+ghost use Rattle.std.specs.Prelude.{◌≡◌, IfOk};
 ghost use Rattle.problem.specs.Problems.{reading_of, Accepted};
 ghost use Rattle.problem.specs.Modes.{read_in};
 
-use crate::sheet::{Reading, read_named, read_problem};
+use crate::sections::SheetFault;
+use crate::sheet::{read_named, read_problem};
+use syntax::limits::Problem;
 
-pub fn read_in(sheet: &[u8], named: bool) -> Reading
+pub fn read_in(sheet: &[u8], named: bool) -> Result<Problem, SheetFault>
     ensures read { reading_of sheet.now result ≡ read_in named sheet.now }
-    ensures accepted { result.fault ≡ 0 → Accepted sheet.now result.problem }
+    ensures accepted { IfOk result (Accepted sheet.now) }
 {
     if named {
         return read_named(sheet);

@@ -42,9 +42,11 @@ fn short_clause(sheet: &[u8], p: Problem, k: usize) -> ClauseWords
     let end = line_end(sheet, from);
     let all = p.signature;
     let terms = p.terms;
-    let line = shorten(sheet, declared_of(p), all, from, end, terms);
-    let words = line.words;
-    kept_codes(words)
+    let Some(line) = shorten(sheet, declared_of(p), all, from, end, terms) else {
+        // All terms of the line are named already.
+        unreachable!()
+    };
+    kept_codes(line.words)
 }
 
 // The declared symbols.

@@ -5,18 +5,25 @@ ghost use Rattle.syntax.specs.Signatures.{kind_of};
 ghost use Rattle.clauses.specs.Names.{Readable};
 ghost use Rattle.problem.specs.Sections.{lines_from, section_from, SectionFrom};
 
-use crate::lines::{CountLine, count_line};
-use crate::symbols::{SymbolLine, symbol_line};
+use crate::lines::count_line;
+use crate::symbols::symbol_line;
+use syntax::faults::Fault;
 use syntax::limits::Problem;
 use syntax::signature::Signature;
 
-// The symbols after those before them, the place of the next line and its number; or the number of the refusal, else 0, and its line.
-#[derive(Drop)]
+// The symbols after those before them, the place of the next line and its number.
+#[derive(Clone, Copy)]
 pub struct Section {
     pub signature: Signature,
     pub next: usize,
     pub line: usize,
-    pub fault: u8,
+}
+
+// What is refused of a sheet, and the line; 0 where no line is named.
+#[derive(Clone, Copy)]
+pub struct SheetFault {
+    pub fault: Fault,
+    pub line: usize,
 }
 
 pub fn read_section(
@@ -27,18 +34,13 @@ pub fn read_section(
     key: &[u8],
     function: bool,
     before: Signature,
-) -> Section
+) -> Result<Section, SheetFault>
     requires { (at ≤ length sheet.now) × (Readable sheet.now before × ((before.count ≤ max_symbols) × (line + 13 < 2 ^ 64))) }
     ensures { SectionFrom sheet.now at line before 12 13 (section_from counting.now key.now (kind_of function)) result }
 {
     match count_line(sheet, at, counting, Problem::MAX_OF_A_KIND) {
-        CountLine::Fault(fault) => Section {
-            signature: before,
-            next: at,
-            line,
-            fault,
-        },
-        CountLine::Read(n, next) => symbol_lines(sheet, next, line + 1, key, function, n, before),
+        Err(fault) => Err(SheetFault { fault, line }),
+        Ok((n, next)) => symbol_lines(sheet, next, line + 1, key, function, n, before),
     }
 }
 
@@ -50,34 +52,29 @@ fn symbol_lines(
     function: bool,
     n: usize,
     before: Signature,
-) -> Section
+) -> Result<Section, SheetFault>
     requires { (at ≤ length sheet.now) × (Readable sheet.now before × ((before.count + n ≤ 2 * max_symbols) × (line + n < 2 ^ 64))) }
     ensures { SectionFrom sheet.now at line before n n (lines_from n key.now (kind_of function)) result }
 {
     let mut signature = before;
     let mut next = at;
-    let mut i: usize = 0;
-    while i < n {
+    for i in 0..n {
         match symbol_line(sheet, next, key, function, signature) {
-            SymbolLine::Fault(fault) => {
-                return Section {
-                    signature,
-                    next,
-                    line: line + i,
+            Err(fault) => {
+                return Err(SheetFault {
                     fault,
-                };
+                    line: line + i,
+                });
             }
-            SymbolLine::Read(symbol, after) => {
+            Ok((symbol, after)) => {
                 signature = signature.with(symbol);
                 next = after;
             }
         }
-        i += 1;
     }
-    Section {
+    Ok(Section {
         signature,
         next,
         line: line + n,
-        fault: 0,
-    }
+    })
 }

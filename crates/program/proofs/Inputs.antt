@@ -2,77 +2,88 @@
 use Prim.Native.Nat.{ℕ, ◌-◌, ◌≤◌}
 use mathlib.Core.Path.{◌≡◌, sym, ap, ◌∙◌}
 use mathlib.Core.Bool.{Bool, false}
-use mathlib.Core.Option.{none, some}
+use mathlib.Core.Option.{Option, none, some}
 use mathlib.Core.List.{List}
 use lib.ListN.{length, take, drop}
+use Rattle.std.specs.Prelude.{Some, None, Ok, Err}
+use Rattle.std.specs.Prelude as rust
 use Rattle.theory.specs.Bytes.{bytes}
 use Rattle.theory.specs.Refusals.{refused, unplaced}
-use Rattle.theory.specs.Program.{digit_line, switch_line}
+use Rattle.theory.specs.Program.{◌>>?◌, digit_line, switch_line}
 use Rattle.solver.proofs.Options.{read-on, not-read}
 use Rattle.allowance.specs.AllowedFind.{find_within}
-use Rattle.allowance.specs.FinderProgram.{allowance_line, finder_answer, printed_within, finder}
-use Rattle.input_lines.specs.declared.digits.DigitLine.{DigitLine}
-use Rattle.input_lines.specs.declared.digits.DigitLine.TheVariants.{Digit, Fault}
-use Rattle.input_lines.specs.declared.switches.SwitchLine.{SwitchLine}
-use Rattle.input_lines.specs.declared.switches.SwitchLine.TheVariants as switch
-use Rattle.input_lines.specs.declared.allowances.AllowanceLine.{AllowanceLine}
-use Rattle.input_lines.specs.declared.allowances.AllowanceLine.TheVariants as allowances
-use Rattle.input_lines.specs.Digits.{digit_in, DigitRead}
-use Rattle.input_lines.specs.Switches.{switch_in, SwitchRead}
-use Rattle.input_lines.specs.Allowances.{allowance_in, AllowanceRead}
+use Rattle.allowance.specs.FinderProgram.{allowance_line, Question, asked, finder_answer, printed_within, finder}
+use Rattle.syntax.specs.declared.faults.Fault.{Fault}
+use Rattle.input_lines.specs.Lines.{line_in, LineRead}
 use Rattle.input_lines.proofs.LentRest.{rest}
-use Rattle.program.specs.Asked.{from_high, from_switch, from_allowance}
+use Rattle.program.specs.declared.Question as code
+use Rattle.program.specs.Asked.{asked_in}
 
-module _ (input : List ℕ) (at : ℕ) (key : List ℕ) (r : DigitLine) (h : DigitRead input at key r) where
-  pub next-within : (d next : ℕ) → r ≡ Digit d next → next ≤ length input
-  next-within d next e = rw e at h.within
+-- what is asked from the fourth line on,
+abbrev asked_allowance : ℕ → ℕ → Bool → List ℕ → Option Question
+asked_allowance low high symmetry text = allowance_line text >>? λ d. some (record { low = low; high = high; symmetry = symmetry; allowance = d.0; sheet = d.1 })
 
-  no_digit : r ≡ Fault → digit_line key (drop at input) ≡ none
-  no_digit e = sym h.read ∙ ap (digit_in input) e
+-- from the third,
+abbrev asked_switch : ℕ → ℕ → List ℕ → Option Question
+asked_switch low high text = switch_line text >>? λ c. asked_allowance low high c.0 c.1
 
-  one-digit : (d next : ℕ) → r ≡ Digit d next → digit_line key (drop at input) ≡ some (d, drop next input)
-  one-digit d next e = sym h.read ∙ ap (digit_in input) e
+-- and from the second
+abbrev asked_high : ℕ → List ℕ → Option Question
+asked_high low text = digit_line (bytes "high=") text >>? λ b. asked_switch low b.0 b.1
 
--- the fourth line
-module _ (input : List ℕ) (at low high : ℕ) (symmetry : Bool) (r : AllowanceLine) (h : AllowanceRead input at r) where
-  pub sheet-within : (n next : ℕ) → r ≡ allowances.Allowance n next → next ≤ length input
-  sheet-within n next e = rw e at h.within
+-- any of the lines, and what is read after it
+module _ {A : Type 0} (reads : List ℕ → Option (A × List ℕ)) (input : List ℕ) (at : ℕ) (r : rust.Option (A × ℕ)) (h : LineRead reads input at r) where
+  pub next-within : (x : A) (next : ℕ) → r ≡ Some (x, next) → next ≤ length input
+  next-within x next e = rw e at h.within
 
-  pub allowance-fault : r ≡ allowances.Fault → refused (unplaced 8) ≡ from_allowance low high symmetry (drop at input)
-  allowance-fault e = sym (ap finder_answer (not-read (allowance_line (drop at input)) _ (sym h.read ∙ ap (allowance_in input) e)))
+  module _ (after : A × List ℕ → Option Question) where
+    not-said : r ≡ None → (reads (drop at input) >>? after) ≡ none
+    not-said e = not-read (reads (drop at input)) after (sym h.read ∙ ap (line_in input) e)
 
-  pub allowance-said : (n next : ℕ) → r ≡ allowances.Allowance n next
-      → find_within false symmetry (take (length input - next) (drop next input)) low high n 16000 24902 ≡ from_allowance low high symmetry (drop at input)
-  allowance-said n next e =
-      ap (λ (sheet : List ℕ). find_within false symmetry sheet low high n 16000 24902) (rest input next (sheet-within n next e))
-      ∙ sym (ap finder_answer (read-on (allowance_line (drop at input)) _ (n, drop next input) (sym h.read ∙ ap (allowance_in input) e)))
+    said : (x : A) (next : ℕ) → r ≡ Some (x, next) → (reads (drop at input) >>? after) ≡ after (x, drop next input)
+    said x next e = read-on (reads (drop at input)) after (x, drop next input) (sym h.read ∙ ap (line_in input) e)
 
--- the third line
-module _ (input : List ℕ) (at low high : ℕ) (r : SwitchLine) (h : SwitchRead input at r) where
-  pub allowance-within : (b : Bool) (next : ℕ) → r ≡ switch.Switch b next → next ≤ length input
-  allowance-within b next e = rw e at h.within
+module _ (input : List ℕ) (r : rust.Option (ℕ × ℕ)) (h : LineRead (digit_line (bytes "low=")) input 0 r) where
+  pub no_low : r ≡ None → asked input ≡ none
+  no_low e = not-said _ input 0 r h (λ a. asked_high a.0 a.1) e
 
-  pub switch-fault : r ≡ switch.Fault → refused (unplaced 8) ≡ from_switch low high (drop at input)
-  switch-fault e = sym (ap finder_answer (not-read (switch_line (drop at input)) _ (sym h.read ∙ ap (switch_in input) e)))
+  pub low-said : (d next : ℕ) → r ≡ Some (d, next) → asked input ≡ asked_high d (drop next input)
+  low-said d next e = said _ input 0 r h (λ a. asked_high a.0 a.1) d next e
 
-  pub switch-said : (b : Bool) (next : ℕ) → r ≡ switch.Switch b next → from_allowance low high b (drop next input) ≡ from_switch low high (drop at input)
-  switch-said b next e = sym (ap finder_answer (read-on (switch_line (drop at input)) _ (b, drop next input) (sym h.read ∙ ap (switch_in input) e)))
+module _ (input : List ℕ) (at low : ℕ) (r : rust.Option (ℕ × ℕ)) (h : LineRead (digit_line (bytes "high=")) input at r) where
+  pub no_high : r ≡ None → asked_high low (drop at input) ≡ none
+  no_high e = not-said _ input at r h (λ b. asked_switch low b.0 b.1) e
 
--- the second line
-module _ (input : List ℕ) (at low : ℕ) (r : DigitLine) (h : DigitRead input at (bytes "high=") r) where
-  pub high-fault : r ≡ Fault → refused (unplaced 8) ≡ from_high low (drop at input)
-  high-fault e = sym (ap finder_answer (not-read (digit_line (bytes "high=") (drop at input)) _ (no_digit input at (bytes "high=") r h e)))
+  pub high-said : (d next : ℕ) → r ≡ Some (d, next) → asked_high low (drop at input) ≡ asked_switch low d (drop next input)
+  high-said d next e = said _ input at r h (λ b. asked_switch low b.0 b.1) d next e
 
-  pub high_digit : (d next : ℕ) → r ≡ Digit d next → from_switch low d (drop next input) ≡ from_high low (drop at input)
-  high_digit d next e = sym (ap finder_answer (read-on (digit_line (bytes "high=") (drop at input)) _ (d, drop next input) (one-digit input at (bytes "high=") r h d next e)))
+module _ (input : List ℕ) (at low high : ℕ) (r : rust.Option (Bool × ℕ)) (h : LineRead switch_line input at r) where
+  pub no_switch : r ≡ None → asked_switch low high (drop at input) ≡ none
+  no_switch e = not-said _ input at r h (λ c. asked_allowance low high c.0 c.1) e
 
--- the first line
-module _ (input : List ℕ) (r : DigitLine) (h : DigitRead input 0 (bytes "low=") r) where
-  pub low-fault : r ≡ Fault → printed_within (refused (unplaced 8)) ≡ finder input
-  unfolding finder
-  low-fault e = ap printed_within (sym (ap finder_answer (not-read (digit_line (bytes "low=") input) _ (no_digit input 0 (bytes "low=") r h e))))
+  pub switch-said : (b : Bool) (next : ℕ) → r ≡ Some (b, next) → asked_switch low high (drop at input) ≡ asked_allowance low high b (drop next input)
+  switch-said b next e = said _ input at r h (λ c. asked_allowance low high c.0 c.1) b next e
 
-  pub low_digit : (d next : ℕ) → r ≡ Digit d next → printed_within (from_high d (drop next input)) ≡ finder input
-  unfolding finder
-  low_digit d next e =
-      ap printed_within (sym (ap finder_answer (read-on (digit_line (bytes "low=") input) _ (d, drop next input) (one-digit input 0 (bytes "low=") r h d next e))))
+module _ (input : List ℕ) (at low high : ℕ) (symmetry : Bool) (r : rust.Option (ℕ × ℕ)) (h : LineRead allowance_line input at r) where
+  -- the question with the sheet after the line
+  abbrev whole : ℕ × List ℕ → Option Question
+  whole d = some (record { low = low; high = high; symmetry = symmetry; allowance = d.0; sheet = d.1 })
+
+  pub no_allowance : r ≡ None → asked_allowance low high symmetry (drop at input) ≡ none
+  no_allowance e = not-said _ input at r h whole e
+
+  pub allowance-said : (n next : ℕ) → r ≡ Some (n, next)
+      → asked_allowance low high symmetry (drop at input) ≡ some (record { low = low; high = high; symmetry = symmetry; allowance = n; sheet = drop next input })
+  allowance-said n next e = said _ input at r h whole n next e
+
+-- the sheet is lent from its place on
+pub answers : (input : List ℕ) (q : code.Question) → q.sheet ≤ length input → asked_in input (Ok q) ≡ asked input
+    → printed_within (find_within false q.symmetry (take (length input - q.sheet) (drop q.sheet input)) q.low q.high q.allowance 16000 24902) ≡ finder input
+unfolding finder
+answers input q h e =
+    ap (λ (sheet : List ℕ). printed_within (find_within false q.symmetry sheet q.low q.high q.allowance 16000 24902)) (rest input q.sheet h)
+    ∙ ap (λ (o : Option Question). printed_within (finder_answer o)) e
+
+pub refuses : (input : List ℕ) (f : Fault) → asked_in input (Err f) ≡ asked input → printed_within (refused (unplaced 8)) ≡ finder input
+unfolding finder
+refuses input f e = ap (λ (o : Option Question). printed_within (finder_answer o)) e

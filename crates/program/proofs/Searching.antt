@@ -1,5 +1,5 @@
 -- What a search in the output from place 13 on leaves.
-use Prim.Native.Nat.{ℕ, ◌+◌, ◌-◌}
+use Prim.Native.Nat.{ℕ, ◌-◌}
 use mathlib.Core.Path.{◌≡◌, ap, ◌∙◌}
 use mathlib.Core.Bool.{Bool, false}
 use mathlib.Core.List.{List, [], ◌++◌, append-nil}
@@ -9,8 +9,7 @@ use lib.Seq.{take_all, length-take-le}
 use Rattle.theory.specs.Refusals.{Answer}
 use Rattle.theory.specs.Operations.{Search}
 use Rattle.allowance.specs.AllowedFind.{Stoppable, find_within, allowed_answer, allowed_output}
-use Rattle.finding.specs.declared.allowed.AllowedAnswer.{AllowedAnswer}
-use Rattle.finding.specs.Calls.{allowed_in}
+use Rattle.finding.specs.Calls.{AllowedAnswer, allowed_in}
 use Rattle.printing.specs.Reports.{Reportable}
 use Rattle.program.proofs.RefusalLines.{refusal-near, size-near}
 

@@ -23,8 +23,7 @@ use Rattle.theory.proofs.PlacedRefusals.{placed-near}
 use Rattle.theory.proofs.PlacedCases.{case-near}
 use Rattle.theory.proofs.Explaining.{explaining}
 use Rattle.answers.specs.declared.Reason.{Reason}
-use Rattle.answers.specs.declared.ExplainAnswer.{ExplainAnswer}
-use Rattle.answers.specs.Answers.{reason_bytes, reason_beside}
+use Rattle.answers.specs.Answers.{ExplainAnswer, reason_bytes, reason_beside, reason_told}
 use Rattle.answers.specs.Calls.{ReasoningCall, ExplainCall}
 use Rattle.printing.specs.Reports.{Responds}
 use Rattle.printing.specs.Reasons.{Short, Explicable}
@@ -52,13 +51,13 @@ reason-short sheet case q few e =
     }
 
 -- the letters that stand in eight bytes are no more than eight
-few-letters : (a : ExplainAnswer) (q : operations.Reason) → length a.reason.letters ≡ 8 → a.reason ≡ reason_bytes q → length q.letters ≤ 8
+few-letters : (a : ExplainAnswer) (q : operations.Reason) → length (reason_told a).letters ≡ 8 → (reason_told a) ≡ reason_bytes q → length q.letters ≤ 8
 few-letters a q h e =
     let bs : List ℕ = map (λ x. 65 + x) q.letters in
     omega (arith, h, ap (λ (r : Reason). length r.letters) e, length-append bs (drop (length bs) (replicate 8 0)), length-map q.letters (λ x. 65 + x))
 
 -- an answer to the two parts of an input
-module _ (input output : List ℕ) (at : ℕ) (start : at ≡ case_start true input) (a : ExplainAnswer) (eight : length a.reason.letters ≡ 8) (room : 128 ≤ length output) where
+module _ (input output : List ℕ) (at : ℕ) (start : at ≡ case_start true input) (a : ExplainAnswer) (eight : length (reason_told a).letters ≡ 8) (room : 128 ≤ length output) where
   parts : explain_answer (take at input) (take (length input - at) (drop at input)) ≡ explained_from at input
   parts = ap (explain_answer (take at input)) (take_all (length input - at) (drop at input) (omega (arith, length-drop at input)))
 

@@ -3,17 +3,19 @@
 
 pub mod explaining;
 
-ghost use Rattle.std.specs.Prelude.{◌≡◌, ◌≤◌, length, drop, false};
+ghost use Rattle.std.specs.Prelude.{◌≡◌, ◌≤◌, length, false, IfOk, IfErr};
 ghost use Rattle.allowance.specs.AllowedFind.{find_within};
-ghost use Rattle.allowance.specs.FinderProgram.{printed_within, finder};
+ghost use Rattle.allowance.specs.FinderProgram.{asked, printed_within, finder};
 ghost use Rattle.printing.specs.Reports.{Responds};
-ghost use Rattle.program.specs.Asked.{from_high, from_switch, from_allowance};
+ghost use Rattle.syntax.specs.declared.faults.Fault.TheVariants as fault;
+ghost use Rattle.program.specs.Asked.{asked_in};
 
-use input_lines::allowances::{AllowanceLine, allowance_line};
-use input_lines::digits::{DigitLine, digit_line};
-use input_lines::switches::{SwitchLine, switch_line};
+use input_lines::allowances::allowance_line;
+use input_lines::digits::digit_line;
+use input_lines::switches::switch_line;
 use nesskettle::find;
 use printing::report::{OUTCOME, put_refusal, put_result};
+use syntax::faults::Fault;
 use syntax::limits::Problem;
 
 // Four lines of at most 35 bytes together, the largest sheet, and one byte more: no answer depends on what comes after.
@@ -29,80 +31,58 @@ const LONGEST_CASE: usize = 14
 // The numbers of work.
 const WORK: usize = 16000;
 
-// Writes the output for an input to the front of the buffer, and answers its length.
-pub fn respond(input: &[u8], out: &mut [u8; OUTPUT]) -> usize
-    ensures { Responds (finder input.now) result out.old out.new }
-{
-    match digit_line(input, 0, b"low=") {
-        DigitLine::Fault => put_refusal(out, 8, 0, 0),
-        DigitLine::Digit(low, next) => respond_from(input, next, low, out),
-    }
-}
-
-// The same from the second line on.
-fn respond_from(input: &[u8], at: usize, low: u64, out: &mut [u8]) -> usize
-    requires { (at ≤ length input.now) × (length out.old ≡ 24915) }
-    ensures { Responds (printed_within (from_high low (drop at input.now))) result out.old out.new }
-{
-    match digit_line(input, at, b"high=") {
-        DigitLine::Fault => put_refusal(out, 8, 0, 0),
-        DigitLine::Digit(high, next) => respond_switch(input, next, low, high, out),
-    }
-}
-
-// The same from the third line on.
-fn respond_switch(input: &[u8], at: usize, low: u64, high: u64, out: &mut [u8]) -> usize
-    requires { (at ≤ length input.now) × (length out.old ≡ 24915) }
-    ensures { Responds (printed_within (from_switch low high (drop at input.now))) result out.old out.new }
-{
-    match switch_line(input, at) {
-        SwitchLine::Fault => put_refusal(out, 8, 0, 0),
-        SwitchLine::Switch(symmetry, next) => {
-            respond_allowance(input, next, low, high, symmetry, out)
-        }
-    }
-}
-
-// The same from the fourth line on.
-fn respond_allowance(
-    input: &[u8],
-    at: usize,
-    low: u64,
-    high: u64,
-    symmetry: bool,
-    out: &mut [u8],
-) -> usize
-    requires { (at ≤ length input.now) × (length out.old ≡ 24915) }
-    ensures { Responds (printed_within (from_allowance low high symmetry (drop at input.now))) result out.old out.new }
-{
-    match allowance_line(input, at) {
-        AllowanceLine::Fault => put_refusal(out, 8, 0, 0),
-        AllowanceLine::Allowance(allowance, next) => {
-            search_sheet(&input[next..], low, high, symmetry, allowance, out)
-        }
-    }
-}
-
-// Searches the sheet, and prints what was found.
-fn search_sheet(
-    sheet: &[u8],
+// What the input asks: the two sizes, whether the constant clauses are used, how many choices are allowed, and where the sheet starts.
+#[derive(Clone, Copy)]
+struct Question {
     low: u64,
     high: u64,
     symmetry: bool,
     allowance: u64,
-    out: &mut [u8],
-) -> usize
+    sheet: usize,
+}
+
+// Writes the output for an input to the front of the buffer, and answers its length.
+pub fn respond(input: &[u8], out: &mut [u8; OUTPUT]) -> usize
+    ensures { Responds (finder input.now) result out.old out.new }
+{
+    match read_question(input) {
+        Ok(q) => search_sheet(&input[q.sheet..], q, out),
+        Err(fault) => put_refusal(out, fault.number(), 0, 0),
+    }
+}
+
+// The four lines, one by one; a line that is not so laid out is refused before the sheet is read.
+fn read_question(input: &[u8]) -> Result<Question, Fault>
+    ensures read { asked_in input.now result ≡ asked input.now }
+    ensures within { IfOk result (λ q. q.sheet ≤ length input.now) }
+    ensures refused { IfErr result (λ f. f ≡ fault.Size) }
+{
+    let (low, at) = digit_line(input, 0, b"low=").ok_or(Fault::Size)?;
+    let (high, at) = digit_line(input, at, b"high=").ok_or(Fault::Size)?;
+    let (symmetry, at) = switch_line(input, at).ok_or(Fault::Size)?;
+    let (allowance, sheet) = allowance_line(input, at).ok_or(Fault::Size)?;
+    Ok(Question {
+        low,
+        high,
+        symmetry,
+        allowance,
+        sheet,
+    })
+}
+
+// Searches the sheet, and prints what was found.
+fn search_sheet(sheet: &[u8], q: Question, out: &mut [u8]) -> usize
     requires { length out.old ≡ 24915 }
-    ensures { Responds (printed_within (find_within false symmetry sheet.now low high allowance 16000 24902)) result out.old out.new }
+    ensures { Responds (printed_within (find_within false q.symmetry sheet.now q.low q.high q.allowance 16000 24902)) result out.old out.new }
 {
     let mut work = [0u32; WORK];
     let answer = find(
         sheet,
-        low,
-        high,
+        q.low,
+        q.high,
         false,
-        symmetry,
-        allowance,
+        q.symmetry,
+        q.allowance,
         &mut work,
         &mut out[OUTCOME..],
     );

@@ -1,5 +1,5 @@
 -- One turn of a walk over addresses: the number at the first address is stored anew, and what stands at the rest is as it was.
-use mathlib.Core.Path.{◌≡◌, ◌∙◌}
+use mathlib.Core.Path.{◌≡◌}
 use mathlib.Core.List.{List, ◌∷◌}
 use Prim.Native.Nat.{ℕ, ◌+◌, ◌≤◌, ◌<◌}
 use native.Mathlib.Numerals.{add-one}
@@ -45,24 +45,21 @@ module _ (Right : ℕ → Type 0) (base k to : ℕ) (w : List ℕ) (a : Addresse
   pub slice_first : slice k to w ≡ get_or w k 0 ∷ slice (k + 1) to w
   slice_first = rw add-one (slice-cons k to w 0 go a.within)
 
--- what holds at the head of a loop that changes each number by f: w is now, w₀ as it began
-abbrev pub Changing : (ℕ → Type 0) → (ℕ → ℕ) → ℕ → ℕ → List ℕ → List ℕ → ℕ → Type 0
-Changing Right f from to w₀ w k =
-    Addresses Right from k to w × (length w ≡ length w₀) × (changed f (slice k to w) w ≡ changed f (slice from to w₀) w₀)
+-- what holds at the head of a loop that changes each number as a closure does: w is now, w₀ as it began
+abbrev pub Changing : (ℕ → Type 0) → (ℕ → ℕ → Type 0) → ℕ → ℕ → List ℕ → List ℕ → ℕ → Type 0
+Changing Pre Post from to w₀ w k =
+    Addresses Pre from k to w × ((f : ℕ → ℕ) → ((z r : ℕ) → Post z r → r ≡ f z) → changed f (slice k to w) w ≡ changed f (slice from to w₀) w₀)
 
-module _ (Right : ℕ → Type 0) (f : ℕ → ℕ) (from to : ℕ) (w₀ w : List ℕ) (k : ℕ) (now : Changing Right f from to w₀ w k) where
-  pub changing-turn : (q : ℕ) → k < to → q ≡ get_or w k 0 → Changing Right f from to w₀ (set w q (f (get_or w q 0))) (k + 1)
-  changing-turn q go at =
-      let (a, l, e) = now in
-      let v = f (get_or w (get_or w k 0) 0) in
-      rw at (
-        addresses-step Right from k to w a go v,
-        length-set w (get_or w k 0) v ∙ l,
-        rw (slice-step Right from k to w a go v) (rw (slice_first Right from k to w a go) at e),
+module _ (Pre : ℕ → Type 0) (Post : ℕ → ℕ → Type 0) (from to : ℕ) (w₀ w : List ℕ) (k : ℕ) (now : Changing Pre Post from to w₀ w k) where
+  pub changing-turn : (r : ℕ) → k < to → Post (get_or w (get_or w k 0) 0) r → Changing Pre Post from to w₀ (set w (get_or w k 0) r) (k + 1)
+  changing-turn r go post =
+      let (a, e) = now in (
+        addresses-step Pre from k to w a go r,
+        λ f is. rw (slice-step Pre from k to w a go r, is _ _ post) (rw (slice_first Pre from k to w a go) at (e f is)),
       )
 
-  pub changing-done : to ≤ k → w ≡ changed f (slice from to w₀) w₀
-  changing-done past =
-      let (a, l, e) = now in
+  pub changing-done : to ≤ k → (f : ℕ → ℕ) → ((z r : ℕ) → Post z r → r ≡ f z) → w ≡ changed f (slice from to w₀) w₀
+  changing-done past f is =
+      let (a, e) = now in
       let same : k ≡ to = omega (arith, a.ordered) in
-      rw (same, slice_empty to w) at e
+      rw (same, slice_empty to w) at (e f is)

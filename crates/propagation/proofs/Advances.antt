@@ -10,7 +10,7 @@ use borrow.Author.Tests.{eq-eqb, eqb-false, ne_eqb}
 use lib.Dec.{eqb}
 use lib.ListN.{length, get_or, take, drop, length-map}
 use lib.Seq.{slice}
-use Rattle.propagation.specs.Weights.{changed, less, Addresses, AtLeast}
+use Rattle.propagation.specs.Weights.{Addresses, AtLeast}
 use Rattle.theory.specs.Lists.{elem}
 use Rattle.propagation.specs.Clauses.{weight, holders}
 use Rattle.propagation.specs.Units.{Visit, scanned, Scannable}
@@ -21,7 +21,6 @@ use Rattle.propagation.proofs.Frames.{frame-trans, trail-agree, reweighed-front,
 use Rattle.propagation.proofs.Trails.{negated-half, fresh-down, fresh-new}
 use Rattle.propagation.proofs.Lives.{holder-at}
 use Rattle.propagation.proofs.Holds.{lowerable, scannable, reheld, sunk as sunk-is}
-use Rattle.propagation.proofs.Reading.{Read, start_is, end_is, changed-is}
 use Rattle.propagation.proofs.Visits.{Looked, AllQuiet, scan-meaning, quiet-on}
 
 pub holder-has : (x : ℕ) (cs : List (List ℕ)) (a i : ℕ) → i < length cs → elem x (get_or cs i []) ≡ true → elem (a + i) (holders a x cs) ≡ true
@@ -163,21 +162,3 @@ module _ (v : ℕ) (cs : List (List ℕ)) (head len : ℕ) (w : List ℕ) (held 
           (subst⁻¹ (λ (l : List ℕ). Quiet (falses l) (values v (trail w v len)) (get_or cs i [])) trail-next
           (subst⁻¹ (λ (l : List ℕ). (l ≡ [] → ⊥) × ((u : ℕ) → l ≡ u ∷ [] → get_or (values v (trail w v len)) (u / 2) 0 ≡ 0 → ⊥)) (live-miss x (falses (trail w v head)) (get_or cs i []) e)
           (calm i h)))
-
--- the same of the numbers that the code has
-module _ (v : ℕ) (cs : List (List ℕ)) (head len : ℕ) (w : List ℕ) (held : WorkHeld v cs head len w) (go : head < len) (f p a b : ℕ) (r : Read v head w f p a b) where
-  pub code-lower : Addresses (AtLeast (64 * f + 1)) a a b w
-  code-lower = rw (r.literal, start_is v head w f p a b r, end_is v head w f p a b r) (sinks v cs head len w held go)
-
-  module _ (w₁ : List ℕ) (e : w₁ ≡ changed (less (64 * f + 1)) (slice a b w) w) where
-    sunk-is₁ : w₁ ≡ sunk v (sinking v head w) w
-    sunk-is₁ = e ∙ changed-is v head w f p a b r less
-
-    pub code-scan : Scannable v a a b len w₁
-    code-scan = rw (sunk-is₁, start_is v head w f p a b r, end_is v head w f p a b r) (scans v cs head len w held go)
-
-    pub code-result : scanned v (slice a b w₁) len w₁ ≡ advanced v head len w
-    code-result =
-        ap (λ (l : List ℕ). scanned v (slice a b l) len l) sunk-is₁
-        ∙ ap (λ (n : ℕ). scanned v (slice n b (sunk v (sinking v head w) w)) len (sunk v (sinking v head w) w)) (start_is v head w f p a b r)
-        ∙ ap (λ (n : ℕ). scanned v (slice (get_or w (2 * v + 2 * sinking v head w) 0) n (sunk v (sinking v head w) w)) len (sunk v (sinking v head w) w)) (end_is v head w f p a b r)

@@ -9,7 +9,6 @@ pub mod Holds
 pub mod Pushing
 pub mod Truths
 pub mod Visits
-pub mod Reading
 pub mod Advances
 pub mod Turns
 pub mod Once

@@ -9,7 +9,7 @@ use native.Mathlib.Omega.{arith}
 use borrow.Author.Tests.{eqb-true, eqb-false}
 use lib.Dec.{eqb}
 use lib.ListN.{length, get_or, set, take, length-set}
-use lib.Seq.{slice, slice-cons, slice_empty, drop-set-lt, take-set-lt, get_or-set_other}
+use lib.Seq.{slice, slice-cons, drop-set-lt, take-set-lt, get_or-set_other}
 use Rattle.propagation.specs.Units.{Visit, pushed, stays, visited, scanned, Visitable, Scannable}
 use Rattle.propagation.proofs.Visited.{room, pushed-count, visit-none, visit-many, visit-new, visit-true, visit-false}
 
@@ -139,27 +139,17 @@ module _ (v base k to n : ℕ) (w : List ℕ) (s : Scannable v base k to n w) (g
 -- what holds at the head of the loop of `scan`: w and n are now, w₀ and len as it began
 abbrev pub Scanning : List ℕ → ℕ → ℕ → ℕ → ℕ → List ℕ → ℕ → ℕ → Type 0
 Scanning w₀ v from to len w n k =
-    Scannable v from k to n w × (length w ≡ length w₀) × (scanned v (slice k to w) n w ≡ scanned v (slice from to w₀) len w₀)
+    Scannable v from k to n w × (scanned v (slice k to w) n w ≡ scanned v (slice from to w₀) len w₀)
 
 module _ (w₀ : List ℕ) (v from to len : ℕ) (w : List ℕ) (n k : ℕ) (now : Scanning w₀ v from to len w n k) where
-  module _ (go : k < to) (q : ℕ) (at : q ≡ get_or w k 0) (n' : ℕ) (clash : Bool) (w' : List ℕ) (r : record { len = n'; clash = clash; mem = w' } ≡ visited v q n w) where
-    pub scanning-length : length w' ≡ length w₀
-    scanning-length = ap (λ (z : Visit). length z.mem) r ∙ (onward v from k to n w now.0 go q at).2 ∙ now.1
+  module _ (go : k < to) (n' : ℕ) (w' : List ℕ) where
+    pub scanning-turn : record { len = n'; clash = false; mem = w' } ≡ visited v (get_or w k 0) n w → Scanning w₀ v from to len w' n' (k + 1)
+    scanning-turn r =
+        let o = onward v from k to n w now.0 go (get_or w k 0) refl in
+        let goes = ap (λ (z : Visit). z.clash) (sym r) in
+        let whole = sym (scan-goes v from k to n w now.0 go (get_or w k 0) refl goes) ∙ now.1 in
+        subst⁻¹ (λ (z : Visit). Scanning w₀ v from to len z.mem z.len (k + 1)) r (o.0, whole)
 
-    clashes : (visited v q n w).clash ≡ clash
-    clashes = ap (λ (z : Visit). z.clash) (sym r)
-
-    pub scanning-turn : clash ≡ false → Scanning w₀ v from to len w' n' (k + 1)
-    scanning-turn e =
-        let o = onward v from k to n w now.0 go q at in
-        let whole = sym (scan-goes v from k to n w now.0 go q at (clashes ∙ e)) ∙ now.2 in
-        subst⁻¹ (λ (z : Visit). Scanning w₀ v from to len z.mem z.len (k + 1)) r (o.0, o.2 ∙ now.1, whole)
-
-    pub scanning-stop : clash ≡ true → record { len = n'; clash = true; mem = w' } ≡ scanned v (slice from to w₀) len w₀
-    scanning-stop e =
-        ap (λ (b : Bool). record { len = n'; clash = b; mem = w' }) (sym e) ∙ r ∙ sym (scan-stops v from k to n w now.0 go q at (clashes ∙ e)) ∙ now.2
-
-  pub scanning-done : to ≤ k → stays n false w ≡ scanned v (slice from to w₀) len w₀
-  scanning-done past =
-      let same : k ≡ to = omega (arith, now.0.ordered) in
-      rw (same, slice_empty to w) at now.2
+    pub scanning-stop : record { len = n'; clash = true; mem = w' } ≡ visited v (get_or w k 0) n w
+        → record { len = n'; clash = true; mem = w' } ≡ scanned v (slice from to w₀) len w₀
+    scanning-stop r = r ∙ sym (scan-stops v from k to n w now.0 go (get_or w k 0) refl (ap (λ (z : Visit). z.clash) (sym r))) ∙ now.1

@@ -1,5 +1,5 @@
 -- A turn of propagation, and its end.
-use mathlib.Core.Path.{◌≡◌, subst⁻¹}
+use mathlib.Core.Path.{◌≡◌, refl, subst, subst⁻¹}
 use mathlib.Core.Bool.{Bool, true, false, true≢false, false≢true}
 use mathlib.Core.List.{List, []}
 use Prim.Native.Nat.{ℕ, ◌+◌, ◌≤◌, ◌<◌}
@@ -25,7 +25,7 @@ pub going_start : (v : ℕ) (cs : List (List ℕ)) (start len : ℕ) (w₀ : Lis
 going_start v cs start len w₀ h = record { held = h; frame = frame-none v (length cs) w₀; onward = omega arith; forces = λ k. no_more; calm = λ k. k }
 
 module _ (v : ℕ) (cs : List (List ℕ)) (start len : ℕ) (w₀ : List ℕ) (head n : ℕ) (w : List ℕ) (g : Going v cs start len w₀ head n w) where
-  module _ (go : head < n) (n' : ℕ) (clash : Bool) (w' : List ℕ) (r : record { len = n'; clash = clash; mem = w' } ≡ advanced v head n w) where
+  module _ (go : head < n) (clash : Bool) (n' : ℕ) (w' : List ℕ) (r : record { len = n'; clash = clash; mem = w' } ≡ advanced v head n w) where
     held' : WorkHeld v cs (head + 1) n' w'
     held' = subst⁻¹ (λ (z : Visit). WorkHeld v cs (head + 1) z.len z.mem) r (advance-held v cs head n w g.held go)
 
@@ -43,34 +43,38 @@ module _ (v : ℕ) (cs : List (List ℕ)) (start len : ℕ) (w₀ : List ℕ) (h
     forces' : Calm v cs start len w₀ → Forces v cs (trail w₀ v len) (trail w' v n')
     forces' k = forces-trans (g.forces k) (meaning k).forces
 
-    pub going-turn : clash ≡ false → Going v cs start len w₀ (head + 1) n' w'
-    going-turn e =
-        record {
-          held = held';
-          frame = frame';
-          onward = omega (arith, g.onward);
-          forces = forces';
-          calm = λ k i h. rw (meaning k).first ((meaning k).good e i h);
-        }
+  pub going-turn : (go : head < n) (n' : ℕ) (w' : List ℕ) → record { len = n'; clash = false; mem = w' } ≡ advanced v head n w → Going v cs start len w₀ (head + 1) n' w'
+  going-turn go n' w' r =
+      record {
+        held = held' go false n' w' r;
+        frame = frame' go false n' w' r;
+        onward = omega (arith, g.onward);
+        forces = forces' go false n' w' r;
+        calm = λ k i h. rw (meaning go false n' w' r k).first ((meaning go false n' w' r k).good refl i h);
+      }
 
-    pub going-stop : clash ≡ true → Calm v cs start len w₀ → Propagated v cs start len w₀ (head + 1) n' true w'
-    going-stop e k =
-        record {
-          held = held';
-          frame = frame';
-          forces = forces' k;
-          calm = λ z. absurd (true≢false z);
-          void = λ z. (meaning k).void e;
-          ahead = λ z. omega (arith, g.onward);
-        }
+  pub going-stop : (go : head < n) (n' : ℕ) (w' : List ℕ) → record { len = n'; clash = true; mem = w' } ≡ advanced v head n w → Calm v cs start len w₀
+      → Propagated v cs start len w₀ (head + 1) n' true w'
+  going-stop go n' w' r k =
+      record {
+        held = held' go true n' w' r;
+        frame = frame' go true n' w' r;
+        forces = forces' go true n' w' r k;
+        calm = λ z. absurd (true≢false z);
+        void = λ z. (meaning go true n' w' r k).void refl;
+        ahead = λ z. omega (arith, g.onward);
+      }
 
-  pub going_done : n ≤ head → Calm v cs start len w₀ → Propagated v cs start len w₀ head n false w
+  pub going_done : n ≤ head → Calm v cs start len w₀ → Propagated v cs start len w₀ n n false w
   going_done past k =
+      let same : head ≡ n = omega (arith, g.held.head-len) in
+      let done : Propagated v cs start len w₀ head n false w =
       record {
         held = g.held;
         frame = g.frame;
         forces = g.forces k;
-        calm = λ z. (omega (arith, g.held.head-len), g.calm k);
+        calm = λ z. (same, g.calm k);
         void = λ z. absurd (false≢true z);
         ahead = λ z. absurd (false≢true z);
-      }
+      } in
+      subst (λ (m : ℕ). Propagated v cs start len w₀ m n false w) same done

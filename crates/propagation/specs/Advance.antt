@@ -1,5 +1,5 @@
 -- One literal of the trail made false in its clauses, and the clauses looked at; and what propagation to the end gives.
-use Rattle.std.specs.Prelude.{◌≡◌, Bool, true, false, List, [], ℕ, ◌+◌, ◌*◌, ◌/◌, ◌<◌, length, get_or}
+use Rattle.std.specs.Prelude.{◌≡◌, Bool, true, false, List, [], ℕ, ◌+◌, ◌*◌, ◌/◌, ◌<◌, length, get_or, Result, Ok, Err}
 use Rattle.std.proofs.Math.Seq.{slice}
 use Rattle.propagation.specs.declared.Front.{Front}
 use Rattle.propagation.specs.Weights.{changed, less}
@@ -44,7 +44,8 @@ pub record Propagated (v : ℕ) (cs : List (List ℕ)) (start len : ℕ) (w : Li
   pub ahead : clash ≡ true → start < head'
 
 -- of whatever clauses the work area holds that are quiet
-abbrev pub PropagatesFrom : ℕ → ℕ → ℕ → List ℕ → Front → List ℕ → Type 0
-PropagatesFrom v start len w front w' =
-    (cs : List (List ℕ)) → WorkHeld v cs start len w → Calm v cs start len w
-    → Propagated v cs start len w front.head front.len front.clash w'
+abbrev pub PropagatesFrom : ℕ → ℕ → ℕ → List ℕ → Result ℕ Front → List ℕ → Type 0
+PropagatesFrom v start len w (Ok n) w' =
+    (cs : List (List ℕ)) → WorkHeld v cs start len w → Calm v cs start len w → Propagated v cs start len w n n false w'
+PropagatesFrom v start len w (Err front) w' =
+    (cs : List (List ℕ)) → WorkHeld v cs start len w → Calm v cs start len w → Propagated v cs start len w front.head front.len true w'

@@ -9,10 +9,7 @@ pub fn literal(variable: PropVar, yes: bool) -> u32
     requires { variable.0 < 2 ^ 31 }
     ensures { result ≡ 2 * variable.0 + cond yes 0 1 }
 {
-    if yes {
-        return 2 * variable.0;
-    }
-    2 * variable.0 + 1
+    2 * variable.0 + u32::from(!yes)
 }
 
 // The other literal of the same variable.

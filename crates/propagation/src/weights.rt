@@ -1,5 +1,5 @@
 // The weights of clauses, one number each, and the occurrences of literals, which are addresses of weights.
-ghost use Rattle.std.specs.Prelude.{◌≡◌};
+ghost use Rattle.std.specs.Prelude.{◌≡◌, ℕ};
 ghost use Rattle.std.proofs.Math.Seq.{slice};
 ghost use Rattle.propagation.specs.Weights.{changed, less, more, Addresses, AtLeast, RoomFor};
 
@@ -12,11 +12,15 @@ impl Weight {
     pub const BASE: u32 = 64;
 }
 
-// A 32-bit number as an index.
-pub fn wide(number: u32) -> usize
-    ensures { result ≡ number }
+// Changes each weight whose address stands in work from `from` to `to`.
+fn change<F: Fn(u32) -> u32>(work: &mut [u32], from: usize, to: usize, f: F)
+    requires { Addresses (F.pre f) from from to work.old }
+    ensures { (g : ℕ → ℕ) → ((z r : ℕ) → F.post f z r → r ≡ g z) → work.new ≡ changed g (slice from to work.old) work.old }
 {
-    number as usize
+    for place in from..to {
+        let address = work[place] as usize;
+        work[address] = f(work[address]);
+    }
 }
 
 // Takes the amount from each weight whose address stands in work from `from` to `to`.
@@ -24,12 +28,7 @@ pub fn lower(work: &mut [u32], from: usize, to: usize, amount: u32)
     requires { Addresses (AtLeast amount) from from to work.old }
     ensures { work.new ≡ changed (less amount) (slice from to work.old) work.old }
 {
-    let mut place = from;
-    while place < to {
-        let address = wide(work[place]);
-        work[address] = work[address] - amount;
-        place += 1;
-    }
+    change(work, from, to, |weight| weight - amount);
 }
 
 // Adds the amount to each weight whose address stands in work from `from` to `to`: what undoes `lower`.
@@ -37,10 +36,5 @@ pub fn raise(work: &mut [u32], from: usize, to: usize, amount: u32)
     requires { Addresses (RoomFor amount) from from to work.old }
     ensures { work.new ≡ changed (more amount) (slice from to work.old) work.old }
 {
-    let mut place = from;
-    while place < to {
-        let address = wide(work[place]);
-        work[address] = work[address] + amount;
-        place += 1;
-    }
+    change(work, from, to, |weight| weight + amount);
 }

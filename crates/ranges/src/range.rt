@@ -2,27 +2,16 @@
 ghost use Rattle.std.specs.Prelude.{◌≡◌};
 ghost use Rattle.ranges.specs.Ranges.{checked_range};
 
-use syntax::size::{DomainSize, SizeCheck};
-
-// The least and the largest size.
-#[derive(Drop)]
-pub enum RangeCheck {
-    Is(DomainSize, DomainSize),
-    Refused,
-}
+use syntax::size::DomainSize;
 
 // Low and high, if both are sizes and in order.
-pub fn checked_range(low: u64, high: u64) -> RangeCheck
+pub fn checked_range(low: u64, high: u64) -> Option<(DomainSize, DomainSize)>
     ensures { result ≡ checked_range low high }
 {
-    let SizeCheck::Is(least) = DomainSize::checked(low as usize) else {
-        return RangeCheck::Refused;
-    };
-    let SizeCheck::Is(most) = DomainSize::checked(high as usize) else {
-        return RangeCheck::Refused;
-    };
+    let least = DomainSize::checked(low as usize)?;
+    let most = DomainSize::checked(high as usize)?;
     if most.0 < least.0 {
-        return RangeCheck::Refused;
+        return None;
     }
-    RangeCheck::Is(least, most)
+    Some((least, most))
 }

@@ -1,11 +1,10 @@
 -- The bits of a symbol's cells: those of the setting, or of a part of a search's values.
 use Prim.Native.Nat.{ℕ, zero, suc, ◌+◌, ◌*◌, ◌-◌, ◌≤◌}
 use mathlib.Core.Path.{◌≡◌, refl, sym, ap, ◌∙◌}
-use mathlib.Core.Bool.{Bool, cond}
+use mathlib.Core.Bool.{cond}
 use mathlib.Core.List.{List, [], ◌∷◌, ◌++◌, map-append}
 use native.Mathlib.Nat.{suc-mul}
 use native.Mathlib.Omega.{arith}
-use borrow.Author.Tests.{eq-eqb, ne_eqb}
 use lib.Dec.{eqb}
 use lib.ListN.{length, take, drop, replicate, length-map, length-drop, take-append-drop}
 use lib.Seq.{take-append-le, drop-append-le, length-take-le, take_at}
@@ -15,20 +14,6 @@ use Rattle.theory.specs.Propositional.{width}
 use Rattle.theory.specs.Valuation.{value_of, values_of, read_back, setting_of}
 use Rattle.theory.proofs.Lists.{map-drop}
 use Rattle.theory.proofs.Numbering.{length-cell_kinds}
-use Rattle.reading_back.specs.Bits.{bits_held}
-
-module _ (setting values : List ℕ) where
-  pub no-values : length values ≡ 0 → bits_held setting values ≡ setting
-  unfolding bits_held
-  no-values e = ap (λ (b : Bool). cond b setting (setting_of values)) (eq-eqb (length values) 0 e)
-
-  pub some-values : (length values ≡ 0 → ⊥) → bits_held setting values ≡ setting_of values
-  unfolding bits_held
-  some-values e = ap (λ (b : Bool). cond b setting (setting_of values)) (ne_eqb (length values) 0 e)
-
--- no values: the setting itself
-pub setting-held : (setting : List ℕ) → bits_held setting [] ≡ setting
-setting-held setting = no-values setting [] refl
 
 pub length-setting_of : (values : List ℕ) → length (setting_of values) ≡ length values
 length-setting_of values = length-map values (λ z. cond (eqb z 1) 1 0)

@@ -2,7 +2,7 @@
 use Prim.Native.Nat.{ℕ, ◌≤◌, ◌<◌}
 use mathlib.Core.Path.{◌≡◌, sym, ap, ◌∙◌, subst}
 use mathlib.Core.Bool.{true}
-use mathlib.Core.List.{List, []}
+use mathlib.Core.List.{List}
 use native.Mathlib.Omega.{arith}
 use lib.Dec.{ltb}
 use lib.ListN.{length, take}
@@ -18,7 +18,7 @@ use Rattle.theory.proofs.Lists.{all_take}
 use Rattle.theory.proofs.CaseLengths.{case-lengths}
 use Rattle.theory.proofs.Valuations.{read_back-is_interpretation}
 use Rattle.naming.specs.NamedProblem.{shown_symbols, shown_text}
-use Rattle.answers.specs.declared.WriteAnswer.TheVariants.{Written}
+use Rattle.std.specs.Prelude.{Ok}
 use Rattle.answers.specs.Calls.{WritingCall}
 use Rattle.answers.proofs.Answering.{writes}
 use Rattle.syntax.specs.declared.signature.Signature.{Signature}
@@ -27,9 +27,8 @@ use Rattle.clauses.specs.Names.{Readable}
 use Rattle.valuations.specs.declared.numbering.Numbering.{Numbering}
 use Rattle.valuations.specs.Numbers.{NumberingOf}
 use Rattle.valuations.proofs.Bits.{is-counted, is-binary}
-use Rattle.reading_back.specs.Bits.{bits_held, WritableBits, front_bits, FrontLent, case_said}
+use Rattle.reading_back.specs.Bits.{WritableBits, front_bits, FrontLent, case_said}
 use Rattle.reading_back.specs.Settings.{SizedSymbols, text_said}
-use Rattle.reading_back.proofs.Bits.{setting-held}
 use Rattle.reading_back.proofs.Shown.{readable-first, variables-first, counted-first, functional-first, text-first, length-first}
 use Rattle.reading_back.proofs.Answered.{no_room, text-said}
 
@@ -56,11 +55,8 @@ module _ (sheet : List ℕ) (y : Signature) (s : ℕ) (setting : List ℕ) (h : 
         functional = ap (is_functional s (signature_in sheet y)) front-is ∙ h.functional;
       }
 
-  pub front-writable : WritableBits sheet y n s (bits_held front [])
-  front-writable = subst (WritableBits sheet y n s) (sym (setting-held front)) front-bits
-
-  pub front-said : (output : List ℕ) → over (case_said sheet y s (bits_held front [])) output ≡ over (case_said sheet y s (front_bits s (signature_in sheet y) setting)) output
-  front-said output = ap (λ (σ : List ℕ). over (case_said sheet y s σ) output) (setting-held front ∙ front-is)
+  pub front-said : (output : List ℕ) → over (case_said sheet y s front) output ≡ over (case_said sheet y s (front_bits s (signature_in sheet y) setting)) output
+  front-said output = ap (λ (σ : List ℕ). over (case_said sheet y s σ) output) front-is
 
 -- the case that a setting says, of the declared symbols y₀
 module _ (sheet : List ℕ) (y : Signature) (s : ℕ) (setting : List ℕ) (h : SizedSymbols sheet y s) (y₀ : Signature) (is : y₀ ≡ without_helpers y) where
@@ -115,7 +111,7 @@ module _ (sheet : List ℕ) (y : Signature) (s : ℕ) (setting : List ℕ) (h : 
       shown-too-long l = no_room s G setting room valuation functional (omega (arith, length-is)) ∙ ap (λ (k : ℕ). refused (needing 11 k)) (sym length-is)
 
     pub shown-written : (out out' : List ℕ) (n : ℕ) → n ≡ case_length s (signature_in sheet y₀) → n ≤ length out → out' ≡ over (case_said sheet y₀ s (front_bits s (signature_in sheet y₀) setting)) out
-        → WritingCall (text_said s G setting (length out)) (Written n) out out'
+        → WritingCall (text_said s G setting (length out)) (Ok n) out out'
     shown-written out out' n measured l put =
         writes _ (shown_text s G (read_back s G setting)) n out out' (text-said s G setting (length out) valuation functional (omega (arith, length-is (length out) n measured))) (measured ∙ shown-long)
         (put ∙ ap (λ (t : List ℕ). over t out) shown-said)

@@ -1,5 +1,5 @@
 -- The bits of a valuation that is to be written as a case, and what writing asks of them.
-use Rattle.std.specs.Prelude.{ℕ, ◌+◌, ◌*◌, ◌^◌, ◌≤◌, ◌<◌, ◌≡◌, true, cond, List, eqb, ltb, length, take}
+use Rattle.std.specs.Prelude.{ℕ, ◌+◌, ◌*◌, ◌^◌, ◌≤◌, ◌<◌, ◌≡◌, true, List, ltb, length, take}
 use Rattle.theory.specs.Lists.{all}
 use Rattle.theory.specs.Vectors.{AllBelow}
 use Rattle.theory.specs.Syntax as theory
@@ -13,10 +13,13 @@ use Rattle.clauses.specs.Names.{Readable}
 use Rattle.valuations.specs.declared.numbering.Numbering.{Numbering}
 use Rattle.valuations.specs.Numbers.{NumberingOf}
 use Rattle.valuations.specs.Cells.{cell_values}
+use Rattle.reading_back.specs.declared.tables.Bits.{Bits}
+use Rattle.reading_back.specs.declared.tables.Bits.TheVariants.{Setting, Values}
 
--- the bits: the setting's bytes, or, where there are values, those of a search's values
-unfoldable pub bits_held : List ℕ → List ℕ → List ℕ
-bits_held setting values = cond (eqb (length values) 0) setting (setting_of values)
+-- the bits: a setting's bytes, or those of a search's values
+abbrev pub bits_held : Bits → List ℕ
+bits_held (Setting setting) = setting.now
+bits_held (Values values) = setting_of values.now
 
 -- the table of a symbol whose propositional variables start with `from`
 abbrev pub table_in : ℕ → Symbol → ℕ → List ℕ → List ℕ

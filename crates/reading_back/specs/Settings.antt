@@ -7,7 +7,7 @@ use Rattle.theory.specs.CaseText.{case_length}
 use Rattle.theory.specs.Operations.{max_size}
 use Rattle.theory.specs.Valuation.{is_valuation, is_functional, read_back}
 use Rattle.naming.specs.NamedProblem.{shown_symbols, shown_text}
-use Rattle.answers.specs.declared.WriteAnswer.{WriteAnswer}
+use Rattle.answers.specs.Answers.{WriteAnswer}
 use Rattle.answers.specs.Calls.{WritingCall}
 use Rattle.syntax.specs.declared.signature.Signature as code
 use Rattle.syntax.specs.Signatures.{signature_in}

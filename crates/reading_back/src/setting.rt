@@ -7,13 +7,14 @@ ghost use Rattle.syntax.specs.Signatures.{signature_in};
 ghost use Rattle.reading_back.specs.Bits.{FrontLent, front_bits, case_said};
 ghost use Rattle.reading_back.specs.Settings.{SizedSymbols, WriteSettingCall};
 
+use crate::tables::Bits;
 use crate::writing::write_case;
 use answers::{WriteAnswer, at_line, needing};
 use cases::writing::case_length;
-use columns::sheet::refusal_in;
-use problem::modes::read_in;
+use columns::opened::open_sheet;
+use syntax::faults::Fault;
 use syntax::signature::Signature;
-use syntax::size::{DomainSize, SizeCheck};
+use syntax::size::DomainSize;
 use valuations::numbering::numbering_of;
 use valuations::valuation::{is_functional, is_valuation};
 
@@ -27,15 +28,11 @@ pub fn read_setting_back(
 ) -> WriteAnswer
     ensures { ReadBackCall sheet.now size named setting.now result output.old output.new }
 {
-    let r = read_in(sheet, named);
-    if r.fault != 0 {
-        return WriteAnswer::Refused(refusal_in(sheet, named, r.fault, r.line));
-    }
-    let p = r.problem;
-    match DomainSize::checked(size as usize) {
-        SizeCheck::Refused => WriteAnswer::Refused(at_line(8, 0)),
-        SizeCheck::Is(s) => write_setting(sheet, p.signature, s, setting, output),
-    }
+    let p = open_sheet(sheet, named)?;
+    let Some(s) = DomainSize::checked(size as usize) else {
+        return Err(at_line(Fault::Size, 0));
+    };
+    write_setting(sheet, p.signature, s, setting, output)
 }
 
 // 13, 14, 11, or the case that the setting says. It shows the declared symbols.
@@ -51,17 +48,17 @@ fn write_setting(
 {
     let n = numbering_of(signature, size);
     if !is_valuation(setting, n) {
-        return WriteAnswer::Refused(at_line(13, 0));
+        return Err(at_line(Fault::Setting, 0));
     }
     if !is_functional(setting, signature, n, size) {
-        return WriteAnswer::Refused(at_line(14, 0));
+        return Err(at_line(Fault::Cell, 0));
     }
     let shown = signature.declared();
     let length = case_length(shown, size);
     if output.len() < length {
-        return WriteAnswer::Refused(needing(11, length));
+        return Err(needing(Fault::OutputLength, length));
     }
-    WriteAnswer::Written(write_front(sheet, shown, size, setting, output))
+    Ok(write_front(sheet, shown, size, setting, output))
 }
 
 // The case of the symbols whose cells have their bits at the front of the setting.
@@ -80,6 +77,12 @@ fn write_front(
 {
     let n = numbering_of(signature, size);
     let v = n.count as usize;
-    let none = [0u32; 0];
-    write_case(sheet, signature, n, size, &setting[..v], &none, output)
+    write_case(
+        sheet,
+        signature,
+        n,
+        size,
+        Bits::Setting(&setting[..v]),
+        output,
+    )
 }

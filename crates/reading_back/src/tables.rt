@@ -16,25 +16,30 @@ use syntax::size::DomainSize;
 use valuations::numbering::width;
 use valuations::valuation::{read_table, read_values};
 
-// The values of a symbol's cells, whose variables start with `from`. `bits` is room for the symbol's bits.
+// The bits of a valuation: a setting's bytes, or those of a search's values.
+#[derive(Clone, Copy)]
+pub enum Bits<'a> {
+    Setting(&'a [u8]),
+    Values(&'a [u32]),
+}
+
+// The values of a symbol's cells, whose variables start with `from`. `room` is room for the symbol's bits.
 fn table_held(
-    setting: &[u8],
-    values: &[u32],
+    bits: Bits<'_>,
     from: PropVar,
     function: bool,
     size: DomainSize,
-    bits: &mut [u8],
+    room: &mut [u8],
     table: &mut [u8],
 )
-    requires size_bound { (size.0 ≤ 8) × (length table.old * theory.width size.0 (kind_of function) ≤ length bits.old) }
-    requires function_in_bounds { from.0 + length table.old * theory.width size.0 (kind_of function) ≤ length (bits_held setting.now values.now) }
-    requires values_len_bound { length (bits_held setting.now values.now) < 2 ^ 32 }
-    ensures { table.new ≡ cell_values size.0 (kind_of function) (length table.old) from.0 (bits_held setting.now values.now) }
+    requires size_bound { (size.0 ≤ 8) × (length table.old * theory.width size.0 (kind_of function) ≤ length room.old) }
+    requires function_in_bounds { from.0 + length table.old * theory.width size.0 (kind_of function) ≤ length (bits_held bits) }
+    requires values_len_bound { length (bits_held bits) < 2 ^ 32 }
+    ensures { table.new ≡ cell_values size.0 (kind_of function) (length table.old) from.0 (bits_held bits.entry) }
 {
-    if values.len() == 0 {
-        read_table(setting, from, function, size, table);
-    } else {
-        table_found(values, from, function, size, bits, table);
+    match bits {
+        Bits::Setting(setting) => read_table(setting, from, function, size, table),
+        Bits::Values(values) => table_found(values, from, function, size, room, table),
     }
 }
 
@@ -44,10 +49,10 @@ fn table_found(
     from: PropVar,
     function: bool,
     size: DomainSize,
-    bits: &mut [u8],
+    room: &mut [u8],
     table: &mut [u8],
 )
-    requires size_bound { (size.0 ≤ 8) × (length table.old * theory.width size.0 (kind_of function) ≤ length bits.old) }
+    requires size_bound { (size.0 ≤ 8) × (length table.old * theory.width size.0 (kind_of function) ≤ length room.old) }
     requires function_in_bounds { from.0 + length table.old * theory.width size.0 (kind_of function) ≤ length values.now }
     requires values_len_bound { length values.now < 2 ^ 32 }
     ensures { table.new ≡ cell_values size.0 (kind_of function) (length table.old) from.0 (setting_of values.now) }
@@ -55,8 +60,8 @@ fn table_found(
     let count = table.len() * width(function, size) as usize;
     let start = from.0 as usize;
     let end = start + count;
-    read_values(&values[start..end], &mut bits[0..count]);
-    read_table(&bits[0..count], PropVar(0), function, size, table);
+    read_values(&values[start..end], &mut room[0..count]);
+    read_table(&room[0..count], PropVar(0), function, size, table);
 }
 
 // The symbol's line, with room for its bits and for its table.
@@ -65,20 +70,19 @@ fn put_line(
     symbol: Symbol,
     from: PropVar,
     size: DomainSize,
-    setting: &[u8],
-    values: &[u32],
-    bits: &mut [u8],
+    bits: Bits<'_>,
+    room: &mut [u8],
     table: &mut [u8],
     out: &mut [u8],
     at: usize,
 ) -> usize
-    requires table_lent { TableLent sheet.now symbol from.0 size.0 (bits_held setting.now values.now) }
-    requires in_bounds { (4096 ≤ length bits.old) × (length table.old ≡ size.0 ^ symbol.arity) }
-    requires values_in_bounds { at + length (table_line sheet.now symbol from.0 size.0 (bits_held setting.now values.now)) ≤ length out.old }
-    ensures written { out.new ≡ put out.old at (table_line sheet.now symbol from.0 size.0 (bits_held setting.now values.now)) }
-    ensures place { result ≡ at + length (table_line sheet.now symbol from.0 size.0 (bits_held setting.now values.now)) }
+    requires table_lent { TableLent sheet.now symbol from.0 size.0 (bits_held bits) }
+    requires in_bounds { (4096 ≤ length room.old) × (length table.old ≡ size.0 ^ symbol.arity) }
+    requires values_in_bounds { at + length (table_line sheet.now symbol from.0 size.0 (bits_held bits)) ≤ length out.old }
+    ensures written { out.new ≡ put out.old at (table_line sheet.now symbol from.0 size.0 (bits_held bits.entry)) }
+    ensures place { result ≡ at + length (table_line sheet.now symbol from.0 size.0 (bits_held bits.entry)) }
 {
-    table_held(setting, values, from, symbol.function, size, bits, table);
+    table_held(bits, from, symbol.function, size, room, table);
     put_table(out, at, sheet, symbol, table)
 }
 
@@ -88,17 +92,16 @@ pub fn put_symbol(
     symbol: Symbol,
     from: PropVar,
     size: DomainSize,
-    setting: &[u8],
-    values: &[u32],
+    bits: Bits<'_>,
     out: &mut [u8],
     at: usize,
 ) -> usize
-    requires table_lent { TableLent sheet.now symbol from.0 size.0 (bits_held setting.now values.now) }
-    requires values_in_bounds { at + length (table_line sheet.now symbol from.0 size.0 (bits_held setting.now values.now)) ≤ length out.old }
-    ensures written { out.new ≡ put out.old at (table_line sheet.now symbol from.0 size.0 (bits_held setting.now values.now)) }
-    ensures place { result ≡ at + length (table_line sheet.now symbol from.0 size.0 (bits_held setting.now values.now)) }
+    requires table_lent { TableLent sheet.now symbol from.0 size.0 (bits_held bits) }
+    requires values_in_bounds { at + length (table_line sheet.now symbol from.0 size.0 (bits_held bits)) ≤ length out.old }
+    ensures written { out.new ≡ put out.old at (table_line sheet.now symbol from.0 size.0 (bits_held bits.entry)) }
+    ensures place { result ≡ at + length (table_line sheet.now symbol from.0 size.0 (bits_held bits.entry)) }
 {
-    let mut bits = [0u8; Problem::MAX_TABLE_BITS];
+    let mut room = [0u8; Problem::MAX_TABLE_BITS];
     let mut table = [0u8; Problem::MAX_TABLE];
     let cells = power(size.0, symbol.arity as usize);
     put_line(
@@ -106,9 +109,8 @@ pub fn put_symbol(
         symbol,
         from,
         size,
-        setting,
-        values,
-        &mut bits,
+        bits,
+        &mut room,
         &mut table[0..cells],
         out,
         at,

@@ -6,31 +6,29 @@ ghost use Rattle.syntax.specs.Signatures.{signature_in};
 ghost use Rattle.text.specs.Put.{put};
 ghost use Rattle.reading_back.specs.Bits.{WritableBits, bits_held, case_said, lines_said};
 
-use crate::tables::put_symbol;
+use crate::tables::{Bits, put_symbol};
 use cases::writing::put_heading;
 use indices::PropVar;
 use syntax::signature::Signature;
 use syntax::size::DomainSize;
 use valuations::numbering::Numbering;
 
-// Writes the case to the front of the output and answers its length. The bits are the setting's bytes, or, where there are values, those of a
-// search's values.
+// Writes the case to the front of the output and answers its length.
 pub fn write_case(
     sheet: &[u8],
     signature: Signature,
     n: Numbering,
     size: DomainSize,
-    setting: &[u8],
-    values: &[u32],
+    bits: Bits<'_>,
     out: &mut [u8],
 ) -> usize
-    requires writable_bits { WritableBits sheet.now signature n size.0 (bits_held setting.now values.now) }
+    requires writable_bits { WritableBits sheet.now signature n size.0 (bits_held bits) }
     requires signature_in_bounds { case_length size.0 (signature_in sheet.now signature) ≤ length out.old }
-    ensures written { out.new ≡ over (case_said sheet.now signature size.0 (bits_held setting.now values.now)) out.old }
+    ensures written { out.new ≡ over (case_said sheet.now signature size.0 (bits_held bits.entry)) out.old }
     ensures place { result ≡ case_length size.0 (signature_in sheet.now signature) }
 {
     let at = put_heading(out, size);
-    put_tables(sheet, signature, n, size, setting, values, out, at)
+    put_tables(sheet, signature, n, size, bits, out, at)
 }
 
 // The symbols' lines at the place `at`; answers the place after them.
@@ -39,31 +37,27 @@ fn put_tables(
     signature: Signature,
     n: Numbering,
     size: DomainSize,
-    setting: &[u8],
-    values: &[u32],
+    bits: Bits<'_>,
     out: &mut [u8],
     at: usize,
 ) -> usize
-    requires writable_bits { WritableBits sheet.now signature n size.0 (bits_held setting.now values.now) }
-    requires values_in_bounds { at + length (lines_said sheet.now signature size.0 (bits_held setting.now values.now)) ≤ length out.old }
-    ensures written { out.new ≡ put out.old at (lines_said sheet.now signature size.0 (bits_held setting.now values.now)) }
-    ensures place { result ≡ at + length (lines_said sheet.now signature size.0 (bits_held setting.now values.now)) }
+    requires writable_bits { WritableBits sheet.now signature n size.0 (bits_held bits) }
+    requires values_in_bounds { at + length (lines_said sheet.now signature size.0 (bits_held bits)) ≤ length out.old }
+    ensures written { out.new ≡ put out.old at (lines_said sheet.now signature size.0 (bits_held bits.entry)) }
+    ensures place { result ≡ at + length (lines_said sheet.now signature size.0 (bits_held bits.entry)) }
 {
     let mut e = at;
-    let mut i: usize = 0;
-    while i < signature.count {
+    for i in 0..signature.count {
         let from = n.bases[i];
         e = put_symbol(
             sheet,
             signature.symbols[i],
             PropVar(from),
             size,
-            setting,
-            values,
+            bits,
             out,
             e,
         );
-        i += 1;
     }
     e
 }

@@ -12,12 +12,7 @@ use Rattle.renumbering.specs.LeastForm.{not_after}
 use Rattle.text.specs.Put.{put, put-none, put_front, drop-put, put-run}
 use Rattle.rearranging.specs.declared.standing.Standing.{Standing}
 use Rattle.rearranging.specs.declared.standing.Standing.TheVariants.{Same, Before, After}
-use Rattle.rearranging.specs.Keeping.{is_after, standing_after, kept_value, stands, kept_cells, CandidateTaken}
-
-pub after-only : (q : Standing) → is_after q ≡ true → q ≡ After
-after-only Same h = absurd (both_false h refl)
-after-only Before h = absurd (both_false h refl)
-after-only After h = refl
+use Rattle.rearranging.specs.Keeping.{standing_after, kept_value, stands, kept_cells, CandidateTaken}
 
 kept-after : (us ws : List ℕ) → kept_cells us ws After ≡ ws
 kept-after [] ws = refl

@@ -7,7 +7,7 @@ use Rattle.theory.specs.Lists.{all}
 use Rattle.theory.specs.Syntax.{Signature}
 use Rattle.theory.specs.Claims.Least.{NotAfter}
 use Rattle.theory.proofs.Tests.{and_left, and_right, and-join}
-use Rattle.renumbering.specs.Rearrangements.{rearrangements, continued}
+use Rattle.renumbering.specs.Rearrangements.{continued}
 use Rattle.renumbering.specs.Renumbering.{renumbered}
 use Rattle.renumbering.specs.LeastForm.{not_after, least_of, least_form}
 use Rattle.renumbering.proofs.Rearrangements as rearranging

@@ -15,6 +15,8 @@ use Rattle.renumbering.specs.Rearrangements.{is_rearrangement}
 use Rattle.renumbered_cases.specs.RenumberedCases.{entries_of, is_listed}
 use Rattle.renumbering.proofs.Rearrangements.{is_rearrangement→}
 use Rattle.renumbered_cases.proofs.RenumberedCases.{rearranges}
+use Rattle.std.specs.Prelude.{is_some, IfSome}
+use Rattle.std.specs.Bool.{then_some}
 use Rattle.rearranging.specs.declared.rearrangement.Rearrangement.{Rearrangement}
 use Rattle.rearranging.specs.Entries.{rearrangement_in, EntriesHeld}
 use Rattle.rearranging.proofs.Entering.{length-entries}
@@ -79,3 +81,12 @@ module _ (list : List ℕ) (r : Rearrangement) (i : ℕ) (a : ListedTo list r i)
         ap (λ (t : Bool). t && (eqb (length p) s && c)) (ap (all (λ b. ltb 0 b)) (sym (take_all i list all_read)) ∙ a.positive)
         ∙ ap (λ (t : Bool). t && c) (eqb-of-≡ (length p) s (length-map list (λ b. b - 1) ∙ sized))
         ∙ ap (λ (p : List ℕ). all (λ d. elem d p) (up_to s)) (sym entries-listed)
+
+-- the entries that are answered, if they are
+pub some-told : (b : Bool) (r : Rearrangement) → is_some (then_some b r) ≡ b
+some-told true r = refl
+some-told false r = refl
+
+pub some-held : (list : List ℕ) (b : Bool) (r : Rearrangement) → EntriesHeld r → rearrangement_in r ≡ entries_of list → IfSome (then_some b r) (λ r. EntriesHeld r × (rearrangement_in r ≡ entries_of list))
+some-held list true r h e = (h, e)
+some-held list false r h e = tt

@@ -1,14 +1,8 @@
 -- A candidate's cells against those held, cell by cell: what is kept, and how the candidate stands then.
-use Rattle.std.specs.Prelude.{ℕ, ◌≡◌, Bool, true, false, cond, List, [], ◌∷◌, ltb, length, take, drop}
+use Rattle.std.specs.Prelude.{ℕ, ◌≡◌, cond, List, [], ◌∷◌, ltb, length, take, drop}
 use Rattle.text.specs.Put.{put}
 use Rattle.rearranging.specs.declared.standing.Standing.{Standing}
 use Rattle.rearranging.specs.declared.standing.Standing.TheVariants.{Same, Before, After}
-
--- what is held stays
-abbrev pub is_after : Standing → Bool
-is_after Same = false
-is_after Before = false
-is_after After = true
 
 -- the standing after one cell more, of the candidate's value u and the value w held
 abbrev pub standing_after : Standing → ℕ → ℕ → Standing

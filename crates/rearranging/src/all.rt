@@ -30,14 +30,11 @@ pub fn take_all(
         take_renumbered(cells, signature, size, begun, Standing::Same, held);
         return;
     }
-    let mut d: usize = 0;
-    while d < size.0 {
+    for d in 0..size.0 {
         let next = Element(d as u8);
         if begun.has(next) {
-            d += 1;
             continue;
         }
         take_all(cells, signature, size, begun.with(next), held);
-        d += 1;
     }
 }

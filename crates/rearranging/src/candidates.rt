@@ -7,7 +7,7 @@ ghost use Rattle.rearranging.specs.Keeping.{CandidateTaken, kept_cells};
 ghost use Rattle.rearranging.specs.Candidates.{InterpretationLent, PartLent, part_of, Rearranges};
 
 use crate::rearrangement::Rearrangement;
-use crate::standing::{Standing, is_after, take_value};
+use crate::standing::{Standing, take_value};
 use indices::Cell;
 use interpretation::vector::power;
 use syntax::signature::Signature;
@@ -27,8 +27,7 @@ pub fn take_renumbered(
 {
     let mut stands = standing;
     let mut base: usize = 0;
-    let mut i: usize = 0;
-    while i < signature.count {
+    for i in 0..signature.count {
         let symbol = signature.symbols[i];
         let arity = symbol.arity as usize;
         stands = take_part(
@@ -42,8 +41,7 @@ pub fn take_renumbered(
             r,
             stands,
         );
-        base = base + power(size.0, arity);
-        i += 1;
+        base += power(size.0, arity);
     }
 }
 
@@ -62,7 +60,7 @@ fn take_part(
     requires { PartLent size.0 r left from.0 at.0 cells.now held.old }
     ensures { CandidateTaken (part_of size.0 (kind_of function) (rearrangement_in r) cells.now left from.0) at.0 held.old held.new standing result }
 {
-    if is_after(standing) {
+    if standing == Standing::After {
         return Standing::After;
     }
     let first = from.0;
@@ -72,8 +70,7 @@ fn take_part(
     let step = power(size.0, left - 1);
     let mut stands = standing;
     let mut to = at.0;
-    let mut d: usize = 0;
-    while d < size.0 {
+    for d in 0..size.0 {
         let start = first + r.places[d] as usize * step;
         stands = take_part(
             cells,
@@ -87,7 +84,6 @@ fn take_part(
             stands,
         );
         to += step;
-        d += 1;
     }
     stands
 }

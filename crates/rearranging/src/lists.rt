@@ -1,5 +1,5 @@
 // The list of bytes that says a rearrangement: byte b is the element b - 1.
-ghost use Rattle.std.specs.Prelude.{◌≡◌, true, false, ◌≤◌};
+ghost use Rattle.std.specs.Prelude.{◌≡◌, ◌≤◌, is_some, IfSome};
 ghost use Rattle.renumbered_cases.specs.RenumberedCases.{entries_of, is_listed};
 ghost use Rattle.rearranging.specs.Entries.{EntriesHeld, rearrangement_in};
 
@@ -7,48 +7,22 @@ use crate::rearrangement::Rearrangement;
 use indices::Element;
 use syntax::size::DomainSize;
 
-// Whether a list was taken, and then its entries.
-#[derive(Drop)]
-pub struct Listed {
-    pub taken: bool,
-    pub entries: Rearrangement,
-}
-
 // The entries of a list that is a rearrangement of 1 to the size.
-pub fn read_list(list: &[u8], size: DomainSize) -> Listed
+pub fn read_list(list: &[u8], size: DomainSize) -> Option<Rearrangement>
     requires { size.0 ≤ 8 }
-    ensures taken { result.taken ≡ is_listed size.0 list.now }
-    ensures entries { result.taken ≡ true → EntriesHeld result.entries × (rearrangement_in result.entries ≡ entries_of list.now) }
+    ensures taken { is_some result ≡ is_listed size.0 list.now }
+    ensures entries { IfSome result (λ r. EntriesHeld r × (rearrangement_in r ≡ entries_of list.now)) }
 {
     let mut r = Rearrangement::none();
     if list.len() != size.0 {
-        return refused();
+        return None;
     }
-    let mut i: usize = 0;
-    while i < list.len() {
-        let b = list[i];
-        if b == 0 {
-            return refused();
-        }
-        let d = b - 1;
+    for b in list {
+        let d = (*b).checked_sub(1)?;
         if size.0 <= d as usize {
-            return refused();
+            return None;
         }
         r = r.with(Element(d));
-        i += 1;
     }
-    Listed {
-        taken: r.covers(size),
-        entries: r,
-    }
-}
-
-// A list that is no rearrangement.
-fn refused() -> Listed
-    ensures { result.taken ≡ false }
-{
-    Listed {
-        taken: false,
-        entries: Rearrangement::none(),
-    }
+    r.covers(size).then_some(r)
 }

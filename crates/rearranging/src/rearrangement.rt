@@ -59,12 +59,10 @@ impl Rearrangement {
         requires { EntriesHeld self × (size.0 ≤ 8) }
         ensures { result ≡ all (λ d. elem d (rearrangement_in self)) (up_to size.0) }
     {
-        let mut d: usize = 0;
-        while d < size.0 {
+        for d in 0..size.0 {
             if !self.has(Element(d as u8)) {
                 return false;
             }
-            d += 1;
         }
         true
     }
@@ -75,7 +73,8 @@ fn first_place(place: u8, n: u8) -> u8
     ensures { result ≡ cond (eqb place 8) n place }
 {
     if place == Rearrangement::NOWHERE {
-        return n;
+        n
+    } else {
+        place
     }
-    place
 }

@@ -1,12 +1,12 @@
 // How a candidate stands to the cells that are held, cell by cell: the lesser of both in value order is kept.
 ghost use Rattle.std.specs.Prelude.{◌≡◌, ◌<◌, get_or, length, set};
 ghost use Rattle.rearranging.specs.declared.standing.Standing.TheVariants.{Same};
-ghost use Rattle.rearranging.specs.Keeping.{is_after, kept_value, standing_after};
+ghost use Rattle.rearranging.specs.Keeping.{kept_value, standing_after};
 
 use indices::Cell;
 
 // A candidate against the cells held, as far as they are compared.
-#[derive(Clone, Copy)]
+#[derive(Clone, Copy, PartialEq, Eq)]
 pub enum Standing {
     // equal so far
     Same,
@@ -14,17 +14,6 @@ pub enum Standing {
     Before,
     // it is greater there: what is held stays
     After,
-}
-
-// Whether what is held stays.
-pub fn is_after(standing: Standing) -> bool
-    ensures { result ≡ is_after standing }
-{
-    match standing {
-        Standing::Same => false,
-        Standing::Before => false,
-        Standing::After => true,
-    }
 }
 
 // The candidate's next value, at the cell `at` of those held.

@@ -14,7 +14,7 @@ use Rattle.theory.specs.Program.{◌>>?◌}
 use Rattle.theory.proofs.Tests.{eqb-of-≡, eqb-false, leb-true, leb-false, leb-of-≤, leb-of-<}
 use Rattle.solver.specs.SolverLines.{with_digits, read_positive}
 use Rattle.solver.proofs.Decimals.{digit-is, with_digits-≤}
-use Rattle.replies.specs.Hearing.{non_zero, read_within}
+use Rattle.replies.specs.Hearing.{read_within}
 
 -- the number, if it is at most v
 abbrev pub within : ℕ → Option ℕ → Option ℕ
@@ -30,7 +30,7 @@ module _ (word : List ℕ) (at v : ℕ) where
     pub rest : read_within v (drop at word) ≡ within v (with_digits n (drop i word))
 
   -- no word, no number
-  pub no_word : length word ≤ at → non_zero 0 ≡ read_within v (drop at word)
+  pub no_word : length word ≤ at → none ≡ read_within v (drop at word)
   unfolding read_within read_positive ◌>>?◌
   no_word h = sym (ap (λ (w : List ℕ). read_within v w) (drop_of_length-le word {i = at} h))
 
@@ -38,7 +38,7 @@ module _ (word : List ℕ) (at v : ℕ) where
     first : drop at word ≡ get_or word at 0 ∷ drop (suc at) word
     first = drop-cons word at 0 h
 
-    pub leading-zero : get_or word at 0 ≡ 48 → non_zero 0 ≡ read_within v (drop at word)
+    pub leading-zero : get_or word at 0 ≡ 48 → none ≡ read_within v (drop at word)
     unfolding read_within read_positive ◌>>?◌
     leading-zero e =
         sym (ap (λ (w : List ℕ). read_within v w) first
@@ -65,7 +65,7 @@ module _ (word : List ℕ) (at v : ℕ) where
     next = ap (with_digits n) (drop-cons word i 0 h)
 
     -- a byte that is no digit
-    pub no_digit : is_digit byte ≡ false → non_zero 0 ≡ read_within v (drop at word)
+    pub no_digit : is_digit byte ≡ false → none ≡ read_within v (drop at word)
     unfolding ◌>>?◌
     no_digit e = sym (z.rest ∙ ap (within v) (next ∙ ap (λ (q : Bool). cond q (with_digits (n * 10 + (byte - 48)) (drop (suc i) word)) none) e))
 
@@ -76,7 +76,7 @@ module _ (word : List ℕ) (at v : ℕ) where
           ∙ ap (λ (d : ℕ). within v (with_digits (n * 10 + d) (drop (suc i) word))) (sym is)
 
       -- the digit takes the number above v
-      pub above : v < n * 10 + d → non_zero 0 ≡ read_within v (drop at word)
+      pub above : v < n * 10 + d → none ≡ read_within v (drop at word)
       unfolding ◌>>?◌
       above lt = sym (one_more ∙ go (with_digits (n * 10 + d) (drop (suc i) word)) refl)
         where
@@ -108,9 +108,7 @@ module _ (word : List ℕ) (at v : ℕ) where
       small-digit = let r = digit-is byte e in omega (arith, r.0, r.1)
 
   -- the end of the word
-  pub ends : (n i : ℕ) → Read n i → at < length word → length word ≤ i → non_zero n ≡ read_within v (drop at word)
+  pub ends : (n i : ℕ) → Read n i → at < length word → length word ≤ i → some n ≡ read_within v (drop at word)
   unfolding ◌>>?◌
   ends n i z h l =
-      let pos : 1 ≤ n = z.positive (omega arith) in
-      ap (λ (q : Bool). cond q none (some n)) (eqb-false n 0 (λ e. omega arith))
-      ∙ sym (z.rest ∙ ap (λ (w : List ℕ). within v (with_digits n w)) (drop_of_length-le word {i = i} l) ∙ ap (λ (q : Bool). cond q (some n) none) (leb-of-≤ n v z.small))
+      sym (z.rest ∙ ap (λ (w : List ℕ). within v (with_digits n w)) (drop_of_length-le word {i = i} l) ∙ ap (λ (q : Bool). cond q (some n) none) (leb-of-≤ n v z.small))

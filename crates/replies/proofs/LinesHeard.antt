@@ -18,7 +18,7 @@ use Rattle.theory.proofs.Tests.{eqb-sym, ltb-of-<, ltb-of-≤}
 use Rattle.text.specs.Lines.{part, LineEnd, StartsWith}
 use Rattle.solver.specs.SolverLines.{is_comment, satisfiable_line, unsatisfiable_line}
 use Rattle.solver.specs.Replies.{read_reply}
-use Rattle.solver.specs.OnePass.{Stage, unanswered, refuted, listing, Heard, heard, hear_words, hear_said, hear_line, hear, on_line, on_said, on_text, on_end}
+use Rattle.solver.specs.OnePass.{unanswered, refuted, listing, Heard, heard, hear_words, hear_said, hear_line, hear, on_line, on_said, on_text, on_end}
 use Rattle.solver.proofs.Options.{none≢some, bind-nothing, bind-same}
 use Rattle.solver.proofs.OnePass.{hear-line, hear-end, one-pass}
 use Rattle.replies.specs.Hearing.{values_in, heard_in}

@@ -1,36 +1,28 @@
 -- Marks: the values that they say, before any variable is set, after one more, and at the end.
-use Prim.Native.Nat.{ℕ, zero, suc, ◌+◌, ◌-◌, ◌≤◌, ◌<◌}
+use Prim.Native.Nat.{ℕ, zero, suc, ◌+◌, ◌≤◌, ◌<◌}
 use mathlib.Core.Path.{◌≡◌, refl, sym, ap, ap₂, ◌∙◌}
 use mathlib.Core.Bool.{Bool, true, false, cond, ◌&&◌}
 use mathlib.Core.Option.{Option, none, some}
-use mathlib.Core.List.{List, [], ◌∷◌, ◌++◌, append-nil}
+use mathlib.Core.List.{List, [], ◌∷◌}
 use native.Mathlib.Numerals.{add-one}
 use native.Mathlib.Omega.{arith}
 use lib.Dec.{eqb, ltb}
-use lib.ListN.{length, get_or, set, drop, replicate, length-replicate, drop_of_length-le}
+use lib.ListN.{length, get_or, set, drop, replicate}
 use lib.Seq.{drop-cons}
-use Rattle.text.specs.Put.{put}
 use Rattle.theory.specs.Lists.{all}
 use Rattle.theory.specs.Walk.{Partial, is_unset, byte_of, bytes_of}
 use Rattle.theory.specs.Program.{◌>>?◌}
-use Rattle.theory.proofs.Tests.{eqb-of-≡, eqb-false, ltb-true, ltb-of-<, ltb-of-≤, and_left, and_right}
+use Rattle.theory.proofs.Tests.{ltb-true, ltb-of-<, ltb-of-≤, and_left, and_right}
 use Rattle.theory.proofs.Lists.{map_at}
 use Rattle.solver.specs.Replies.{states}
 use Rattle.solver.specs.OnePass.{all_set, listing, complete, heard, hear_literal, reply_at}
-use Rattle.replies.specs.Hearing.{value_in, values_in, reply_in, non_zero, literal_for}
+use Rattle.replies.specs.Hearing.{value_in, values_in, reply_in, literal_for}
 use Rattle.replies.specs.declared.Reply.TheVariants.{States, Bad}
 
 -- no variable is set
 pub none-set : (v : ℕ) → values_in (replicate v 2) ≡ replicate v none
 none-set zero = refl
 none-set (suc v) = ap (λ (π : Partial). none ∷ π) (none-set v)
-
--- after storing in every place
-pub cleared : (marks : List ℕ) (i : ℕ) → i ≡ length marks → put marks 0 (replicate i 2) ≡ replicate (length marks) 2
-unfolding put
-cleared marks i e =
-    ap (λ (l : List ℕ). replicate i 2 ++ l) (drop_of_length-le marks {i = 0 + length (replicate i 2)} (omega (arith, length-replicate {A = ℕ} i 2)))
-    ∙ append-nil (replicate i 2) ∙ ap (λ (n : ℕ). replicate n 2) e
 
 -- one more is set
 values-set : (marks : List ℕ) (i : ℕ) (b : Bool) → values_in (set marks i (cond b 1 0)) ≡ set (values_in marks) i (some b)
@@ -98,16 +90,3 @@ set_there marks i h l =
     ap (all (λ b. ltb b 2)) (drop-cons marks i 0 h)
     ∙ ap (λ (q : Bool). q && all (λ b. ltb b 2) (drop (suc i) marks)) (ltb-of-< (get_or marks i 0) 2 (omega arith))
     ∙ ap (λ (k : ℕ). all (λ b. ltb b 2) (drop k marks)) (sym (add-one i))
-
--- 0 is no number
-pub no_number : (marks : List ℕ) (b : Bool) (n : ℕ) → n ≡ 0 → none ≡ (non_zero n >>? λ k. hear_literal (values_in marks) (literal_for b k))
-unfolding ◌>>?◌
-no_number marks b n e = sym (ap (λ (q : Bool). cond q none (some n) >>? λ k. hear_literal (values_in marks) (literal_for b k)) (eqb-of-≡ n 0 e))
-
--- any other is that of the variable with one less before it
-pub some_number : (marks : List ℕ) (b : Bool) (n : ℕ) → (n ≡ 0 → ⊥) → hear_literal (values_in marks) (literal_for b (suc (n - 1))) ≡ (non_zero n >>? λ k. hear_literal (values_in marks) (literal_for b k))
-unfolding ◌>>?◌
-some_number marks b n ne =
-    let e : suc (n - 1) ≡ n = omega arith in
-    ap (λ (k : ℕ). hear_literal (values_in marks) (literal_for b k)) e
-    ∙ sym (ap (λ (q : Bool). cond q none (some n) >>? λ k. hear_literal (values_in marks) (literal_for b k)) (eqb-false n 0 ne))

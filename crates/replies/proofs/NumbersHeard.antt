@@ -1,8 +1,8 @@
 -- A word among the numbers: a number is read with its sign, and one above the variables is none.
-use Prim.Native.Nat.{ℕ, ◌≤◌}
+use Prim.Native.Nat.{ℕ}
 use mathlib.Core.Path.{◌≡◌, refl, sym, ap, ◌∙◌}
 use mathlib.Core.Bool.{Bool, true, false, cond}
-use mathlib.Core.Option.{Option, none, some, some-injective}
+use mathlib.Core.Option.{Option, none, some}
 use mathlib.Core.List.{List, [], ◌∷◌}
 use native.Mathlib.Omega.{arith}
 use lib.Dec.{eqb, leb}
@@ -12,26 +12,13 @@ use Rattle.theory.specs.Propositional.{PropLiteral}
 use Rattle.theory.specs.Dimacs.{minus}
 use Rattle.theory.specs.Walk.{Partial}
 use Rattle.theory.specs.Program.{◌>>?◌}
-use Rattle.theory.proofs.Tests.{eqb-sym, eqb-true, leb-true, leb-false}
+use Rattle.theory.proofs.Tests.{eqb-sym, leb-false}
 use Rattle.text.specs.Lines.{StartsWith}
 use Rattle.solver.specs.SolverLines.{read_positive, with_sign, read_literal, end_word}
 use Rattle.solver.specs.OnePass.{listing, complete, Heard, heard, hear_literal, hear_number}
-use Rattle.solver.proofs.Options.{none≢some, cond-some}
+use Rattle.solver.proofs.Options.{none≢some}
 use Rattle.solver.proofs.Setting.{set-above}
-use Rattle.replies.specs.Hearing.{value_in, values_in, non_zero, literal_for, read_within}
-
--- what is read is at most what is asked for
-pub within-most : (v n : ℕ) (word : List ℕ) → non_zero n ≡ read_within v word → n ≤ v
-unfolding read_within ◌>>?◌
-within-most v n word e = go (eqb n 0) refl (read_positive word) e
-  where
-    go : (q : Bool) → eqb n 0 ≡ q → (o : Option ℕ) → cond q none (some n) ≡ (o >>? λ k. cond (leb k v) (some k) none) → n ≤ v
-    go true h o e = let z : n ≡ 0 = eqb-true n 0 h in omega arith
-    go false h none e = absurd (none≢some n (sym e))
-    go false h (some k) e =
-        let c = cond-some (leb k v) (some k) n (sym e) in
-        let z : k ≡ n = some-injective k n c.1 in
-        omega (arith, leb-true k v c.0)
+use Rattle.replies.specs.Hearing.{value_in, values_in, literal_for, read_within}
 
 -- a literal above the variables sets none of them, so its number need not be read
 bounded : (π : Partial) (v : ℕ) → length π ≡ v → (b : Bool) (word : List ℕ) → (read_within v word >>? λ k. hear_literal π (literal_for b k)) ≡ (with_sign b (read_positive word) >>? hear_literal π)
@@ -67,9 +54,9 @@ module _ (marks word : List ℕ) where
   last-number e = sym (ap (λ (q : Bool). cond q (some (heard complete (values_in marks))) (read_literal word >>? hear_literal (values_in marks))) e)
 
   -- any other number, read after its sign
-  module _ (e : same word end_word ≡ false) (o : Option Heard) (n : ℕ) where
-    signed-number : (b : Bool) (digits : List ℕ) → read_literal word ≡ with_sign b (read_positive digits) → non_zero n ≡ read_within (length marks) digits
-        → o ≡ (non_zero n >>? λ k. hear_literal (values_in marks) (literal_for b k)) → o ≡ hear_number (values_in marks) word
+  module _ (e : same word end_word ≡ false) (o : Option Heard) (n : Option ℕ) where
+    signed-number : (b : Bool) (digits : List ℕ) → read_literal word ≡ with_sign b (read_positive digits) → n ≡ read_within (length marks) digits
+        → o ≡ (n >>? λ k. hear_literal (values_in marks) (literal_for b k)) → o ≡ hear_number (values_in marks) word
     unfolding hear_number
     signed-number b digits r w h =
         h ∙ ap (λ (m : Option ℕ). m >>? λ k. hear_literal (values_in marks) (literal_for b k)) w
@@ -77,10 +64,10 @@ module _ (marks word : List ℕ) where
         ∙ ap (λ (l : Option PropLiteral). l >>? hear_literal (values_in marks)) (sym r)
         ∙ sym (ap (λ (q : Bool). cond q (some (heard complete (values_in marks))) (read_literal word >>? hear_literal (values_in marks))) e)
 
-    pub negative-number : (q : Bool) → StartsWith word (minus ∷ []) q → q ≡ true → non_zero n ≡ read_within (length marks) (drop 1 word)
-        → o ≡ (non_zero n >>? λ k. hear_literal (values_in marks) (literal_for false k)) → o ≡ hear_number (values_in marks) word
+    pub negative-number : (q : Bool) → StartsWith word (minus ∷ []) q → q ≡ true → n ≡ read_within (length marks) (drop 1 word)
+        → o ≡ (n >>? λ k. hear_literal (values_in marks) (literal_for false k)) → o ≡ hear_number (values_in marks) word
     negative-number q s h = signed-number false (drop 1 word) (read-signed word q s ∙ ap (λ (q : Bool). cond q (with_sign false (read_positive (drop 1 word))) (with_sign true (read_positive word))) h)
 
-    pub positive-number : (q : Bool) → StartsWith word (minus ∷ []) q → q ≡ false → non_zero n ≡ read_within (length marks) word
-        → o ≡ (non_zero n >>? λ k. hear_literal (values_in marks) (literal_for true k)) → o ≡ hear_number (values_in marks) word
+    pub positive-number : (q : Bool) → StartsWith word (minus ∷ []) q → q ≡ false → n ≡ read_within (length marks) word
+        → o ≡ (n >>? λ k. hear_literal (values_in marks) (literal_for true k)) → o ≡ hear_number (values_in marks) word
     positive-number q s h = signed-number true word (read-signed word q s ∙ ap (λ (q : Bool). cond q (with_sign false (read_positive (drop 1 word))) (with_sign true (read_positive word))) h)

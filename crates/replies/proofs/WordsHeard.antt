@@ -10,10 +10,7 @@ use Rattle.theory.specs.Lines.{cut_words}
 use Rattle.theory.specs.Walk.{Partial}
 use Rattle.theory.specs.Program.{◌>>?◌}
 use Rattle.theory.proofs.Tests.{leb-of-≤, leb-of-<}
-use Rattle.text.specs.Lines.{part, WordEnd}
-use Rattle.text.proofs.Part.{length_part}
 use Rattle.word_reader.specs.WordsLeft.{words_left, FirstWord}
-use Rattle.word_reader.proofs.Cutting.{first_word}
 use Rattle.solver.specs.OnePass.{listing, Heard, hear_words, on_word, on_words}
 use Rattle.solver.proofs.Options.{bind-bind}
 use Rattle.replies.specs.Hearing.{values_in, heard_in}
@@ -40,18 +37,15 @@ module _ (value : List ℕ) (π : Partial) where
             ∙ ap (λ (b : Bool). hear_words listing (values_in marks) (cond b (cut_words value) [])) (sym (leb-of-≤ 0 (length value) (omega arith)));
       }
 
-  pub one_more : (stage : Stage) (marks : List ℕ) (at end : ℕ) → HeardTo stage marks at → WordEnd value at end → (r : Stage) (marks' : List ℕ)
-      → heard_in r marks' ≡ (heard_in stage marks >>? on_word (part value at end)) → HeardTo r marks' (end + 1)
-  one_more stage marks at end z w r marks' e =
-      let f : FirstWord value at (part value at end) = first_word value at end w in
-      let behind : at + length (part value at end) + 1 ≡ end + 1 = omega (arith, length_part value at end w.from w.within, w.from) in
+  pub one_more : (stage : Stage) (marks : List ℕ) (at : ℕ) (word : List ℕ) → HeardTo stage marks at → FirstWord value at word → (r : Stage) (marks' : List ℕ)
+      → heard_in r marks' ≡ (heard_in stage marks >>? on_word word) → HeardTo r marks' (at + length word + 1)
+  one_more stage marks at word z f r marks' e =
       record {
-        within = omega (arith, w.within);
+        within = omega (arith, f.within);
         rest = z.rest
             ∙ ap (λ (ws : List (List ℕ)). heard_in stage marks >>? on_words ws) f.first
-            ∙ sym (bind-bind (heard_in stage marks) (on_word (part value at end)) (on_words (words_left value (at + length (part value at end) + 1))))
-            ∙ ap (λ (o : Option Heard). o >>? on_words (words_left value (at + length (part value at end) + 1))) (sym e)
-            ∙ ap (λ (n : ℕ). heard_in r marks' >>? on_words (words_left value n)) behind;
+            ∙ sym (bind-bind (heard_in stage marks) (on_word word) (on_words (words_left value (at + length word + 1))))
+            ∙ ap (λ (o : Option Heard). o >>? on_words (words_left value (at + length word + 1))) (sym e);
       }
 
   pub ends : (stage : Stage) (marks : List ℕ) (at : ℕ) → HeardTo stage marks at → length value < at → heard_in stage marks ≡ hear_words listing π (cut_words value)

@@ -34,10 +34,6 @@ reply_in ClaimsNone marks = some solver.claims_none
 reply_in States marks = some (solver.states marks)
 reply_in Bad marks = none
 
--- a number, or none where it is 0
-abbrev pub non_zero : ℕ → Option ℕ
-non_zero n = cond (eqb n 0) none (some n)
-
 -- the literal of a variable, counted from 1
 abbrev pub literal_for : Bool → ℕ → PropLiteral
 literal_for b n = record { positive = b; number = n }

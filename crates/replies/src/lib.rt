@@ -6,8 +6,8 @@ pub mod numbers;
 pub mod stages;
 pub mod words;
 
-ghost use Rattle.std.specs.Prelude.{◌≡◌, ◌^◌, ◌<◌, ltb, length, replicate};
-ghost use Rattle.theory.specs.Lists.{all};
+ghost use Rattle.std.specs.Prelude.{◌≡◌, ◌^◌, ◌<◌, ltb, length};
+ghost use Rattle.std.specs.List.{list_all};
 ghost use Rattle.theory.specs.Program.{◌>>?◌};
 ghost use Rattle.solver.specs.Replies.{read_reply};
 ghost use Rattle.solver.specs.OnePass.{on_end, complete, reply_at};
@@ -30,20 +30,9 @@ pub fn read_reply(text: &[u8], marks: &mut [u8]) -> Reply
     requires { length marks.old < 2 ^ 28 }
     ensures { reply_in result marks.new ≡ read_reply (length marks.old) text.now }
 {
-    clear(marks);
+    marks.fill(UNSET);
     let stage = hear_lines(text, marks);
     reply_at(stage, marks)
-}
-
-// No variable is set.
-fn clear(marks: &mut [u8])
-    ensures { marks.new ≡ replicate (length marks.old) 2 }
-{
-    let mut i: usize = 0;
-    while i < marks.len() {
-        marks[i] = UNSET;
-        i += 1;
-    }
 }
 
 // The reply at the end of the text.
@@ -53,9 +42,7 @@ fn reply_at(stage: Stage, marks: &[u8]) -> Reply
     match stage {
         Stage::Refuted => Reply::ClaimsNone,
         Stage::Complete => stated(marks),
-        Stage::Unanswered => Reply::Bad,
-        Stage::Listing => Reply::Bad,
-        Stage::Fault => Reply::Bad,
+        Stage::Unanswered | Stage::Listing | Stage::Fault => Reply::Bad,
     }
 }
 
@@ -71,14 +58,7 @@ fn stated(marks: &[u8]) -> Reply
 
 // Every variable is set.
 fn all_set(marks: &[u8]) -> bool
-    ensures { result ≡ all (λ b. ltb b 2) marks.now }
+    ensures { result ≡ list_all (λ b. ltb b 2) marks.now }
 {
-    let mut i: usize = 0;
-    while i < marks.len() {
-        if 1 < marks[i] {
-            return false;
-        }
-        i += 1;
-    }
-    true
+    marks.iter().all(|mark| *mark < UNSET)
 }

@@ -6,7 +6,7 @@ ghost use Rattle.replies.specs.Hearing.{heard_in, values_in};
 
 use crate::stages::Stage;
 use crate::words::hear_words;
-use text::lines::{line_end, same, starts_with};
+use text::lines::{line_end, starts_with};
 
 // All lines of a text.
 pub fn hear_lines(text: &[u8], marks: &mut [u8]) -> Stage
@@ -46,8 +46,7 @@ fn hear_said(line: &[u8], stage: Stage, marks: &mut [u8]) -> Stage
         Stage::Unanswered => hear_claim(line),
         Stage::Listing => hear_values(line, marks),
         Stage::Refuted => Stage::Fault,
-        Stage::Complete => Stage::Fault,
-        Stage::Fault => Stage::Fault,
+        Stage::Complete | Stage::Fault => Stage::Fault,
     }
 }
 
@@ -55,10 +54,12 @@ fn hear_said(line: &[u8], stage: Stage, marks: &mut [u8]) -> Stage
 fn hear_claim(line: &[u8]) -> Stage
     ensures { (marks : List ℕ) → heard_in result marks ≡ hear_said unanswered (values_in marks) line.now }
 {
-    if same(line, b"s SATISFIABLE") {
+    let satisfiable: &[u8] = b"s SATISFIABLE";
+    let unsatisfiable: &[u8] = b"s UNSATISFIABLE";
+    if line == satisfiable {
         return Stage::Listing;
     }
-    if same(line, b"s UNSATISFIABLE") {
+    if line == unsatisfiable {
         return Stage::Refuted;
     }
     Stage::Fault

@@ -1,39 +1,31 @@
 // A number of any length, given up at the digit that takes it above what is asked for.
-ghost use Rattle.std.specs.Prelude.{◌≡◌, true, ◌-◌, ◌^◌, ◌<◌, drop};
-ghost use Rattle.theory.specs.Bytes.{is_digit};
-ghost use Rattle.replies.specs.Hearing.{non_zero, read_within};
+ghost use Rattle.std.specs.Prelude.{◌≡◌, ℕ, ◌^◌, ◌≤◌, ◌<◌, Some};
+ghost use Rattle.theory.specs.Options.{told};
+ghost use Rattle.replies.specs.Hearing.{read_within};
 
 use text::numbers::is_digit;
 
-// The number of at least 1 and at most `most` that the word is from a place on; 0 where it is none.
-pub fn number_within(word: &[u8], at: usize, most: usize) -> usize
+// The number of at least 1 and at most `most` that the word is, if it is one.
+pub fn number_within(word: &[u8], most: usize) -> Option<usize>
     requires { most < 2 ^ 28 }
-    ensures { non_zero result ≡ read_within most (drop at word.now) }
+    ensures number { told result ≡ read_within most word.now }
+    ensures bounds { (n : ℕ) → result ≡ Some n → (1 ≤ n) × (n ≤ most) }
 {
-    if word.len() <= at {
-        return 0;
+    if word.is_empty() {
+        return None;
     }
-    if word[at] == 48 {
-        return 0;
+    if word[0] == b'0' {
+        return None;
     }
-    let mut n: usize = 0;
-    let mut i = at;
-    while i < word.len() {
-        if !is_digit(word[i]) {
-            return 0;
+    let mut n = 0;
+    for b in word {
+        if !is_digit(*b) {
+            return None;
         }
-        n = n * 10 + digit_value(word[i]);
+        n = n * 10 + (*b - b'0') as usize;
         if most < n {
-            return 0;
+            return None;
         }
-        i += 1;
     }
-    n
-}
-
-fn digit_value(b: u8) -> usize
-    requires { is_digit b ≡ true }
-    ensures { result ≡ b - 48 }
-{
-    (b - 48) as usize
+    Some(n)
 }

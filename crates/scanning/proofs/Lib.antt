@@ -1,4 +1,3 @@
 pub mod Lookahead
-pub mod Entering
 pub mod NextTaken
 pub mod WholeEntered

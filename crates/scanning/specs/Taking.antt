@@ -1,5 +1,5 @@
 -- What one token more of a whole statement is.
-use Rattle.std.specs.Prelude.{ℕ, ◌≤◌, ◌<◌, ◌≡◌, Bool, List, [], ◌∷◌, ◌++◌}
+use Rattle.std.specs.Prelude.{ℕ, ◌≤◌, ◌<◌, ◌≡◌, Bool, List, [], ◌∷◌, ◌++◌, Option, Some, None}
 use Rattle.text.specs.Lines.{part}
 use Rattle.tptp.specs.Tokens.{TokenKind, left_paren}
 use Rattle.tptp.specs.Grammar.{DueToken}
@@ -12,7 +12,6 @@ use Rattle.scanning.specs.Ahead.{items_at}
 use Rattle.scanning.specs.Entries.{entries_in}
 use Rattle.scanning.specs.declared.entries.Entries.{Entries}
 use Rattle.scanning.specs.declared.taking.Taken.{Taken}
-use Rattle.scanning.specs.declared.taking.Taken.TheVariants.{Token, Stop}
 
 -- the name from a place up to another
 abbrev pub name_in : List ℕ → ℕ → ℕ → Name
@@ -33,6 +32,6 @@ pub record TokenTaken (text : List ℕ) (d : DueToken) (at : ℕ) (es : Entries)
   pub past : at < end
 
 -- what was taken where d is due at a place
-abbrev pub TakenFrom : List ℕ → DueToken → ℕ → Taken → Type 0
-TakenFrom text d at (Token es opens start end next) = TokenTaken text d at es opens start end (due_token_in next)
-TakenFrom text d at Stop = entries_from text d at ≡ []
+abbrev pub TakenFrom : List ℕ → DueToken → ℕ → Option Taken → Type 0
+TakenFrom text d at (Some t) = TokenTaken text d at t.entries t.opens t.start t.end (due_token_in t.due)
+TakenFrom text d at None = entries_from text d at ≡ []

@@ -5,56 +5,37 @@ ghost use Rattle.tokens.specs.Pieces.{kind_in};
 ghost use Rattle.scanning.specs.Ahead.{items_at, relation_in};
 
 use statements::kinds::is;
-use tokens::next::{NextToken, next_token};
+use tokens::next::next_token;
 use tokens::pieces::Kind;
 
-// What stands between a literal's two terms: = (true) or != (false); or the literal has no second term.
-#[derive(Drop)]
-pub enum Relation {
-    Unrelated,
-    Related(bool),
-}
-
-// The relation that a token is.
-fn relation_of(kind: Kind) -> Relation
+// The relation that a token is: = (true) or != (false).
+fn relation_of(kind: Kind) -> Option<bool>
     ensures { relation_in result ≡ relation_of (kind_in kind) }
 {
-    if is(Kind::EqualSign, kind) {
-        return Relation::Related(true);
+    match kind {
+        Kind::EqualSign => Some(true),
+        Kind::UnequalSign => Some(false),
+        _ => None,
     }
-    if is(Kind::UnequalSign, kind) {
-        return Relation::Related(false);
-    }
-    Relation::Unrelated
 }
 
-// The relation that follows from a place on, when the lists that open there have ended.
-pub fn relation_ahead(text: &[u8], at: usize) -> Relation
+// The relation that follows from a place on, when the lists that open there have ended; none where the literal has no second term.
+pub fn relation_ahead(text: &[u8], at: usize) -> Option<bool>
     requires { at ≤ length text.now }
     ensures { relation_in result ≡ relation_ahead (items_at text.now at) 0 }
 {
     let mut i = at;
     let mut lists: usize = 0;
-    loop {
-        match next_token(text, i) {
-            NextToken::End => {
-                return Relation::Unrelated;
-            }
-            NextToken::Is(kind, _start, end) => {
-                i = end;
-                if is(Kind::LeftParen, kind) {
-                    lists += 1;
-                    continue;
-                }
-                if lists == 0 {
-                    return relation_of(kind);
-                }
-                if is(Kind::RightParen, kind) {
-                    lists -= 1;
-                }
-            }
+    while let Some(token) = next_token(text, i) {
+        match token.kind {
+            Kind::LeftParen => lists += 1,
+            kind if lists == 0 => return relation_of(kind),
+            Kind::RightParen => lists -= 1,
+            _ => {}
         }
+        i = token.end;
     }
+    None
 }
 
 // The commas of the list that is open at a place, up to its end.
@@ -66,33 +47,17 @@ fn commas_ahead(text: &[u8], at: usize) -> usize
     let mut i = at;
     let mut lists: usize = 0;
     let mut count: usize = 0;
-    loop {
-        match next_token(text, i) {
-            NextToken::End => {
-                return count;
-            }
-            NextToken::Is(kind, _start, end) => {
-                i = end;
-                if is(Kind::LeftParen, kind) {
-                    lists += 1;
-                    continue;
-                }
-                if is(Kind::RightParen, kind) {
-                    if lists == 0 {
-                        return count;
-                    }
-                    lists -= 1;
-                    continue;
-                }
-                if lists != 0 {
-                    continue;
-                }
-                if is(Kind::Comma, kind) {
-                    count += 1;
-                }
-            }
+    while let Some(token) = next_token(text, i) {
+        match token.kind {
+            Kind::LeftParen => lists += 1,
+            Kind::RightParen if lists == 0 => return count,
+            Kind::RightParen => lists -= 1,
+            Kind::Comma if lists == 0 => count += 1,
+            _ => {}
         }
+        i = token.end;
     }
+    count
 }
 
 // How many arguments follow a word that ends at a place.
@@ -101,12 +66,7 @@ pub fn arity_ahead(text: &[u8], at: usize) -> usize
     ensures { result ≡ arity_ahead (items_at text.now at) }
 {
     match next_token(text, at) {
-        NextToken::End => 0,
-        NextToken::Is(kind, _start, end) => {
-            if is(Kind::LeftParen, kind) {
-                return 1 + commas_ahead(text, end);
-            }
-            0
-        }
+        Some(token) if is(Kind::LeftParen, token.kind) => 1 + commas_ahead(text, token.end),
+        _ => 0,
     }
 }

@@ -1,19 +1,18 @@
 // What a token adds to the words of a clause: nothing, a variable or symbol, and at a literal's begin its sign and = in front.
-ghost use Rattle.std.specs.Prelude.{◌≡◌, Bool, false, cond, not, ◌||◌, ◌≤◌, length};
-ghost use Rattle.tptp.specs.Grammar as grammar;
+ghost use Rattle.std.specs.Prelude.{◌≡◌, false, cond, not, ◌||◌, ◌≤◌, length};
 ghost use Rattle.tptp.specs.Tokens.{lower_word, upper_word};
 ghost use Rattle.tptp.specs.Trees.{Name};
 ghost use Rattle.tptp.specs.Written.{item_of};
 ghost use Rattle.tptp.specs.Scanning.{same_token_kind, arity_ahead, entries_at};
 ghost use Rattle.tptp.specs.Scanning as scanning;
 ghost use Rattle.tokens.specs.Pieces.{kind_in};
-ghost use Rattle.statements.specs.Dues.{side_in, due_token_in};
+ghost use Rattle.statements.specs.declared.due.Due.TheVariants.{Term};
+ghost use Rattle.statements.specs.Dues.{due_token_in};
 ghost use Rattle.scanning.specs.Ahead.{items_at};
 ghost use Rattle.scanning.specs.Entries.{spot_in, word_named, atom_entries, entries_in, unmarked};
 
-use crate::ahead::{Relation, relation_ahead};
-use statements::due::{Due, Side};
-use statements::kinds::is;
+use crate::ahead::relation_ahead;
+use statements::due::{Due, Side, TermPlace};
 use tokens::pieces::Kind;
 
 // Where a token stands: as an atom or a literal's first term, ~ standing before it or not; as another term; or in no clause.
@@ -47,15 +46,12 @@ pub struct Entries {
 }
 
 // Where a term's token stands.
-fn term_spot(side: Side, lists: usize) -> Spot
-    ensures { (wrapped : Bool) → spot_in result ≡ scanning.spot (grammar.term wrapped (side_in side) lists) }
+fn term_spot(place: TermPlace) -> Spot
+    ensures { spot_in result ≡ scanning.spot (due_token_in (Term place)) }
 {
-    if lists != 0 {
-        return Spot::InTerm;
-    }
-    match side {
-        Side::First(tilde) => Spot::AtomStart(tilde),
-        Side::Second => Spot::InTerm,
+    match place.side {
+        Side::First(tilde) if place.lists == 0 => Spot::AtomStart(tilde),
+        _ => Spot::InTerm,
     }
 }
 
@@ -64,21 +60,9 @@ fn spot_of(due: Due) -> Spot
     ensures { spot_in result ≡ scanning.spot (due_token_in due) }
 {
     match due {
-        Due::Statement => Spot::Elsewhere,
-        Due::Opening => Spot::Elsewhere,
-        Due::Name => Spot::Elsewhere,
-        Due::NameComma => Spot::Elsewhere,
-        Due::Role => Spot::Elsewhere,
-        Due::RoleComma => Spot::Elsewhere,
-        Due::Clause => Spot::AtomStart(false),
-        Due::Literal(_) => Spot::AtomStart(false),
-        Due::LiteralEnd(_) => Spot::Elsewhere,
-        Due::Term(_, side, lists) => term_spot(side, lists),
-        Due::WordEnd(_, _, _) => Spot::Elsewhere,
-        Due::TermEnd(_, _, _) => Spot::Elsewhere,
-        Due::Equality(_, _) => Spot::Elsewhere,
-        Due::Closing => Spot::Elsewhere,
-        Due::Stop => Spot::Elsewhere,
+        Due::Clause | Due::Literal(_) => Spot::AtomStart(false),
+        Due::Term(place) => term_spot(place),
+        _ => Spot::Elsewhere,
     }
 }
 
@@ -86,20 +70,17 @@ fn spot_of(due: Due) -> Spot
 fn named_word(kind: Kind, function: bool) -> Named
     ensures { result ≡ word_named (kind_in kind) function }
 {
-    if is(Kind::UpperWord, kind) {
-        return Named::Variable;
+    match kind {
+        Kind::UpperWord => Named::Variable,
+        _ => Named::Symbol(function),
     }
-    Named::Symbol(function)
 }
 
 // A literal's sign: != stands for - and =.
 fn sign(tilde: bool, equal: bool) -> bool
     ensures { result ≡ cond equal (not tilde) false }
 {
-    if equal {
-        return !tilde;
-    }
-    false
+    equal && !tilde
 }
 
 // A literal's first word, with its sign and = in front.
@@ -108,11 +89,11 @@ fn atom_entries(text: &[u8], tilde: bool, kind: Kind, end: usize) -> Entries
     ensures { result ≡ atom_entries tilde (kind_in kind) (items_at text.now end) }
 {
     match relation_ahead(text, end) {
-        Relation::Unrelated => Entries {
+        None => Entries {
             marks: Marks::Sign(!tilde),
             named: named_word(kind, false),
         },
-        Relation::Related(equal) => Entries {
+        Some(equal) => Entries {
             marks: Marks::Equality(sign(tilde, equal)),
             named: named_word(kind, true),
         },
@@ -133,10 +114,7 @@ fn unmarked(named: Named) -> Entries
 fn is_word(kind: Kind) -> bool
     ensures { result ≡ (same_token_kind lower_word (kind_in kind) || same_token_kind upper_word (kind_in kind)) }
 {
-    if is(Kind::LowerWord, kind) {
-        return true;
-    }
-    is(Kind::UpperWord, kind)
+    matches!(kind, Kind::LowerWord | Kind::UpperWord)
 }
 
 // What a token that ends at a place adds, if this is due.

@@ -5,39 +5,36 @@ ghost use Rattle.scanning.specs.Taking.{TakenFrom};
 
 use crate::entries::{Entries, entries_at};
 use statements::after::after;
-use statements::due::{After, Due};
+use statements::due::Due;
 use statements::kinds::is;
-use tokens::next::{NextToken, next_token};
+use tokens::next::{Token, next_token};
 use tokens::pieces::Kind;
 
-// A token with what it adds, whether it is a (, its place and the place after it, and what is due then; or the statement's full stop.
+// A token: what it adds, whether it is a (, its place and the place after it, and what is due then.
 #[derive(Drop)]
-pub enum Taken {
-    Token(Entries, bool, usize, usize, Due),
-    Stop,
+pub struct Taken {
+    pub entries: Entries,
+    pub opens: bool,
+    pub start: usize,
+    pub end: usize,
+    pub due: Due,
 }
 
-// The next token of a statement that is whole, so that it is there and may stand there.
-pub fn take_token(text: &[u8], at: usize, due: Due) -> Taken
+// The next token of a statement that is whole, so that it is there and may stand there; none where it is the full stop.
+pub fn take_token(text: &[u8], at: usize, due: Due) -> Option<Taken>
     requires { Inside text.now (due_token_in due) at }
     ensures { TakenFrom text.now (due_token_in due) at result }
 {
-    match next_token(text, at) {
-        NextToken::End => Taken::Stop,
-        NextToken::Is(kind, start, end) => {
-            if is(Kind::FullStop, kind) {
-                return Taken::Stop;
-            }
-            match after(due, kind, false) {
-                After::Misplaced => Taken::Stop,
-                After::Next(next) => Taken::Token(
-                    entries_at(text, due, kind, end),
-                    is(Kind::LeftParen, kind),
-                    start,
-                    end,
-                    next,
-                ),
-            }
-        }
+    let Token { kind, start, end } = next_token(text, at)?;
+    if is(Kind::FullStop, kind) {
+        return None;
     }
+    let next = after(due, kind, false)?;
+    Some(Taken {
+        entries: entries_at(text, due, kind, end),
+        opens: is(Kind::LeftParen, kind),
+        start,
+        end,
+        due: next,
+    })
 }

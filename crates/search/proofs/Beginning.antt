@@ -90,15 +90,13 @@ module _ (v : ℕ) (cs : List PropClause) (first : ℕ → Bool) (w₀ : List �
   pub begun-visitable : q < to → Visitable v q n w
   begun-visitable go = begin-visitable v (coded cs) w₀ to q n w end-coded from g go
 
-  pub begun-turn : (go : q < to) (n' : ℕ) (clash : Bool) (w' : List ℕ) → record { len = n'; clash = clash; mem = w' } ≡ visited v q n w
-      → clash ≡ false → Beginning v (coded cs) w₀ (q + 1) n' w'
-  begun-turn go n' clash w' r e = beginning-turn v (coded cs) w₀ to q n w end-coded from g go n' clash w' r e
+  pub begun-turn : (go : q < to) (n' : ℕ) (w' : List ℕ) → record { len = n'; clash = false; mem = w' } ≡ visited v q n w → Beginning v (coded cs) w₀ (q + 1) n' w'
+  begun-turn go n' w' r = beginning-turn v (coded cs) w₀ to q n w end-coded from g go n' false w' r refl
 
   -- a wholly false clause: the walk finds nothing
-  pub begun-stop : (go : q < to) (n' : ℕ) (clash : Bool) (w' : List ℕ) → record { len = n'; clash = clash; mem = w' } ≡ visited v q n w
-      → clash ≡ true → Begun v cs first n' true w₀ w'
-  begun-stop go n' clash w' r e =
-      let (h, f, s, z) = stopped v (coded cs) w₀ to q n w end-coded from g go n' clash w' r e in
+  pub begun-stop : (go : q < to) (n' : ℕ) (w' : List ℕ) → record { len = n'; clash = true; mem = w' } ≡ visited v q n w → Begun v cs first n' true w₀ w'
+  begun-stop go n' w' r =
+      let (h, f, s, z) = stopped v (coded cs) w₀ to q n w end-coded from g go n' true w' r refl in
       record {
         frame = frame-coded cs f;
         started = λ k. absurd (true≢false k);

@@ -23,20 +23,20 @@ module _ (v : ℕ) (cs : List (List ℕ)) (head len : ℕ) (w : List ℕ) (held 
   pub pop-variable : get_or w (v + n) 0 / 2 / 2 < v
   pop-variable = pop-fresh.0
 
-  pub popped-kept : head ≤ n → (x : ℕ) → x ≡ get_or w (v + n) 0 / 2 / 2 → Popped v cs head len w head (set w x 0)
-  popped-kept h x e =
+  pub popped-kept : head ≤ n → Popped v cs head len w head (set w (get_or w (v + n) 0 / 2 / 2) 0)
+  popped-kept h =
       let held' : WorkHeld v cs head (n + 1) w = subst (λ (m : ℕ). WorkHeld v cs head m w) len_is held in
-      rw e (record { held = unset-held v cs head n w held' h; frame = unset-frame v cs head n w held' h; same = same-trail v cs head n w held' h n })
+      record { held = unset-held v cs head n w held' h; frame = unset-frame v cs head n w held' h; same = same-trail v cs head n w held' h n }
 
   pub pop-ready : n < head → WorkHeld v cs (n + 1) len w
   pop-ready h = let e : head ≡ n + 1 = omega (arith, held.head-len) in subst (λ (m : ℕ). WorkHeld v cs m len w) e held
 
-  pub popped-down : n < head → (w₁ : List ℕ) → w₁ ≡ floated v n w → (x : ℕ) → x ≡ get_or w (v + n) 0 / 2 / 2 → Popped v cs head len w n (set w₁ x 0)
-  popped-down h w₁ e₁ x e =
+  pub popped-down : n < head → (w₁ : List ℕ) → w₁ ≡ floated v n w → Popped v cs head len w n (set w₁ (get_or w (v + n) 0 / 2 / 2) 0)
+  popped-down h w₁ e₁ =
       let h₁ = pop-ready h in
       let f : (i : ℕ) → i < 7 * v → get_or w₁ i 0 ≡ get_or w i 0 = λ i k. ap (λ (l : List ℕ). get_or l i 0) e₁ ∙ floated-front v cs n len w h₁ i k in
       let held' : WorkHeld v cs n (n + 1) w₁ = subst⁻¹ (λ (l : List ℕ). WorkHeld v cs n (n + 1) l) e₁ (subst (λ (m : ℕ). WorkHeld v cs n m (floated v n w)) len_is (floated-held v cs n len w h₁)) in
-      let e' : x ≡ get_or w₁ (v + n) 0 / 2 / 2 = e ∙ ap (λ (m : ℕ). m / 2 / 2) (sym (f (v + n) (omega (arith, held.len-v)))) in
+      let e' : get_or w (v + n) 0 / 2 / 2 ≡ get_or w₁ (v + n) 0 / 2 / 2 = ap (λ (m : ℕ). m / 2 / 2) (sym (f (v + n) (omega (arith, held.len-v)))) in
       rw e'
       (record {
         held = unset-held v cs n n w₁ held' (omega arith);

@@ -1,6 +1,6 @@
 -- A turn of going back, and its two ends.
 use mathlib.Core.Path.{◌≡◌, refl, sym, ap, ◌∙◌, subst, subst⁻¹}
-use mathlib.Core.Bool.{Bool, true, false, true≢false, false≢true}
+use mathlib.Core.Bool.{Bool, true, false, true≢false}
 use mathlib.Core.List.{List, ◌∷◌}
 use Prim.Native.Nat.{ℕ, ◌+◌, ◌-◌, ◌*◌, ◌/◌, ◌%◌, ◌≤◌, ◌<◌}
 use native.Mathlib.Numerals.{add-one}
@@ -15,16 +15,19 @@ use Rattle.propagation.proofs.Frames.{trail-length, frame-none, frame-trans}
 use Rattle.propagation.proofs.Trails.{negated-half}
 use Rattle.propagation.proofs.Pushing.{free, pushed-held, pushed-frame, pushed-trail}
 use Rattle.search.specs.Moves.{BackTo, flips, pops, NoneOpen, OpenUnder}
-use Rattle.search.specs.Search.{Popped, Lowered, Returned}
+use Rattle.search.specs.Search.{Popped, Pops, Lowered, Returned}
 use Rattle.search.proofs.Popping.{pop-fresh}
 
 -- h is the lower of head and n
 abbrev pub Level : ℕ → ℕ → ℕ → Type 0
 Level head h n = (n < head → h ≡ n) × (head ≤ n → h ≡ head)
 
-pub level-turn : (head h n h' : ℕ) → 0 < n → Level head h n → Lowered h n h' → Level head h' (n - 1)
-level-turn head h n h' some (a, b) l = (λ k. small k (ltb n head) refl, λ k. large k)
+pub level-turn : (head h n h' : ℕ) → 0 < n → Level head h n → Lowered h (n - 1 + 1) h' → Level head h' (n - 1)
+level-turn head h n h' some (a, b) lowered = (λ k. small k (ltb n head) refl, λ k. large k)
   where
+    l : Lowered h n h'
+    l = let up : n - 1 + 1 ≡ n = omega arith in subst (λ (k : ℕ). Lowered h k h') up lowered
+
     small : n - 1 < head → (c : Bool) → ltb n head ≡ c → h' ≡ n - 1
     small k true e = l.down (omega (arith, a (ltb-true n head e)))
     small k false e = l.down (omega (arith, b (ltb-false n head e), k))
@@ -58,7 +61,10 @@ module _ (v : ℕ) (cs : List (List ℕ)) (head len : ℕ) (w₀ : List ℕ) (h 
   fresh : Fresh v (t ∷ trail w v m)
   fresh = pop-fresh v cs h n w g.held some
 
-  module _ (h' : ℕ) (w' : List ℕ) (p : Popped v cs h n w h' w') where
+  module _ (h' : ℕ) (w' : List ℕ) (off : Pops v h (m + 1) w h' w') where
+    p : Popped v cs h n w h' w'
+    p = let up : m + 1 ≡ n = omega arith in subst (λ (k : ℕ). Pops v h k w h' w') up off cs g.held
+
     pub backing-turn : (t % 2 ≡ 1 → ⊥) → Backing v cs head len w₀ h' m w'
     backing-turn e =
         let even : t % 2 ≡ 0 = omega (arith, e) in
@@ -91,12 +97,9 @@ module _ (v : ℕ) (cs : List (List ℕ)) (head len : ℕ) (w₀ : List ℕ) (h 
             within = omega (arith, p.held.room);
           }
 
-      pub backing-stop : (w₂ : List ℕ) → w₂ ≡ pushed v m u 0 w' → t % 2 ≡ 1 → Level head h' m → Returned v cs head len w₀ h' n true w₂
-      backing-stop w₂ e odd level = subst (λ (k : ℕ). Returned v cs head len w₀ h' k true w₂) back-up returned
+      pub backing-stop : (w₂ : List ℕ) → w₂ ≡ pushed v m u 0 w' → t % 2 ≡ 1 → Level head h' m → Returned v cs head len w₀ h' (m + 1) true w₂
+      backing-stop w₂ e odd level = returned
         where
-          back-up : m + 1 ≡ n
-          back-up = omega arith
-
           new : trail w₂ v (m + 1) ≡ (2 * negated (t / 2) + 0) ∷ trail w v m
           new =
               ap (λ (l : List ℕ). trail l v (m + 1)) e
@@ -118,14 +121,3 @@ module _ (v : ℕ) (cs : List (List ℕ)) (head len : ℕ) (w₀ : List ℕ) (h 
                 level = λ z o. let q = (subst (OpenUnder head) top (g.under o)).0 odd in omega (arith, level.0 (omega (arith, q, trail-length v w m)));
                 closed = λ z. absurd (true≢false z);
               }
-
-pub backing-done : (v : ℕ) (cs : List (List ℕ)) (head len : ℕ) (w₀ : List ℕ) (h n : ℕ) (w : List ℕ) → Backing v cs head len w₀ h n w → n ≡ 0
-    → Returned v cs head len w₀ h n false w
-backing-done v cs head len w₀ h n w g e =
-    record {
-      held = g.held;
-      frame = g.frame;
-      back = λ z. absurd (false≢true z);
-      level = λ z. absurd (false≢true z);
-      closed = λ z. g.closed (subst⁻¹ (λ (k : ℕ). NoneOpen (trail w v k)) e tt);
-    }

@@ -13,6 +13,7 @@ use Rattle.theory.specs.Lists.{all}
 use Rattle.theory.specs.Propositional.{PropClause}
 use Rattle.theory.specs.Walk.{lowest, walked}
 use Rattle.theory.specs.Claims.Counts.{is_numbered}
+use Rattle.theory.specs.Valuation.{setting_of}
 use Rattle.allowance.specs.AllowedWalk.{ended}
 use Rattle.allowance.specs.Claims.AllowedWalk.{cut}
 use Rattle.allowance.proofs.AllowedWalk.{cut-enough, cut-stopped}
@@ -24,19 +25,15 @@ use Rattle.propagation.specs.Advance.{Calm, Propagated}
 use Rattle.propagation.proofs.Frames.{trail-length, frame-none, frame-trans}
 use Rattle.propagation.proofs.Trails.{set-nonzero, values_length}
 use Rattle.propagation.proofs.Pushing.{free, pushed-held, pushed-frame, pushed-trail, older}
-use Rattle.search.specs.declared.Outcome.{Outcome}
+use Rattle.search.specs.declared.Outcome.TheVariants.{Found, Exhausted, Stopped}
 use Rattle.search.specs.Moves.{BackTo, flips, pops, NoneOpen, OpenUnder}
-use Rattle.search.specs.Search.{partial_of, preferred, finished_with, search_answer, Returned, Started, Solved}
+use Rattle.search.specs.Search.{partial_of, preferred, Returned, Started, Solved}
 use Rattle.search.proofs.LowestUnset.{lowest-is}
 use Rattle.search.proofs.Partials.{partial}
 use Rattle.search.proofs.Kept.{frame-coded, frame-prefers}
 use Rattle.search.proofs.Walks.{AllQuiet, from_start}
 use Rattle.search.proofs.Resuming.{Whole, whole-start, whole-forces, whole_back, whole-none, whole-found, whole-choice, whole-more}
 use Rattle.search.proofs.Potential.{potential, forced-falls, choice-falls, back-falls}
-
--- the same of an outcome that is this one
-pub solved-as : {v : ℕ} {cs : List PropClause} {first : ℕ → Bool} {allowed : ℕ} {r q : Outcome} {w w' : List ℕ} → r ≡ q → Solved v cs first allowed q w w' → Solved v cs first allowed r w w'
-solved-as {v} {cs} {first} {allowed} {r} {q} {w} {w'} e s = subst⁻¹ (λ (r : Outcome). Solved v cs first allowed r w w') e s
 
 -- every open choice was made where no clause forced anything
 abbrev Grounded : ℕ → List (List ℕ) → List ℕ → Type 0
@@ -145,7 +142,7 @@ module _ (v : ℕ) (cs : List PropClause) (first : ℕ → Bool) (w₀ : List �
     frame₂ : Frame v (length ds) w₀ w₂
     frame₂ = frame-trans frame₁ r.frame
 
-    pub search-none : back ≡ false → (allowed : ℕ) → k ≤ allowed → Solved v cs first allowed (finished_with false k) w₀ w₂
+    pub search-none : back ≡ false → (allowed : ℕ) → k ≤ allowed → Solved v cs first allowed (Exhausted k) w₀ w₂
     search-none e allowed h =
         record {
           ends = ends_so v cs first allowed k none (whole-none v cs first s.numbered k us p.held.fresh (p.void clashes) (r.closed e) whole₁) h;
@@ -202,17 +199,17 @@ module _ (v : ℕ) (cs : List PropClause) (first : ℕ → Bool) (w₀ : List �
     lowest-given : lowest (partial v us) ≡ lowest (partial_of (take v w₁))
     lowest-given = ap (λ (l : List ℕ). lowest (partial_of l)) (sym p.held.gives)
 
-    pub search-found : lowest (partial_of (take v w₁)) ≡ none → (allowed : ℕ) → k ≤ allowed → Solved v cs first allowed (finished_with true k) w₀ w₁
+    pub search-found : lowest (partial_of (take v w₁)) ≡ none → (allowed : ℕ) → k ≤ allowed → Solved v cs first allowed (Found k) w₀ w₁
     search-found low allowed h =
         record {
-          ends = ap (λ (zs : List ℕ). ended (search_answer true zs) k) p.held.gives
-              ∙ ends_so v cs first allowed k (search_answer true (values v us)) (whole-found v cs first s.numbered k us p.held.fresh quiet (lowest-given ∙ low) whole₁) h;
+          ends = ap (λ (zs : List ℕ). ended (some (setting_of zs)) k) p.held.gives
+              ∙ ends_so v cs first allowed k (some (setting_of (values v us))) (whole-found v cs first s.numbered k us p.held.fresh quiet (lowest-given ∙ low) whole₁) h;
           frame = frame-coded cs frame₁;
         }
 
     module _ (x : ℕ) (low : lowest (partial_of (take v w₁)) ≡ some x) where
       -- a choice is needed, and none is left
-      pub search-stopped : (allowed : ℕ) → allowed ≤ k → Solved v cs first allowed (record { stopped = true; found = false; choices = k }) w₀ w₁
+      pub search-stopped : (allowed : ℕ) → allowed ≤ k → Solved v cs first allowed Stopped w₀ w₁
       search-stopped allowed h =
           let more = whole-more v cs first s.numbered k us p.held.fresh quiet x (lowest-given ∙ low) whole₁ in
           record { ends = sym (cut-stopped allowed (walked v cs first) (omega (arith, more, h))); frame = frame-coded cs frame₁ }

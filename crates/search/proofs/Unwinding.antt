@@ -6,7 +6,7 @@ use Prim.Native.Nat.{ℕ, suc, ◌+◌, ◌*◌, ◌/◌, ◌%◌, ◌≤◌, �
 use native.Mathlib.Numerals.{add-one}
 use native.Mathlib.Omega.{arith}
 use lib.ListN.{length, get_or, set, take, drop, length-set, length-map, take-append-drop}
-use lib.Seq.{slice, get_or-set_other, take-set-lt, drop-set-lt, drop_at, set-set, set-get_or}
+use lib.Seq.{get_or-set_other, take-set-lt, drop-set-lt, drop_at, set-set, set-get_or}
 use Rattle.propagation.specs.Weights.{changed, more, Addresses, RoomFor}
 use Rattle.theory.specs.Lists.{elem}
 use Rattle.propagation.specs.Clauses.{weight, holders}
@@ -15,7 +15,6 @@ use Rattle.propagation.specs.WorkArea.{trail, values, Fresh, falses, WorkHeld, F
 use Rattle.propagation.specs.Advance.{sinking}
 use Rattle.propagation.proofs.Frames.{trail-agree, block-frame, front_length, reweighed-front, reweighed-frame}
 use Rattle.propagation.proofs.Lives.{weight-small}
-use Rattle.propagation.proofs.Reading.{Read, start_is, end_is, changed-is}
 use Rattle.propagation.proofs.Trails.{negated-half, fresh-down, fresh-new}
 use Rattle.propagation.proofs.Holds.{distinct, addresses, reheld}
 use Rattle.search.specs.Search.{floated}
@@ -70,14 +69,6 @@ module _ (v : ℕ) (cs : List (List ℕ)) (n len : ℕ) (w : List ℕ) (held : W
 
   pub floated-held : WorkHeld v cs n len (floated v n w)
   floated-held = subst⁻¹ (λ (l : List ℕ). WorkHeld v cs n len l) floated-is (reheld v cs (n + 1) len w held n (omega (arith, held.head-len)))
-
--- the same of the numbers that the code has
-module _ (v : ℕ) (cs : List (List ℕ)) (n len : ℕ) (w : List ℕ) (held : WorkHeld v cs (n + 1) len w) (f p a b : ℕ) (r : Read v n w f p a b) where
-  pub code-raise : Addresses (RoomFor (64 * f + 1)) a a b w
-  code-raise = rw (r.literal, start_is v n w f p a b r, end_is v n w f p a b r) (raisable v cs n len w held)
-
-  pub code-floated : (w₁ : List ℕ) → w₁ ≡ changed (more (64 * f + 1)) (slice a b w) w → w₁ ≡ floated v n w
-  code-floated w₁ e = e ∙ changed-is v n w f p a b r more
 
 -- the newest entry's variable is unset
 module _ (v : ℕ) (cs : List (List ℕ)) (head n : ℕ) (w : List ℕ) (held : WorkHeld v cs head (n + 1) w) (under : head ≤ n) where

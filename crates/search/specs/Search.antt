@@ -1,5 +1,6 @@
 -- What the parts of the search ask and leave, and what the whole search answers: the theory's walk, cut off where it needs more choices than are allowed.
-use Rattle.std.specs.Prelude.{◌≡◌, Bool, true, false, cond, List, [], map, ℕ, zero, suc, ◌+◌, ◌-◌, ◌*◌, ◌≤◌, ◌<◌, eqb, length, get_or, take}
+use Rattle.std.specs.Prelude.{◌≡◌, Bool, true, false, cond, List, [], map, ℕ, zero, suc, ◌+◌, ◌-◌, ◌*◌, ◌≤◌, ◌<◌, eqb, length, get_or, take, Result, Ok, Err, Some, None}
+use Rattle.std.specs.Prelude as rust
 use Rattle.std.proofs.Math.Option.{Option, none, some}
 use Rattle.std.proofs.Math.Seq.{slice}
 use Rattle.theory.specs.Lists.{all}
@@ -14,11 +15,11 @@ use Rattle.propagation.specs.Weights.{changed, more}
 use Rattle.propagation.specs.WorkArea.{trail, WorkHeld, Prefers, Loaded, Frame}
 use Rattle.propagation.specs.Forcing.{Forces}
 use Rattle.propagation.specs.Advance.{sinking, Calm}
-use Rattle.propagation.specs.declared.units.Seen.{Seen}
-use Rattle.search.specs.declared.Lowest.{Lowest}
-use Rattle.search.specs.declared.Lowest.TheVariants.{Variable, AllSet}
-use Rattle.search.specs.declared.Back.{Back}
+use Rattle.indices.specs.declared.PropVar.{PropVar}
+use Rattle.propagation.specs.declared.Front.{Front}
+use Rattle.propagation.specs.declared.units.Clash.{Clash}
 use Rattle.search.specs.declared.Outcome.{Outcome}
+use Rattle.search.specs.declared.Outcome.TheVariants.{Found, Exhausted, Stopped}
 use Rattle.search.specs.Moves.{BackTo, NoneOpen, OpenUnder}
 
 -- a number of the values' region as the theory has it: 0 unset, 1 yes, else no
@@ -30,18 +31,11 @@ partial_value (suc (suc z)) = some false
 abbrev pub partial_of : List ℕ → Partial
 partial_of zs = map partial_value zs
 
--- a search that was not stopped
-abbrev pub finished_with : Bool → ℕ → Outcome
-finished_with found choices = record { stopped = false; found = found; choices = choices }
-
--- what the search found, from whether it found a valuation and the values' region
-abbrev pub search_answer : Bool → List ℕ → Option (List ℕ)
-search_answer true zs = some (setting_of zs)
-search_answer false zs = none
-
--- how the search says that the walk ends, with the choices that it made
+-- how the search says that the walk ends: where it found a valuation, that of the values' region, with the choices that it made
 abbrev pub end_told : Outcome → List ℕ → WalkEnd
-end_told r zs = cond r.stopped stopped (ended (search_answer r.found zs) r.choices)
+end_told (Found choices) zs = ended (some (setting_of zs)) choices
+end_told (Exhausted choices) zs = ended none choices
+end_told Stopped zs = stopped
 
 -- From w to w', the search ended as the walk over the clauses does with so many choices allowed, and changed only the values, the trail and the weights.
 pub record Solved (v : ℕ) (cs : List PropClause) (first : ℕ → Bool) (allowed : ℕ) (r : Outcome) (w w' : List ℕ) : Type 0 where
@@ -85,17 +79,19 @@ pub record Begun (v : ℕ) (cs : List PropClause) (first : ℕ → Bool) (len : 
   pub failed : clash ≡ true → walked v cs first ≡ record { answer = none; choices = 0 }
 
 -- of whatever clauses and first values the work area is loaded with
-abbrev pub Begins : ℕ → ℕ → List ℕ → Seen → List ℕ → Type 0
-Begins v m w seen w' =
-    (cs : List PropClause) (first : ℕ → Bool) → Loaded v cs first w → length cs ≡ m → Begun v cs first seen.len seen.clash w w'
+abbrev pub Begins : ℕ → ℕ → List ℕ → Result ℕ Clash → List ℕ → Type 0
+Begins v m w (Ok len) w' =
+    (cs : List PropClause) (first : ℕ → Bool) → Loaded v cs first w → length cs ≡ m → Begun v cs first len false w w'
+Begins v m w (Err clash) w' =
+    (cs : List PropClause) (first : ℕ → Bool) → Loaded v cs first w → length cs ≡ m → Begun v cs first clash.0 true w w'
 
 -- the theory's answer to which variable is the lowest unset one, as the code has it
-abbrev pub lowest_of : Option ℕ → Lowest
-lowest_of none = AllSet
-lowest_of (some x) = Variable (record { 0 = x })
+abbrev pub lowest_of : Option ℕ → rust.Option PropVar
+lowest_of none = None
+lowest_of (some x) = Some (record { 0 = x })
 
 -- the lowest variable that has no value in the values' region
-abbrev pub lowest_unset : List ℕ → Lowest
+abbrev pub lowest_unset : List ℕ → rust.Option PropVar
 lowest_unset zs = lowest_of (lowest (partial_of zs))
 
 -- the literal of variable x that is tried first
@@ -130,7 +126,9 @@ pub record Returned (v : ℕ) (cs : List (List ℕ)) (head len : ℕ) (w : List 
   pub level : found ≡ true → OpenUnder head (trail w v len) → head' + 1 ≡ len'
   pub closed : found ≡ false → NoneOpen (trail w v len)
 
--- of whatever clauses the work area holds
-abbrev pub Returns : ℕ → ℕ → ℕ → List ℕ → Back → List ℕ → Type 0
-Returns v head len w back w' =
-    (cs : List (List ℕ)) → WorkHeld v cs head len w → Returned v cs head len w back.head back.len back.found w'
+-- of whatever clauses the work area holds; where no choice was open the trail is empty
+abbrev pub Returns : ℕ → ℕ → ℕ → List ℕ → rust.Option Front → List ℕ → Type 0
+Returns v head len w (Some back) w' =
+    (cs : List (List ℕ)) → WorkHeld v cs head len w → Returned v cs head len w back.head back.len true w'
+Returns v head len w None w' =
+    (cs : List (List ℕ)) → WorkHeld v cs head len w → Returned v cs head len w 0 0 false w'

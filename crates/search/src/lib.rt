@@ -1,51 +1,40 @@
 // The search: unit propagation, a choice for the lowest unset variable, and back to the latest choice whose other value is untried.
 #![tactic(auto)]
 
-ghost use Rattle.std.specs.Prelude.{◌≡◌, ◌+◌, ◌<◌, take};
+ghost use Rattle.std.specs.Prelude.{◌≡◌, ◌+◌, ◌<◌, ◌^◌, eqb, length};
+ghost use Rattle.std.specs.List.{position};
 ghost use Rattle.propagation.specs.WorkArea.{Regions};
 ghost use Rattle.propagation.specs.Advance.{Ready};
-ghost use Rattle.search.specs.Search.{lowest_unset, preferred, floated, Lowered, Pops, Returns, finished_with, Startable, Searches, Loadable, Begins, Solves};
+ghost use Rattle.search.specs.Search.{lowest_unset, preferred, floated, Lowered, Pops, Returns, Startable, Searches, Loadable, Begins, Solves};
 
 use indices::PropVar;
 use propagation::literals::{literal, negated};
+use propagation::units::Clash;
 use propagation::weights::Weight;
-use propagation::{units, weights};
+use propagation::{Front, propagate, units, weights};
 
-// Where going back ends: how many entries of the trail are false in their clauses, the trail's length, and whether a choice was open.
+// How a search ends: a valuation was found or there is none, after so many choices, or it was stopped where one more choice was needed than allowed.
 #[derive(Drop)]
-pub struct Back {
-    pub head: usize,
-    pub len: usize,
-    pub found: bool,
+pub enum Outcome {
+    Found(u64),
+    Exhausted(u64),
+    Stopped,
 }
 
-// How a search ends: stopped where one more choice was needed than allowed, else whether all variables could be set; and the choices made.
-#[derive(Drop)]
-pub struct Outcome {
-    pub stopped: bool,
-    pub found: bool,
-    pub choices: u64,
-}
-
-// The lowest unset variable, where there is one.
-#[derive(Drop)]
-pub enum Lowest {
-    Variable(PropVar),
-    AllSet,
-}
-
-pub fn unset(work: &[u32], v: usize) -> Lowest
-    requires { Regions v work.now }
-    ensures { result ≡ lowest_unset (take v work.now) }
+// The lowest variable that has no value, where there is one.
+pub fn unset(values: &[u32]) -> Option<PropVar>
+    requires { length values.now < 2 ^ 32 }
+    ensures { result ≡ lowest_unset values.now }
 {
-    let mut variable = 0;
-    while variable < v {
-        if work[variable] == 0 {
-            return Lowest::Variable(PropVar(variable as u32));
-        }
-        variable += 1;
-    }
-    Lowest::AllSet
+    let variable = first_zero(values)?;
+    Some(PropVar(variable as u32))
+}
+
+// The place of the first number that is 0.
+fn first_zero(values: &[u32]) -> Option<usize>
+    ensures { result ≡ position (λ z. eqb z 0) values.now }
+{
+    values.iter().position(|value| *value == 0)
 }
 
 // The literal of the variable that is tried first.
@@ -64,9 +53,9 @@ pub fn recall(work: &mut [u32], v: usize, place: usize, len: usize)
     ensures { work.new ≡ floated v place work.old }
 {
     let against = negated(work[v + place] / 2);
-    let at = 2 * v + 2 * weights::wide(against);
-    let from = weights::wide(work[at]);
-    let to = weights::wide(work[at + 1]);
+    let at = 2 * v + 2 * against as usize;
+    let from = work[at] as usize;
+    let to = work[at + 1] as usize;
     weights::raise(work, from, to, Weight::BASE * against + 1);
 }
 
@@ -79,7 +68,7 @@ pub fn pop(work: &mut [u32], v: usize, head: usize, len: usize) -> usize
     ensures pops { Pops v head len work.old result work.new }
 {
     let place = len - 1;
-    let variable = weights::wide(work[v + place] / 2 / 2);
+    let variable = (work[v + place] / 2 / 2) as usize;
     if place < head {
         recall(work, v, place, len);
         work[variable] = 0;
@@ -89,43 +78,24 @@ pub fn pop(work: &mut [u32], v: usize, head: usize, len: usize) -> usize
     head
 }
 
-// Goes back to the latest choice whose other value is untried, and gives it that value.
-pub fn backtrack(work: &mut [u32], v: usize, head: usize, len: usize) -> Back
-    requires { Ready v head len work.old }
-    ensures { Returns v head len work.old result work.new }
+// Goes back to the latest choice whose other value is untried, and gives it that value; none is open where nothing is answered.
+pub fn backtrack(work: &mut [u32], v: usize, front: Front) -> Option<Front>
+    requires { Ready v front.head front.len work.old }
+    ensures { Returns v front.head front.len work.old result work.new }
 {
-    let mut level = head;
-    let mut entries = len;
-    while 0 < entries {
-        let place = entries - 1;
+    let mut level = front.head;
+    for place in (0..front.len).rev() {
         let top = work[v + place];
-        level = pop(work, v, level, entries);
+        level = pop(work, v, level, place + 1);
         if top % 2 == 1 {
             units::push(work, v, place, negated(top / 2), 0);
-            return Back {
+            return Some(Front {
                 head: level,
-                len: entries,
-                found: true,
-            };
+                len: place + 1,
+            });
         }
-        entries = place;
     }
-    Back {
-        head: level,
-        len: entries,
-        found: false,
-    }
-}
-
-// A search that was not stopped.
-pub fn finished(found: bool, choices: u64) -> Outcome
-    ensures { result ≡ finished_with found choices }
-{
-    Outcome {
-        stopped: false,
-        found,
-        choices,
-    }
+    None
 }
 
 // Searches from a trail of len entries that has no choices, with so many choices allowed. What a choice is: a value put where nothing is forced.
@@ -133,62 +103,45 @@ pub fn search(work: &mut [u32], v: usize, len: usize, allowed: u64) -> Outcome
     requires { Startable v len work.old }
     ensures { Searches v len allowed work.old result work.new }
 {
-    let mut head = 0;
-    let mut entries = len;
+    let mut front = Front { head: 0, len };
     let mut choices = 0;
     loop {
-        let front = propagation::propagate(work, v, head, entries);
-        head = front.head;
-        entries = front.len;
-        if front.clash {
-            let back = backtrack(work, v, head, entries);
-            if !back.found {
-                return finished(false, choices);
-            }
-            head = back.head;
-            entries = back.len;
-        } else {
-            let Lowest::Variable(variable) = unset(work, v) else {
-                return finished(true, choices);
-            };
-            if allowed <= choices {
-                return Outcome {
-                    stopped: true,
-                    found: false,
-                    choices,
+        match propagate(work, v, front) {
+            Err(clash) => {
+                let Some(back) = backtrack(work, v, clash) else {
+                    return Outcome::Exhausted(choices);
                 };
+                front = back;
             }
-            units::push(work, v, entries, first(work, v, variable), 1);
-            entries += 1;
-            choices += 1;
+            Ok(entries) => {
+                let Some(variable) = unset(&work[..v]) else {
+                    return Outcome::Found(choices);
+                };
+                if allowed <= choices {
+                    return Outcome::Stopped;
+                }
+                units::push(work, v, entries, first(work, v, variable), 1);
+                front = Front {
+                    head: entries,
+                    len: entries + 1,
+                };
+                choices += 1;
+            }
         }
     }
 }
 
 // Looks at each of the m clauses once, before any literal is false: no literal's block leads to a clause of one literal, or none.
-pub fn begin(work: &mut [u32], v: usize, m: usize) -> units::Seen
+pub fn begin(work: &mut [u32], v: usize, m: usize) -> Result<usize, Clash>
     requires { Loadable v m work.old }
     ensures { Begins v m work.old result work.new }
 {
     let from = 7 * v;
-    let to = from + m;
     let mut entries = 0;
-    let mut address = from;
-    while address < to {
-        let seen = units::visit(work, v, address, entries);
-        entries = seen.len;
-        if seen.clash {
-            return units::Seen {
-                len: entries,
-                clash: true,
-            };
-        }
-        address += 1;
+    for address in from..from + m {
+        entries = units::visit(work, v, address, entries)?;
     }
-    units::Seen {
-        len: entries,
-        clash: false,
-    }
+    Ok(entries)
 }
 
 // The whole search in a work area that holds m clauses over v variables, with so many choices allowed: where a satisfying valuation was found, the values are it.
@@ -196,10 +149,8 @@ pub fn solve(work: &mut [u32], v: usize, m: usize, allowed: u64) -> Outcome
     requires { Loadable v m work.old }
     ensures { Solves v m allowed work.old result work.new }
 {
-    let seen = begin(work, v, m);
-    if seen.clash {
-        return finished(false, 0);
+    match begin(work, v, m) {
+        Ok(len) => search(work, v, len, allowed),
+        Err(_) => Outcome::Exhausted(0),
     }
-    let len = seen.len;
-    search(work, v, len, allowed)
 }

@@ -1,6 +1,7 @@
 -- What Setting answers and leaves at each of its refusals, and where it writes.
 use Prim.Native.Nat.{ℕ, ◌≤◌, ◌<◌}
-use mathlib.Core.Path.{◌≡◌, refl, sym, ap, ◌∙◌}
+use mathlib.Core.Path.{◌≡◌, refl, ap, ◌∙◌}
+use mathlib.Core.Bool.{false}
 use mathlib.Core.List.{List}
 use lib.Dec.{leb}
 use lib.ListN.{take}
@@ -8,23 +9,18 @@ use Rattle.theory.specs.Syntax.{Signature}
 use Rattle.theory.specs.Cells.{cell_count}
 use Rattle.theory.specs.Propositional.{prop_count}
 use Rattle.theory.specs.Valuation.{valuation_of}
-use Rattle.theory.specs.Refusals.{Refusal, answer, refused, at_line, needing, ◌>>=◌, check}
-use Rattle.theory.specs.Problem.{read_problem}
+use Rattle.theory.specs.Refusals.{Refusal, Answer, answer, refused, needing, ◌>>=◌, check}
+use Rattle.theory.specs.Problem as theory
 use Rattle.theory.specs.CaseText.{Case, read_case}
 use Rattle.theory.specs.Columns.{placed_problem, placed_case}
 use Rattle.theory.specs.Operations.{setting_text}
 use Rattle.theory.proofs.Tests.{leb-of-≤, leb-of-<}
 use Rattle.theory.proofs.Answers.{bind-step, bind-refused, check-of-true, check-of-false}
-use Rattle.theory.proofs.CaseText.{read-exactly}
-use Rattle.theory.proofs.PlacedReading.{placed-case}
-use Rattle.syntax.specs.declared.size.DomainSize.{DomainSize}
+use Rattle.syntax.specs.declared.limits.Problem.{Problem}
 use Rattle.syntax.specs.Signatures.{signature_in}
-use Rattle.problem.specs.declared.sheet.Reading.{Reading}
-use Rattle.problem.specs.Problems.{problem_in, reading_of}
-use Rattle.problem.proofs.SheetRead.{sheet-placed}
-use Rattle.cases.specs.declared.reading.CaseReading.{CaseReading}
-use Rattle.cases.specs.declared.reading.CaseReading.TheVariants.{Read, Refused}
-use Rattle.cases.specs.Reading.{case_in}
+use Rattle.problem.specs.Problems.{problem_in}
+use Rattle.problem.specs.Modes.{read_in}
+use Rattle.columns.proofs.CasesOpened.{sheet-stops, case-stops, goes_on}
 use Rattle.settings.specs.Cells.{cells_text}
 use Rattle.settings.proofs.Blocks.{first-cells}
 
@@ -38,39 +34,28 @@ module _ (s : ℕ) (g : Signature) (cells : List ℕ) (room : ℕ) where
   unfolding cells_text
   bytes-said h = bind-step _ _ tt _ (check-of-true _ (needing 11 (prop_count s g)) (leb-of-≤ (prop_count s g) room h)) refl
 
--- the whole call: a sheet that is refused
-pub sheet-refusal : (sheet case : List ℕ) (room : ℕ) (q : Refusal) → placed_problem sheet ≡ refused q → setting_text sheet case room ≡ refused q
-unfolding setting_text
-sheet-refusal sheet case room q e = bind-refused _ _ q e
+-- the whole call: what is left once sheet and case are accepted
+abbrev setting_from : ℕ → theory.Problem → Case → Answer (List ℕ)
+setting_from room p k = do
+  _ ← check (leb (prop_count k.size p.symbols) room) (needing 11 (prop_count k.size p.symbols))
+  answer (valuation_of k.size p.symbols k.values)
 
--- a sheet that was accepted
-module _ (sheet case : List ℕ) (room : ℕ) (r : Reading) (read : reading_of sheet r ≡ read_problem sheet) (ok : r.fault ≡ 0) where
-  abbrev g : Signature
-  g = signature_in sheet r.problem.signature
+module _ (sheet case : List ℕ) (room : ℕ) where
+  pub sheet-refusal : (q : Refusal) → placed_problem sheet ≡ refused q → setting_text sheet case room ≡ refused q
+  unfolding setting_text
+  sheet-refusal q e = sheet-stops (setting_from room) sheet case q e
 
-  accepted : placed_problem sheet ≡ answer (problem_in sheet r.problem)
-  accepted = sheet-placed sheet r read ok
+  -- a sheet that was accepted
+  module _ (p : Problem) (read : read_in false sheet ≡ answer (problem_in sheet p)) where
+    abbrev g : Signature
+    g = signature_in sheet p.signature
 
-  pub case-refusal : (q : Refusal) → placed_case g case ≡ refused q → setting_text sheet case room ≡ refused q
-  unfolding setting_text problem_in
-  case-refusal q e = bind-step _ _ _ _ accepted (bind-refused _ _ q e)
+    pub case-refusal : (q : Refusal) → placed_case g case ≡ refused q → setting_text sheet case room ≡ refused q
+    unfolding setting_text
+    case-refusal q e = case-stops (setting_from room) sheet case p read q e
 
-  module _ (cells : List ℕ) (k : CaseReading) (e : case_in g k cells ≡ read_case g case) where
-    told : (j : CaseReading) → k ≡ j → read_case g case ≡ case_in g j cells
-    told j q = sym e ∙ ap (λ (k : CaseReading). case_in g k cells) q
-
-    pub case-unread : (l : ℕ) → k ≡ Refused l → read_case g case ≡ refused (at_line 12 l)
-    case-unread l q = told (Refused l) q
-
-    module _ (d : DomainSize) (q : k ≡ Read d) where
-      abbrev case_read : Case
-      case_read = record { size = d.0; values = take (cell_count d.0 g) cells }
-
-      pub size-within : d.0 ≤ 8
-      size-within = (read-exactly g case case_read (told (Read d) q)).within
-
-      pub cells_left : setting_text sheet case room ≡ cells_text d.0 g cells room
-      unfolding setting_text cells_text problem_in
-      cells_left =
-          bind-step _ _ _ _ accepted (bind-step _ _ _ _ (placed-case g case case_read (told (Read d) q)) refl)
-          ∙ ap (λ (σ : List ℕ). check (leb (prop_count d.0 g) room) (needing 11 (prop_count d.0 g)) >>= (λ (u : Unit {0}). answer σ)) (first-cells d.0 g cells)
+    pub cells_left : (s : ℕ) (cells : List ℕ) → read_case g case ≡ answer (record { size = s; values = take (cell_count s g) cells }) → setting_text sheet case room ≡ cells_text s g cells room
+    unfolding setting_text cells_text problem_in
+    cells_left s cells e =
+        goes_on (setting_from room) sheet case p read (record { size = s; values = take (cell_count s g) cells }) e
+        ∙ ap (λ (σ : List ℕ). check (leb (prop_count s g) room) (needing 11 (prop_count s g)) >>= (λ (u : Unit {0}). answer σ)) (first-cells s g cells)

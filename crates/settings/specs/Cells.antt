@@ -4,7 +4,7 @@ use Rattle.theory.specs.Syntax.{Signature}
 use Rattle.theory.specs.Propositional.{prop_count}
 use Rattle.theory.specs.Refusals.{Answer, answer, needing, ◌>>=◌, check}
 use Rattle.theory.specs.Valuation.{valuation_of}
-use Rattle.answers.specs.declared.WriteAnswer.{WriteAnswer}
+use Rattle.answers.specs.Answers.{WriteAnswer}
 use Rattle.answers.specs.Calls.{WritingCall}
 
 -- 11, or the valuation of the first cells, given an output of so many bytes

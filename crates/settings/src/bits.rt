@@ -29,14 +29,12 @@ pub fn put_valuation(
     ensures { (sheet : List ℕ) → out.new ≡ over (valuation_of size.0 (signature_in sheet signature) cells.now) out.old }
 {
     let mut base: usize = 0;
-    let mut i: usize = 0;
-    while i < signature.count {
+    for i in 0..signature.count {
         let symbol = signature.symbols[i];
         let end = base + power(size.0, symbol.arity as usize);
         let from = n.bases[i];
         put_block(out, PropVar(from), symbol.function, &cells[base..end], size);
         base = end;
-        i += 1;
     }
 }
 
@@ -59,13 +57,10 @@ fn put_results(out: &mut [u8], from: PropVar, table: &[u8], size: DomainSize)
     requires size_in_bounds { from.0 + length table.now * size.0 ≤ length out.old }
     ensures { out.new ≡ put out.old from.0 (bits_of_cells size.0 (replicate (length table.now) syntax.function) table.now) }
 {
-    let width = size.0 as u32;
     let mut at = from.0;
-    let mut r: usize = 0;
-    while r < table.len() {
-        put_result(out, PropVar(at), Element(table[r]), size);
-        at += width;
-        r += 1;
+    for value in table {
+        put_result(out, PropVar(at), Element(*value), size);
+        at += size.0 as u32;
     }
 }
 
@@ -75,21 +70,7 @@ fn put_result(out: &mut [u8], from: PropVar, value: Element, size: DomainSize)
     ensures { out.new ≡ put out.old from.0 (one_hot size.0 value.0) }
 {
     let first = from.0 as usize;
-    let width = size.0;
-    let mut d: usize = 0;
-    while d < width {
-        let result = d as u8;
-        out[first + d] = result_byte(value, Element(result));
-        d += 1;
+    for d in 0..size.0 {
+        out[first + d] = u8::from(value.0 as usize == d);
     }
-}
-
-// The byte of a result.
-fn result_byte(value: Element, res: Element) -> u8
-    ensures { result ≡ cond (eqb value.0 res.0) 1 0 }
-{
-    if value.0 == res.0 {
-        return 1;
-    }
-    0
 }

@@ -7,10 +7,8 @@ ghost use Rattle.settings.specs.Cells.{CellsCall};
 
 use crate::bits::put_valuation;
 use answers::{WriteAnswer, needing};
-use cases::reading::{CaseReading, read_case};
-use columns::case::case_refusal;
-use columns::sheet::sheet_refusal;
-use problem::sheet::read_problem;
+use columns::opened::{open_case, open_sheet};
+use syntax::faults::Fault;
 use syntax::limits::Problem;
 use syntax::signature::Signature;
 use syntax::size::DomainSize;
@@ -20,19 +18,10 @@ use valuations::numbering::numbering_of;
 pub fn write_case_setting(sheet: &[u8], case: &[u8], output: &mut [u8]) -> WriteAnswer
     ensures { SettingCall sheet.now case.now result output.old output.new }
 {
-    let r = read_problem(sheet);
-    if r.fault != 0 {
-        return WriteAnswer::Refused(sheet_refusal(sheet, r.fault, r.line));
-    }
-    let p = r.problem;
-    let signature = p.signature;
+    let p = open_sheet(sheet, false)?;
     let mut cells = [0; Problem::MAX_CELLS];
-    match read_case(case, sheet, signature, &mut cells) {
-        CaseReading::Refused(line) => {
-            WriteAnswer::Refused(case_refusal(case, sheet, signature, line))
-        }
-        CaseReading::Read(size) => write_cells(&cells, signature, size, output),
-    }
+    let size = open_case(sheet, p.signature, case, &mut cells)?;
+    write_cells(&cells, p.signature, size, output)
 }
 
 // 11, or the valuation of the interpretation that the first cells are.
@@ -48,8 +37,8 @@ fn write_cells(
     let n = numbering_of(signature, size);
     let length = n.count as usize;
     if output.len() < length {
-        return WriteAnswer::Refused(needing(11, length));
+        return Err(needing(Fault::OutputLength, length));
     }
     put_valuation(output, cells, signature, n, size);
-    WriteAnswer::Written(length)
+    Ok(length)
 }

@@ -18,6 +18,7 @@ use Rattle.theory.proofs.Lists.{all_append}
 use Rattle.theory.proofs.Declared.{predicate_of→}
 use Rattle.syntax.specs.Codes.{plus_code, equals_code, code_of, code_word}
 use Rattle.syntax.proofs.Codes.{code_of-word_of}
+use Rattle.lifting.specs.declared.table.Table.{Table}
 use Rattle.lifting.specs.declared.terms.AllLifted.{AllLifted}
 use Rattle.lifting.specs.Reading.{words_from, TermsThere, TermsLifted}
 use Rattle.lifting.proofs.Words.{first_below, first_word, first-after}
@@ -26,7 +27,8 @@ use Rattle.shallow.specs.declared.literals.Literal.{Literal}
 use Rattle.shallow.specs.declared.literals.Lifting.{Lifting}
 use Rattle.shallow.specs.Placed.{placed_variable}
 use Rattle.shallow.specs.Shallow.{with_literal, LiteralThere, EqualityThere, LiteralAdded, LiteralMade, EqualityMade}
-use Rattle.shallow.proofs.Written.{three, literal-added, arguments-right}
+use Rattle.shallow.specs.Literals.{three}
+use Rattle.shallow.proofs.Written.{literal-added, arguments-right}
 
 -- the code of a sign says which it is
 sign-code : (n : ℕ) (b : Bool) → code_word n ≡ sign b → eqb n plus_code ≡ b
@@ -165,21 +167,21 @@ module _ {codes place arities : List ℕ} {l : Lifting} (s : LiteralThere codes 
           room = omega (arith, s.room);
         }
 
-    pub predicate-made : (r : AllLifted) → TermsLifted predicate-there r
+    pub predicate-made : (r : AllLifted) (m : Table) → TermsLifted predicate-there r m
         → LiteralMade s
-        (with_literal l (record { sign = eqb (get_or codes l.next 0) plus_code; shape = Predicate (get_or codes (l.next + 1) 0) }) r.variables r.table r.next)
-    predicate-made r e =
+        (with_literal l (record { sign = eqb (get_or codes l.next 0) plus_code; shape = Predicate (get_or codes (l.next + 1) 0); arguments = r.variables }) m r.next)
+    predicate-made r m e =
         let ts : Terms = q.arguments in
         let more : List Term = add_terms s.found (all_function_terms ts) in
-        let c : Literal = record { sign = eqb (get_or codes l.next 0) plus_code; shape = Predicate p } in
+        let c : Literal = record { sign = eqb (get_or codes l.next 0) plus_code; shape = Predicate p; arguments = r.variables } in
         let k : theory.Literal = record { sign = s.literal.sign; atom = holds p ts } in
         let arguments : map new (take (symbol_at g p).arity (three r.variables)) ≡ map (placed_variable xs) (variables_for more ts) =
         arguments-right g s.source.small xs more ts p r.variables q.arity e.variables in
         let end : r.next ≡ l.next + suc (suc (length (terms_words ts))) = omega (arith, e.next) in
-        subst (λ (a : Atom). LiteralAdded g xs s.found s.done l (record { sign = s.literal.sign; atom = a }) (l.next + suc (length (atom_words a))) (with_literal l c r.variables r.table r.next))
+        subst (λ (a : Atom). LiteralAdded g xs s.found s.done l (record { sign = s.literal.sign; atom = a }) (l.next + suc (length (atom_words a))) (with_literal l c m r.next))
         (sym q.is)
-        (subst (λ (i : ℕ). LiteralAdded g xs s.found s.done l k i (with_literal l c r.variables r.table r.next)) end
-        (literal-added g s.source.small xs s.found s.done l s.made s.space k c r.variables
+        (subst (λ (i : ℕ). LiteralAdded g xs s.found s.done l k i (with_literal l c m r.next)) end
+        (literal-added g s.source.small xs s.found s.done l s.made s.space k c
         (ap (λ (b : Bool). record { sign = b; atom = flat_predicate p (map new (take (symbol_at g p).arity (three r.variables))) }) signed
         ∙ ap (λ (ys : List FlatVariable). record { sign = s.literal.sign; atom = flat_predicate p ys }) arguments)
-        r.table e.lifts r.next))
+        m e.lifts r.next))

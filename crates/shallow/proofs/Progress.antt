@@ -25,10 +25,11 @@ use Rattle.syntax.proofs.Clauses.{clause_ok-clause_in, clause_words-clause_in, v
 use Rattle.syntax.proofs.Places.{letters-below}
 use Rattle.theory.proofs.Distinct.{length-distinct}
 use Rattle.merging.specs.Merged.{Merged}
+use Rattle.lifting.specs.Rows.{blank_row}
 use Rattle.lifting.specs.Lifts.{Holds, Lifts}
 use Rattle.lifting.specs.Reading.{Source}
 use Rattle.shallow.specs.declared.literals.Lifting.{Lifting}
-use Rattle.shallow.specs.Literals.{no_literal}
+use Rattle.shallow.specs.Literals.{blank_literal}
 use Rattle.shallow.specs.Flattenable.{Flattenable}
 use Rattle.shallow.specs.Shallow.{started, Made, LiteralThere, LiteralMade, ClauseLifted}
 
@@ -198,11 +199,10 @@ module _ {arities : List ℕ} {m : ClauseWords} (s : Flattenable arities m) wher
           absurd (omega (arith, ap length w, length-append (clause_words p.done) (clause_words (k ∷ ks)), length-words_in m fits, p.next))
 
 -- at the beginning none is
-none-holds : (ys : List ℕ) → Holds ys [] (record { functions = replicate 64 0; arguments = replicate 192 0; count = 0 })
+none-holds : (ys : List ℕ) → Holds ys [] (record { rows = replicate 64 blank_row; count = 0 })
 none-holds ys =
     record {
-      functions = length-replicate {A = ℕ} 64 0;
-      arguments = length-replicate {A = ℕ} 192 0;
+      rows = length-replicate 64 blank_row;
       count = refl;
       function = λ i l. absurd (omega arith);
       argument = λ i j l k. absurd (omega arith);
@@ -220,7 +220,7 @@ progress_start {arities} {m} s owns e =
       next = refl;
       room = omega arith;
       lifts = record { holds = none-holds (variables_in m); applied = refl; ok = refl; own = refl; closed = refl; once = refl };
-      made = record { literals = length-replicate 16 no_literal; arguments = length-replicate {A = ℕ} 48 0; count = refl; made = refl; covered = refl };
+      made = record { literals = length-replicate 16 blank_literal; count = refl; made = refl; covered = refl };
     }
 
 -- Step 1 keeps clause words that can be flattened so.

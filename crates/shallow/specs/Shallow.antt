@@ -1,41 +1,41 @@
 -- The literals made shallow so far, and what the next one adds.
-use Rattle.std.specs.Prelude.{ℕ, ◌+◌, ◌*◌, ◌≤◌, ◌<◌, ◌≡◌, Bool, true, List, [], ◌∷◌, ◌++◌, map, length, get_or, set, replicate}
+use Rattle.std.specs.Prelude.{ℕ, ◌+◌, ◌≤◌, ◌<◌, ◌≡◌, Bool, true, List, [], ◌∷◌, ◌++◌, map, length, set, replicate}
 use Rattle.theory.specs.Lists.{all, up_to}
 use Rattle.theory.specs.Syntax.{Signature, Term, equal, Clause, term_variables, atom_variables, variables, term_ok, atom_ok}
 use Rattle.theory.specs.Syntax as theory
 use Rattle.theory.specs.Grammar.{Word, sign, term_words, atom_words}
-use Rattle.theory.specs.Problem.{max_words, max_literals, max_arity}
+use Rattle.theory.specs.Problem.{max_words, max_literals}
 use Rattle.theory.specs.Flattening.{merged, turned_atom, turned, to_lift, add_terms, lifted_terms, shallow}
 use Rattle.theory.specs.Lifted.{within, covered_atom}
 use Rattle.syntax.specs.declared.words.ClauseWords.{ClauseWords}
 use Rattle.syntax.specs.Codes.{clause_in}
 use Rattle.lifting.specs.declared.table.Table.{Table}
+use Rattle.lifting.specs.declared.terms.Reading.{Reading}
+use Rattle.lifting.specs.Rows.{blank_row}
 use Rattle.lifting.specs.Lifts.{Lifts}
 use Rattle.lifting.specs.Reading.{Source, words_from}
 use Rattle.shallow.specs.declared.literals.Literal.{Literal}
 use Rattle.shallow.specs.declared.literals.Lifting.{Lifting}
 use Rattle.shallow.specs.Placed.{placed_literal}
-use Rattle.shallow.specs.Literals.{no_literal, literal_in}
+use Rattle.shallow.specs.Literals.{blank_literal, literal_in}
 use Rattle.shallow.specs.Flattenable.{Flattenable}
 
 -- before the first literal
 unfoldable pub started : ℕ → Lifting
 started owns =
     record {
-      literals = replicate max_literals no_literal;
-      arguments = replicate (max_literals * max_arity) 0;
+      literals = replicate max_literals blank_literal;
       count = 0;
       owns = owns;
-      table = record { functions = replicate max_words 0; arguments = replicate (max_words * max_arity) 0; count = 0 };
+      table = record { rows = replicate max_words blank_row; count = 0 };
       next = 0;
     }
 
--- one literal more, with its arguments and the lifted terms after it
-abbrev pub with_literal : Lifting → Literal → List ℕ → Table → ℕ → Lifting
-with_literal l k xs t next =
+-- one literal more, and the lifted terms after it
+abbrev pub with_literal : Lifting → Literal → Table → ℕ → Lifting
+with_literal l k t next =
     record {
       literals = set l.literals l.count k;
-      arguments = set (set (set l.arguments (l.count * 3) (get_or xs 0 0)) (l.count * 3 + 1) (get_or xs 1 0)) (l.count * 3 + 2) (get_or xs 2 0);
       count = l.count + 1;
       owns = l.owns;
       table = t;
@@ -45,9 +45,8 @@ with_literal l k xs t next =
 -- the literals `done` are made shallow with the terms found, and what is to be lifted from them is found
 pub record Made (g : Signature) (xs : List ℕ) (found : List Term) (done : Clause) (l : Lifting) : Type 0 where
   pub literals : length l.literals ≡ max_literals
-  pub arguments : length l.arguments ≡ max_literals * max_arity
   pub count : l.count ≡ length done
-  pub made : map (literal_in g l.literals l.arguments) (up_to l.count) ≡ map (λ (k : theory.Literal). placed_literal xs (shallow found (turned k))) done
+  pub made : map (literal_in g l.literals) (up_to l.count) ≡ map (λ (k : theory.Literal). placed_literal xs (shallow found (turned k))) done
   pub covered : all (λ (k : theory.Literal). covered_atom found (turned_atom k.atom)) done ≡ true
 
 -- a literal stands at the place reached
@@ -82,6 +81,13 @@ pub record EqualityThere (codes place arities : List ℕ) (l : Lifting) (b : Boo
   pub done : Clause
   pub made : Made source.signature source.variables found done l
   pub space : l.count < max_literals
+
+-- the same of what is lent
+abbrev pub LiteralAt : Reading → Lifting → Type 0
+LiteralAt r l = LiteralThere r.words.now r.place.now r.arities.now l
+
+abbrev pub EqualityAt : Reading → Lifting → Bool → ℕ → Type 0
+EqualityAt r l b at = EqualityThere r.words.now r.place.now r.arities.now l b at
 
 -- the literal k is made shallow and what is to be lifted from it is found, its words ending at `end`
 pub record LiteralAdded (g : Signature) (xs : List ℕ) (found : List Term) (done : Clause) (l : Lifting) (k : theory.Literal) (end : ℕ) (r : Lifting) : Type 0 where

@@ -2,17 +2,17 @@
 ghost use Rattle.std.specs.Prelude.{◌≡◌, ◌+◌, ◌<◌, ◌≤◌, get_or};
 ghost use Rattle.theory.specs.Problem.{max_words, max_literals};
 ghost use Rattle.shallow.specs.Flattenable.{Flattenable};
-ghost use Rattle.shallow.specs.Shallow.{ClauseLifted, EqualityMade, EqualityThere, LiteralMade, LiteralThere, started, with_literal};
+ghost use Rattle.shallow.specs.Shallow.{ClauseLifted, EqualityAt, EqualityMade, LiteralAt, LiteralMade, started, with_literal};
 ghost use Rattle.syntax.specs.Codes.{letter_code};
 
-use lifting::table::Table;
-use lifting::terms::{lift_term, lift_terms};
+use lifting::table::{Row, Table};
+use lifting::terms::{Reading, lift_term, lift_terms};
 use merging::merged;
 use syntax::limits::Problem;
 use syntax::variables::variables_of;
 use syntax::words::ClauseWords;
 
-// The three shallow shapes; a predicate's and a function's arguments stand in an array beside.
+// The three shallow shapes; a predicate's and a function's arguments stand beside.
 #[derive(Clone, Copy)]
 pub enum Shape {
     Predicate(u8),
@@ -25,13 +25,23 @@ pub enum Shape {
 pub struct Literal {
     pub sign: bool,
     pub shape: Shape,
+    // as many as the largest arity, 0 where it has fewer
+    pub arguments: [u8; Problem::MAX_ARITY],
 }
 
-// The literals made shallow so far, each with as many arguments as the largest arity, and the lifted terms.
+impl Literal {
+    // What stands where no literal does.
+    pub const NONE: Literal = Literal {
+        sign: false,
+        shape: Shape::Predicate(0),
+        arguments: [0; Problem::MAX_ARITY],
+    };
+}
+
+// The literals made shallow so far, and the lifted terms.
 #[derive(Clone, Copy)]
 pub struct Lifting {
     pub literals: [Literal; Problem::MAX_LITERALS],
-    pub arguments: [u8; Problem::MAX_ARGUMENTS],
     pub count: usize,
     // the number of the clause's own variables
     pub owns: u8,
@@ -49,23 +59,13 @@ impl Lifting {
         self.owns as usize + self.table.count
     }
 
-    fn with(
-        mut self,
-        literal: Literal,
-        arguments: [u8; Problem::MAX_ARITY],
-        table: Table,
-        next: usize,
-    ) -> Lifting
+    fn with(mut self, literal: Literal, next: usize) -> Lifting
         requires { self.count < max_literals }
-        ensures { result ≡ with_literal self literal arguments table next }
+        ensures { result ≡ with_literal self literal self.table next }
     {
         let i = self.count;
         self.literals[i] = literal;
-        self.arguments[i * Problem::MAX_ARITY] = arguments[0];
-        self.arguments[i * Problem::MAX_ARITY + 1] = arguments[1];
-        self.arguments[i * Problem::MAX_ARITY + 2] = arguments[2];
         self.count = i + 1;
-        self.table = table;
         self.next = next;
         self
     }
@@ -77,12 +77,15 @@ pub fn lift(c: ClauseWords, arities: &[u8]) -> Lifting
     ensures { (s : Flattenable arities.now c) → ClauseLifted s result }
 {
     let m = merged(c);
-    let l = variables_of(m);
-    let words = m.words;
-    let place = l.place;
-    let mut state = start(l.count as u8);
+    let variables = variables_of(m);
+    let mut state = start(variables.count as u8);
     while state.next < m.count {
-        state = lift_literal(&words, &place, arities, state);
+        let reading = Reading {
+            words: &m.words,
+            place: &variables.place,
+            arities,
+        };
+        state = lift_literal(&reading, state);
     }
     state
 }
@@ -92,114 +95,105 @@ fn start(owns: u8) -> Lifting
     ensures { result ≡ started owns }
 {
     Lifting {
-        literals: [Literal {
-            sign: false,
-            shape: Shape::Predicate(0),
-        }; Problem::MAX_LITERALS],
-        arguments: [0; Problem::MAX_ARGUMENTS],
+        literals: [Literal::NONE; Problem::MAX_LITERALS],
         count: 0,
         owns,
         table: Table {
-            functions: [0; Problem::MAX_TERMS],
-            arguments: [0; Problem::MAX_TERM_ARGUMENTS],
+            rows: [Row {
+                function: 0,
+                arguments: [0; Problem::MAX_ARITY],
+            }; Problem::MAX_TERMS],
             count: 0,
         },
         next: 0,
     }
 }
 
-fn lift_literal(words: &[u8], place: &[u8], arities: &[u8], state: Lifting) -> Lifting
-    requires { LiteralThere words.now place.now arities.now state }
-    ensures { (s : LiteralThere words.now place.now arities.now state) → LiteralMade s result }
+fn lift_literal(reading: &Reading, mut state: Lifting) -> Lifting
+    requires { LiteralAt reading.now state }
+    ensures { (s : LiteralAt reading.now state) → LiteralMade s result }
 {
     let at = state.next;
-    let sign = words[at] == ClauseWords::PLUS;
-    let p = words[at + 1];
+    let sign = reading.words[at] == ClauseWords::PLUS;
+    let p = reading.words[at + 1];
     if p == ClauseWords::EQUALS {
-        return lift_equality(words, place, arities, state, sign, at + 2);
+        return lift_equality(reading, state, sign, at + 2);
     }
     let i = p as usize;
-    let table = state.table;
-    let r = lift_terms(words, place, arities, state.owns, at + 2, arities[i], table);
-    let variables = r.variables;
-    let lifted = r.table;
+    let r = lift_terms(
+        reading,
+        state.owns,
+        at + 2,
+        reading.arities[i],
+        &mut state.table,
+    );
+    let arguments = r.variables;
     let literal = Literal {
         sign,
         shape: Shape::Predicate(p),
+        arguments,
     };
-    state.with(literal, variables, lifted, r.next)
+    state.with(literal, r.next)
 }
 
 // The equality of the two terms from `at` on, turned so that a function stands left.
-fn lift_equality(
-    words: &[u8],
-    place: &[u8],
-    arities: &[u8],
-    state: Lifting,
-    sign: bool,
-    at: usize,
-) -> Lifting
-    requires { EqualityThere words.now place.now arities.now state sign at }
-    ensures { (s : EqualityThere words.now place.now arities.now state sign at) → EqualityMade s result }
+fn lift_equality(reading: &Reading, mut state: Lifting, sign: bool, at: usize) -> Lifting
+    requires { EqualityAt reading.now state sign at }
+    ensures { (s : EqualityAt reading.now state sign at) → EqualityMade s result }
 {
-    let left = words[at];
+    let left = reading.words[at];
     if left < ClauseWords::LETTER {
-        return lift_result(words, place, arities, state, sign, at);
+        return lift_result(reading, state, sign, at);
     }
-    let x = place[(left - ClauseWords::LETTER) as usize];
+    let x = reading.place[(left - ClauseWords::LETTER) as usize];
     let second = at + 1;
-    let right = words[second];
-    let table = state.table;
+    let right = reading.words[second];
     if ClauseWords::LETTER <= right {
-        let y = place[(right - ClauseWords::LETTER) as usize];
+        let y = reading.place[(right - ClauseWords::LETTER) as usize];
         let literal = Literal {
             sign,
             shape: Shape::VariableEquality(x, y),
+            arguments: [0; Problem::MAX_ARITY],
         };
-        return state.with(literal, [0; Problem::MAX_ARITY], table, second + 1);
+        return state.with(literal, second + 1);
     }
     let f = right as usize;
     let r = lift_terms(
-        words,
-        place,
-        arities,
+        reading,
         state.owns,
         second + 1,
-        arities[f],
-        table,
+        reading.arities[f],
+        &mut state.table,
     );
-    let variables = r.variables;
-    let lifted = r.table;
+    let arguments = r.variables;
     let literal = Literal {
         sign,
         shape: Shape::FunctionResult(right, x),
+        arguments,
     };
-    state.with(literal, variables, lifted, r.next)
+    state.with(literal, r.next)
 }
 
 // The equality of a function's term and another term, whose variable is the result.
-fn lift_result(
-    words: &[u8],
-    place: &[u8],
-    arities: &[u8],
-    state: Lifting,
-    sign: bool,
-    at: usize,
-) -> Lifting
-    requires { EqualityThere words.now place.now arities.now state sign at × (get_or words.now at 0 < letter_code) }
-    ensures { (s : EqualityThere words.now place.now arities.now state sign at) → EqualityMade s result }
+fn lift_result(reading: &Reading, mut state: Lifting, sign: bool, at: usize) -> Lifting
+    requires { EqualityAt reading.now state sign at × (get_or reading.now.words.now at 0 < letter_code) }
+    ensures { (s : EqualityAt reading.now state sign at) → EqualityMade s result }
 {
-    let left = words[at];
+    let left = reading.words[at];
     let f = left as usize;
-    let table = state.table;
-    let r = lift_terms(words, place, arities, state.owns, at + 1, arities[f], table);
-    let inner = r.table;
-    let y = lift_term(words, place, arities, state.owns, r.next, inner);
-    let variables = r.variables;
-    let lifted = y.table;
+    let r = lift_terms(
+        reading,
+        state.owns,
+        at + 1,
+        reading.arities[f],
+        &mut state.table,
+    );
+    let y = lift_term(reading, state.owns, r.next, &mut state.table);
+    let arguments = r.variables;
     let literal = Literal {
         sign,
         shape: Shape::FunctionResult(left, y.variable),
+        arguments,
     };
-    state.with(literal, variables, lifted, y.next)
+    state.with(literal, y.next)
 }

@@ -14,7 +14,9 @@ use Rattle.clauses.specs.Names.{Readable}
 use Rattle.clauses.proofs.Held.{count-signature_in}
 use Rattle.text.specs.Put.{put}
 use Rattle.text.proofs.Decimal.{decimal-within}
-use Rattle.sheet_text.specs.Parts.{between, kind_text, head_text}
+use Rattle.sheet_text.specs.declared.head.Kind.{Kind}
+use Rattle.sheet_text.specs.Kinds.{IsKind}
+use Rattle.sheet_text.specs.Parts.{Span, between, kind_text, head_text}
 use Rattle.sheet_text.proofs.LinesWritten.{same_text, two-written, line-length}
 use Rattle.sheet_text.proofs.SymbolLines.{lines_of, length-between}
 
@@ -41,6 +43,21 @@ module _ (counting key text : List ℕ) (s : Signature) (r : Readable text s) (f
       let w : List ℕ = lines_of key text s from to in
       let r = two-written l l' l'' at a b v w (omega (arith, ap length kind-parts)) p n q m in
       same_text l l'' at b (v ++ w) (kind_text counting key (between from to (signature_in text s))) kind-parts r.0 r.1
+
+-- the symbols of a kind whose keys and places are told
+module _ (k : Kind) (counting key : List ℕ) (from to : ℕ) (e : IsKind k counting key from to) where
+  pub kind-same : (g : theory.Signature) → kind_text k.counting.now k.key.now (between k.from k.to g) ≡ kind_text counting key (between from to g)
+  kind-same g =
+      ap (λ (v : List ℕ). kind_text v k.key.now (between k.from k.to g)) e.counting_is
+      ∙ ap (λ (v : List ℕ). kind_text counting v (between k.from k.to g)) e.key_is
+      ∙ ap (λ (n : ℕ). kind_text counting key (between n k.to g)) e.from_is
+      ∙ ap (λ (n : ℕ). kind_text counting key (between from n g)) e.to_is
+
+  pub kind-span : (s : Signature) → from ≤ to → to ≤ s.count → Span s k.from k.to
+  kind-span s h l = record { ordered = omega (arith, e.from_is, e.to_is); within = omega (arith, e.to_is) }
+
+  pub keys-short : length counting ≤ 8 → length key ≤ 8 → (length k.counting.now ≤ 8) × (length k.key.now ≤ 8)
+  keys-short h l = (omega (arith, ap length e.counting_is), omega (arith, ap length e.key_is))
 
 -- the functions, the predicates, and how many clauses
 abbrev pub function_lines : List ℕ → Signature → ℕ → List ℕ

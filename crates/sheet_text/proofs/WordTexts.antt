@@ -10,7 +10,6 @@ use Rattle.theory.specs.Syntax as theory
 use Rattle.theory.specs.Grammar.{Word, sign, equals, symbol, letter}
 use Rattle.theory.specs.SheetText.{word_text}
 use Rattle.theory.proofs.Tests.{ltb-true}
-use Rattle.syntax.specs.declared.signature.Symbol.{Symbol}
 use Rattle.syntax.specs.declared.signature.Signature.{Signature}
 use Rattle.syntax.specs.Signatures.{symbol_in, signature_in}
 use Rattle.syntax.specs.Codes.{max_places, code_of, code_word, is_known}

@@ -19,10 +19,8 @@ pub fn clause_line_length(signature: Signature, words: ClauseWords) -> usize
     ensures short { result ≤ 840 }
 {
     let mut n: usize = 8;
-    let mut i: usize = 0;
-    while i < words.count {
-        n = n + next_word_length(signature, words.words[i], i);
-        i += 1;
+    for i in 0..words.count {
+        n += next_word_length(signature, words.words[i], i);
     }
     n
 }
@@ -65,10 +63,8 @@ pub fn put_clause_line(
     ensures place { result ≡ at + length (clause_line (signature_in text.now signature) (words_in words)) }
 {
     let mut e = put_bytes(out, at, b"clause=");
-    let mut i: usize = 0;
-    while i < words.count {
+    for i in 0..words.count {
         e = put_next_word(out, e, text, signature, words.words[i], i);
-        i += 1;
     }
     out[e] = b'\n';
     e + 1

@@ -1,52 +1,52 @@
 -- The first element of a list that passes a test, looked for one element after the other.
-use Prim.Native.Nat.{ℕ, suc, ◌+◌, ◌-◌, ◌≤◌, ◌<◌}
-use mathlib.Core.Path.{◌≡◌, refl, sym, ap, ◌∙◌}
-use mathlib.Core.Bool.{Bool, true, false, cond}
-use mathlib.Core.Option.{none, some}
+use Prim.Native.Nat.{ℕ, suc, ◌+◌, ◌<◌}
+use mathlib.Core.Path.{◌≡◌, refl, ap, ◌∙◌}
+use mathlib.Core.Bool.{Bool, true, false}
+use mathlib.Core.Option.{Option, none, some}
 use mathlib.Core.List.{List}
 use native.Mathlib.Numerals.{add-one}
 use native.Mathlib.Omega.{arith}
-use lib.Dec.{ltb}
 use lib.ListN.{length, get_or, drop, drop_of_length-le}
 use lib.Seq.{drop-cons}
-use borrow.Author.Tests.{lt-ltb, le-ltb}
 use Rattle.theory.specs.Lists.{place_at, place_that}
 
+-- the place in the whole list of what has a place from i on
+unfoldable pub behind : ℕ → Option ℕ → Option ℕ
+behind i none = none
+behind i (some k) = some (i + k)
+
 module _ {A : Type 0} (p : A → Bool) (xs : List A) where
-  -- r is the place of the first from i on, or the length
-  pub record FirstFrom (i r : ℕ) : Type 0 where
-    pub from : i ≤ r
-    pub place : place_that p (drop i xs) ≡ cond (ltb r (length xs)) (some (r - i)) none
+  -- none before i passes: the first is the first from i on
+  unfoldable pub FirstFrom : ℕ → Type 0
+  FirstFrom i = place_that p xs ≡ behind i (place_that p (drop i xs))
 
-  module _ (i : ℕ) (d : A) where
-    first : i < length xs → place_that p (drop i xs) ≡ place_at (p (get_or xs i d)) (place_that p (drop (i + 1) xs))
-    first h = rw (add-one, drop-cons xs i d h)
+  pub first-start : FirstFrom 0
+  unfolding FirstFrom behind
+  first-start = go (place_that p xs)
+    where
+      go : (o : Option ℕ) → o ≡ behind 0 o
+      go none = refl
+      go (some k) = let e : k ≡ 0 + k = omega arith in ap some e
 
-    pub first-here : i < length xs → p (get_or xs i d) ≡ true → FirstFrom i i
-    first-here h e = let z : 0 ≡ i - i = omega arith in record {
-      from = omega arith;
-      place = first h ∙ ap (λ (b : Bool). place_at b (place_that p (drop (i + 1) xs))) e ∙ ap some z ∙ ap (λ (b : Bool). cond b (some (i - i)) none) (sym (lt-ltb i (length xs) h));
-    }
+  module _ (i : ℕ) (z : FirstFrom i) where
+    module _ (d : A) (h : i < length xs) where
+      first : place_that p (drop i xs) ≡ place_at (p (get_or xs i d)) (place_that p (drop (i + 1) xs))
+      first = rw (add-one, drop-cons xs i d h)
 
-    pub first_on : (r : ℕ) → i < length xs → p (get_or xs i d) ≡ false → FirstFrom (i + 1) r → FirstFrom i r
-    first_on r h e z =
-        let later : i + 1 ≤ r = z.from in
-        let s : suc (r - (i + 1)) ≡ r - i = omega arith in
-        record {
-          from = omega arith;
-          place = first h ∙ ap (λ (b : Bool). place_at b (place_that p (drop (i + 1) xs))) e ∙ ap (place_at false) z.place ∙ go (ltb r (length xs)) s;
-        }
-      where
-        go : (b : Bool) → suc (r - (i + 1)) ≡ r - i → place_at false (cond b (some (r - (i + 1))) none) ≡ cond b (some (r - i)) none
-        go true s = ap some s
-        go false s = refl
+      pub first-here : p (get_or xs i d) ≡ true → place_that p xs ≡ some i
+      unfolding FirstFrom behind
+      first-here e =
+          let n : i + 0 ≡ i = omega arith in
+          z ∙ ap (behind i) (first ∙ ap (λ (b : Bool). place_at b (place_that p (drop (i + 1) xs))) e) ∙ ap some n
 
-  pub first-nowhere : (i : ℕ) → length xs ≡ i → FirstFrom i i
-  first-nowhere i e = record {
-    from = omega arith;
-    place = ap (place_that p) (drop_of_length-le xs {i = i} (omega arith)) ∙ ap (λ (b : Bool). cond b (some (i - i)) none) (sym (le-ltb i (length xs) (omega arith)));
-  }
+      pub first_on : p (get_or xs i d) ≡ false → FirstFrom (i + 1)
+      unfolding FirstFrom behind
+      first_on e = z ∙ ap (behind i) (first ∙ ap (λ (b : Bool). place_at b (place_that p (drop (i + 1) xs))) e) ∙ go (place_that p (drop (i + 1) xs))
+        where
+          go : (o : Option ℕ) → behind i (place_at false o) ≡ behind (i + 1) o
+          go none = refl
+          go (some k) = let n : i + suc k ≡ i + 1 + k = omega arith in ap some n
 
-  -- the answer for the whole list
-  pub first_found : (r n : ℕ) → length xs ≡ n → FirstFrom 0 r → place_that p xs ≡ cond (ltb r n) (some r) none
-  first_found r n e z = let q : r - 0 ≡ r = omega arith in z.place ∙ ap (λ (k : ℕ). cond (ltb r (length xs)) (some k) none) q ∙ ap (λ (k : ℕ). cond (ltb r k) (some r) none) e
+    pub first-nowhere : length xs ≡ i → place_that p xs ≡ none
+    unfolding FirstFrom behind
+    first-nowhere e = z ∙ ap (λ (ys : List A). behind i (place_that p ys)) (drop_of_length-le xs {i = i} (omega arith))

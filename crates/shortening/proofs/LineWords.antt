@@ -2,7 +2,7 @@
 use Prim.Native.Nat.{ℕ, suc, ◌+◌, ◌-◌, ◌≤◌, ◌<◌}
 use mathlib.Core.Path.{◌≡◌, refl, sym, ap, ◌∙◌}
 use mathlib.Core.Bool.{Bool, true, false, cond}
-use mathlib.Core.Option.{none, some, some-injective}
+use mathlib.Core.Option.{some, some-injective}
 use mathlib.Core.List.{List, [], ◌∷◌, ◌++◌, append_cancel_right, append-nil}
 use native.Mathlib.Omega.{arith}
 use lib.Dec.{ltb}
@@ -17,9 +17,6 @@ use Rattle.theory.specs.Problem.{word_of, read_all}
 use Rattle.theory.specs.SheetText.{words_text}
 use Rattle.text.specs.Lines.{part, WordEnd}
 use Rattle.text.proofs.Part.{length_part, get_d_part, part-cons, take-part, drop-part}
-use Rattle.syntax.specs.Codes.{code_word}
-use Rattle.clauses.specs.declared.words.Word.TheVariants.{Code, Unknown}
-use Rattle.clauses.specs.Words.{WordRead}
 use Rattle.shortening.specs.Spans.{words_between, CodeOf, FirstOf, NextWord}
 use Rattle.shortening.proofs.CutWords.{text-cut, text-more, cut-append, cut-filled, first-known, known-cut, known-split}
 
@@ -144,11 +141,3 @@ words-front g sheet at end to us ws from within inside spaced all rest = go (ltb
         let e : end ≡ to = omega (arith, ltb-false end to h) in
         let none : ws ≡ [] = none_left g sheet (end + 1) to ws (omega arith) rest in
         ap (λ (n : ℕ). read_all g (words_of (part sheet at n))) e ∙ all ∙ ap (λ (l : List Word). some (us ++ l)) none ∙ ap some (append-nil us)
-
--- the code of a word, known or not
-module _ (g : Signature) (word : List ℕ) where
-  pub code-known : (c : ℕ) → WordRead g word (Code c) → CodeOf g word c
-  code-known c r x e = (some-injective (code_word c) x (r.read ∙ e), r.coded)
-
-  pub code-unknown : (c : ℕ) → WordRead g word Unknown → CodeOf g word c
-  code-unknown c r x e = let h : none ≡ some x = r.read ∙ e in let z : ◌≡◌ {A = ℕ} 0 1 = cc in absurd (omega arith)

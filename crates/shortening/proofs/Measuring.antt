@@ -31,7 +31,7 @@ use Rattle.naming.proofs.Limits.{and-true}
 use Rattle.naming.proofs.ShortClauses.{named_clauses-ok}
 use Rattle.shortening.specs.declared.short.ShortLine.{ShortLine}
 use Rattle.shortening.specs.Tables.{no_span, spans_of, term_at, terms_in, TermsThere}
-use Rattle.shortening.specs.ShortLines.{names_with, ShortWhole, Shortened}
+use Rattle.shortening.specs.ShortLines.{names_with, ShortWhole, ShortRead}
 use Rattle.shortening.specs.HelperWords.{HelpersBehind, WordsTo}
 use Rattle.shortening.specs.Measured.{Measured}
 use Rattle.shortening.proofs.TableWalk.{length-spans, span-at}
@@ -130,7 +130,7 @@ module _ (g : Signature) (sheet : List ℕ) (ts : FixedTerms) (none : ts.count �
   pub over-full : max_helpers < length (names_with g sheet ts c) → false ≡ is_within_named (length g) c
   over-full h = short-over (not-true (is_within short) (λ e. omega (arith, few-names (length g) c e, ap length names-alone)))
 
-  module _ (s all⁺ : declared.Signature) (q : g ≡ signature_in sheet s) (h : HelpersBehind s max_helpers all⁺) (ok : clause_ok g c ≡ true) (r : ShortLine) (full : r.full ≡ false) (z : Shortened g (signature_in sheet all⁺) sheet ts c r) where
+  module _ (s all⁺ : declared.Signature) (q : g ≡ signature_in sheet s) (h : HelpersBehind s max_helpers all⁺) (ok : clause_ok g c ≡ true) (r : ShortLine) (z : ShortRead g (signature_in sheet all⁺) sheet ts c r) where
     pub short_ok : length N ≤ max_helpers → clause_ok (signature_in sheet all⁺) short ≡ true
     unfolding named_clauses
     short_ok few =
@@ -148,9 +148,9 @@ module _ (g : Signature) (sheet : List ℕ) (ts : FixedTerms) (none : ts.count �
           sheet = sheet;
           clause = short_clause (length g) (names_with g sheet ts c) c;
           ok = λ few.
-              let w : ShortWhole g (signature_in sheet all⁺) sheet ts c r = z.whole full few in
+              let w : ShortWhole g (signature_in sheet all⁺) sheet ts c r = z.whole few in
               ap (clause_ok (signature_in sheet all⁺)) same-short ∙ short_ok (omega (arith, ap length w.found, ap length names-alone, length-terms g sheet r.terms w.there, w.there.table.count));
-          words = record { long = z.long full; whole = λ few. (z.whole full few).passed; known = λ few. (z.whole full few).known };
+          words = record { long = z.long; whole = λ few. (z.whole few).passed; known = λ few. (z.whole few).known };
         }
 
     -- the shortened clause is over
@@ -164,13 +164,13 @@ module _ (g : Signature) (sheet : List ℕ) (ts : FixedTerms) (none : ts.count �
         where
           go : (leb r.words.count max_words ≡ true) ⊎ (leb r.words.count max_words ≡ false) → r.words.count ≤ max_words
           go (inl k) = leb-true r.words.count max_words k
-          go (inr k) = absurd (both_false e (too_long (short_clause (length g) (names_with g sheet ts c) c) (z.long full (leb-false r.words.count max_words k))))
+          go (inr k) = absurd (both_false e (too_long (short_clause (length g) (names_with g sheet ts c) c) (z.long (leb-false r.words.count max_words k))))
 
       pub terms-there : TermsThere g sheet r.terms
-      terms-there = (z.whole full few_words).there
+      terms-there = (z.whole few_words).there
 
       pub helpers-decide : (b : Bool) → b ≡ all is_within (helper_clauses (length g) (terms_in g sheet r.terms)) → b ≡ is_within_named (length g) c
       helpers-decide b k =
           k
-          ∙ ap (λ (us : List Term). all is_within (helper_clauses (length g) us)) ((z.whole full few_words).found ∙ names-alone)
+          ∙ ap (λ (us : List Term). all is_within (helper_clauses (length g) us)) ((z.whole few_words).found ∙ names-alone)
           ∙ sym (within_both ∙ ap (λ (x : Bool). all is_within (helper_clauses (length g) N) && (x && true)) (ap is_within (sym same-short) ∙ e) ∙ and-true (all is_within (helper_clauses (length g) N)))

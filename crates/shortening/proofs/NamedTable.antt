@@ -1,5 +1,5 @@
 -- The terms of a table: equal exactly if their bytes are, looked up, and added.
-use Prim.Native.Nat.{ℕ, suc, ◌+◌, ◌≤◌, ◌<◌}
+use Prim.Native.Nat.{ℕ, suc, ◌+◌, ◌<◌}
 use mathlib.Core.Path.{◌≡◌, refl, sym, ap, ◌∙◌, subst}
 use mathlib.Core.Logic.{◌⊎◌, inl, inr}
 use mathlib.Core.Bool.{Bool, true, cond}
@@ -7,10 +7,8 @@ use mathlib.Core.Option.{Option, none, some}
 use mathlib.Core.List.{List, [], ◌∷◌, ◌++◌, map, map-append, append-nil}
 use native.Mathlib.Nat.{eq-or-lt_of_le}
 use native.Mathlib.Omega.{arith}
-use lib.Dec.{ltb}
 use lib.ListN.{length, get_or, length-map, get_or-append}
 use lib.Seq.{get_or-take, get_or-append_seam}
-use borrow.Author.Tests.{lt-ltb, le-ltb}
 use Rattle.theory.specs.Lists.{same, place_at, place_that}
 use Rattle.theory.specs.Syntax.{Signature, Term, variable, apply, empty, term_ok}
 use Rattle.theory.specs.Grammar.{Word, Reading, term_words, read_words}
@@ -29,6 +27,9 @@ use Rattle.syntax.specs.declared.terms.FixedTerms.{FixedTerms}
 use Rattle.naming.specs.FixedTerms.{is_nameable, name_of}
 use Rattle.naming.specs.NamedReading.{max_helpers}
 use Rattle.shortening.specs.Spans.{words_between}
+use Rattle.std.specs.Prelude as rust
+use Rattle.std.specs.Prelude.{Some, None}
+use Rattle.theory.specs.Options.{told}
 use Rattle.shortening.specs.Tables.{bytes_at, no_span, SpanWithin, spans_of, PlaceOf, first_term, term_at, terms_in, TermThere, TermsThere}
 use Rattle.shortening.proofs.CutWords.{bytes-known}
 use Rattle.shortening.proofs.TableWalk.{alike, length-spans, span-at}
@@ -99,35 +100,34 @@ module _ (g : Signature) (sheet : List ℕ) where
       found = terms_in g sheet ts
 
       -- the place of the bytes is that of the term
-      term-place : (r : ℕ) → PlaceOf sheet ts s r → place_that (same_term t) found ≡ cond (ltb r ts.count) (some r) none
+      term-place : (r : rust.Option ℕ) → PlaceOf sheet ts s r → place_that (same_term t) found ≡ told r
       term-place r e = sym (place_that-map (alike sheet s) (same_term t) (term_at g sheet) no_span (spans_of ts) (λ i l. alike_same s (get_or (spans_of ts) i no_span) there (there-at i l))) ∙ e
 
-      module _ (r : ℕ) (e : PlaceOf sheet ts s r) where
-        -- an equal term is there
-        module _ (l : r < ts.count) where
-          at-place : place_that (same_term t) found ≡ some r
-          at-place = term-place r e ∙ ap (λ (b : Bool). cond b (some r) none) (lt-ltb r ts.count l)
+      -- an equal term is there
+      module _ (r : ℕ) (e : PlaceOf sheet ts s (Some r)) where
+        at-place : place_that (same_term t) found ≡ some r
+        at-place = term-place (Some r) e
 
-          pub old-added : add_term found t ≡ found
-          old-added =
-              let p = place_that-some (same_term t) found r (variable 0) at-place in
-              ap (λ (b : Bool). cond b found (found ++ (t ∷ []))) (any_at (same_term t) (variable 0) found r p.0 p.1)
+        pub old-added : add_term found t ≡ found
+        old-added =
+            let p = place_that-some (same_term t) found r (variable 0) at-place in
+            ap (λ (b : Bool). cond b found (found ++ (t ∷ []))) (any_at (same_term t) (variable 0) found r p.0 p.1)
 
-          pub old-name : (n : ℕ) (zs : List Term) → name_of n (found ++ zs) t ≡ apply (n + r) empty
-          old-name n zs = ap (λ (o : Option ℕ). apply (n + place_or0 o) empty) (place_that-append (same_term t) found zs r at-place)
+        pub old-name : (n : ℕ) (zs : List Term) → name_of n (found ++ zs) t ≡ apply (n + r) empty
+        old-name n zs = ap (λ (o : Option ℕ). apply (n + place_or0 o) empty) (place_that-append (same_term t) found zs r at-place)
 
-        -- none is
-        module _ (l : ts.count ≤ r) where
-          no_place : place_that (same_term t) found ≡ none
-          no_place = term-place r e ∙ ap (λ (b : Bool). cond b (some r) none) (le-ltb r ts.count l)
+      -- none is
+      module _ (e : PlaceOf sheet ts s None) where
+        no_place : place_that (same_term t) found ≡ none
+        no_place = term-place None e
 
-          pub new-added : add_term found t ≡ found ++ (t ∷ [])
-          new-added = ap (λ (b : Bool). cond b found (found ++ (t ∷ []))) (place_that-none (same_term t) found no_place)
+        pub new-added : add_term found t ≡ found ++ (t ∷ [])
+        new-added = ap (λ (b : Bool). cond b found (found ++ (t ∷ []))) (place_that-none (same_term t) found no_place)
 
-          pub new-name : (n : ℕ) (zs : List Term) → name_of n ((found ++ (t ∷ [])) ++ zs) t ≡ apply (n + ts.count) empty
-          new-name n zs =
-              ap (λ (o : Option ℕ). apply (n + place_or0 o) empty)
-              (place_that-append (same_term t) (found ++ (t ∷ [])) zs ts.count (place_that-snoc (same_term t) found t no_place (same_term-same t) ∙ ap (λ (k : ℕ). some k) length-terms))
+        pub new-name : (n : ℕ) (zs : List Term) → name_of n ((found ++ (t ∷ [])) ++ zs) t ≡ apply (n + ts.count) empty
+        new-name n zs =
+            ap (λ (o : Option ℕ). apply (n + place_or0 o) empty)
+            (place_that-append (same_term t) (found ++ (t ∷ [])) zs ts.count (place_that-snoc (same_term t) found t no_place (same_term-same t) ∙ ap (λ (k : ℕ). some k) length-terms))
 
       -- the table with the term
       module _ (r : FixedTerms) (held : length r.spans ≡ max_helpers) (count : r.count ≡ ts.count + 1) (more : spans_of r ≡ spans_of ts ++ (s ∷ [])) where

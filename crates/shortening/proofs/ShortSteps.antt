@@ -1,8 +1,8 @@
 -- One word of the shortened clause: the word that stands there, or the name of the term that does.
-use Prim.Native.Nat.{ℕ, ◌+◌, ◌≤◌, ◌<◌}
+use Prim.Native.Nat.{ℕ, ◌+◌, ◌≤◌}
 use mathlib.Core.Path.{◌≡◌, sym, ap, ◌∙◌, subst}
 use mathlib.Core.Logic.{inl, inr}
-use mathlib.Core.Bool.{true, false, false≢true}
+use mathlib.Core.Bool.{true, false}
 use mathlib.Core.Option.{some}
 use mathlib.Core.List.{List, [], ◌∷◌, ◌++◌}
 use native.Mathlib.Omega.{arith}
@@ -23,12 +23,14 @@ use Rattle.naming.specs.FixedTerms.{is_fixed, name_of}
 use Rattle.naming.specs.NamedReading.{max_helpers}
 use Rattle.shortening.specs.declared.line.LineWord.{LineWord}
 use Rattle.shortening.specs.declared.short.ShortWord.{ShortWord}
+use Rattle.std.specs.Prelude as rust
+use Rattle.std.specs.Prelude.{Some, None}
 use Rattle.shortening.specs.Opening.{is_opening}
 use Rattle.shortening.specs.Spans.{words_between, FirstOf, NextWord}
 use Rattle.shortening.specs.FixedEnds.{TermHere, EndsAt}
 use Rattle.shortening.specs.Left.{Left, left_words, left_named, short_left, LeftHere}
 use Rattle.shortening.specs.Tables.{SpanWithin, term_at, terms_in, TermThere, TermsThere}
-use Rattle.shortening.specs.ShortLines.{Named, NameGiven, Stepped, ShortStep}
+use Rattle.shortening.specs.ShortLines.{NameGiven, ShortStep}
 use Rattle.shortening.proofs.Codes.{code-more}
 use Rattle.shortening.proofs.Views.{Passes, Names, Opens, View, view}
 use Rattle.shortening.proofs.NamedTable.{term-there}
@@ -46,19 +48,16 @@ module _ (g : Signature) (sheet : List ℕ) (at to : ℕ) (w : LineWord) (n : Ne
 
   -- the word there is passed
   passed-step : (ts : FixedTerms) → TermsThere g sheet ts → (next : Left) → Passes g l.left (code_word w.code) next
-      → ShortStep g sheet at to ts l.left (record { code = w.code; end = w.end; terms = ts; full = false })
+      → ShortStep g sheet at to ts l.left (Some (record { code = w.code; end = w.end; terms = ts }))
   passed-step ts there next p =
       record {
-        full = λ k. absurd (false≢true k);
-        step = λ _. record {
-          from = here.filled;
-          within = n.within;
-          next = record { left = next; ok = p.ok; words = here.left ∙ ap some (ap (drop 1) (sym here.words ∙ p.words)) };
-          there = there;
-          found = ap (add_terms (terms_in g sheet ts)) p.named;
-          short = λ zs. p.short (length g) (terms_in g sheet ts ++ zs);
-          coded = code-more (length g) (length g + ts.count) w.code (omega arith) here.coded;
-        };
+        from = here.filled;
+        within = n.within;
+        next = record { left = next; ok = p.ok; words = here.left ∙ ap some (ap (drop 1) (sym here.words ∙ p.words)) };
+        there = there;
+        found = ap (add_terms (terms_in g sheet ts)) p.named;
+        short = λ zs. p.short (length g) (terms_in g sheet ts ++ zs);
+        coded = code-more (length g) (length g + ts.count) w.code (omega arith) here.coded;
       }
 
   -- the first word of what is left
@@ -66,10 +65,10 @@ module _ (g : Signature) (sheet : List ℕ) (at to : ℕ) (w : LineWord) (n : Ne
   same_word x ws e = ap first (sym e ∙ here.words)
 
   -- it begins no term with arguments
-  pub closed-step : (ts : FixedTerms) → TermsThere g sheet ts → false ≡ is_opening g (code_word w.code) → ShortStep g sheet at to ts l.left (record { code = w.code; end = w.end; terms = ts; full = false })
+  pub closed-step : (ts : FixedTerms) → TermsThere g sheet ts → false ≡ is_opening g (code_word w.code) → ShortStep g sheet at to ts l.left (Some (record { code = w.code; end = w.end; terms = ts }))
   closed-step ts there closed = go (view g l.left l.ok)
     where
-      go : View g l.left → ShortStep g sheet at to ts l.left (record { code = w.code; end = w.end; terms = ts; full = false })
+      go : View g l.left → ShortStep g sheet at to ts l.left (Some (record { code = w.code; end = w.end; terms = ts }))
       go (inl e) = absurd (omega (arith, ap length (sym e ∙ here.words)))
       go (inr (inl v)) = passed-step ts there v.1.0 (subst (λ (x : Word). Passes g l.left x v.1.0) (same_word v.0 (left_words v.1.0) v.1.1.1.words) v.1.1.1)
       go (inr (inr v)) = absurd (both_false v.1.1.1.0 (ap (is_opening g) (same_word (symbol v.0) _ v.1.1.1.1.words) ∙ sym closed))
@@ -97,7 +96,7 @@ module _ (g : Signature) (sheet : List ℕ) (at to : ℕ) (w : LineWord) (n : Ne
     term-here = record { term = apply o.f o.us; rest = left_words o.next; ok = o.opens.term; words = l.words ∙ ap some o.opens.words }
 
     -- the term has a variable
-    pub varying-step : (ts : FixedTerms) → TermsThere g sheet ts → is_fixed term-here.term ≡ false → ShortStep g sheet at to ts l.left (record { code = w.code; end = w.end; terms = ts; full = false })
+    pub varying-step : (ts : FixedTerms) → TermsThere g sheet ts → is_fixed term-here.term ≡ false → ShortStep g sheet at to ts l.left (Some (record { code = w.code; end = w.end; terms = ts }))
     varying-step ts there e =
         let v = o.opens.other e in
         passed-step ts there v.1.0 (subst (λ (x : Word). Passes g l.left x v.1.0) (same_word (symbol v.0) (left_words v.1.0) v.1.1.words) v.1.1)
@@ -120,12 +119,8 @@ module _ (g : Signature) (sheet : List ℕ) (at to : ℕ) (w : LineWord) (n : Ne
       span-there = both.1
 
       -- it is named
-      pub named_step : (ts : FixedTerms) (r : ShortWord) → length g ≤ max_declared → NameGiven g sheet (length g) ts span r → ShortStep g sheet at to ts l.left r
-      named_step ts r few given =
-          record {
-            full = λ k. omega (arith, given.full k, longer, ap length (ap (add_terms (terms_in g sheet ts)) added));
-            step = λ k. step (given.named k);
-          }
+      pub named_step : (ts : FixedTerms) (r : rust.Option ShortWord) → length g ≤ max_declared → NameGiven g sheet (length g) ts span r → ShortStep g sheet at to ts l.left r
+      named_step ts r few given = go r given
         where
           t : Term
           t = term_at g sheet span
@@ -136,8 +131,9 @@ module _ (g : Signature) (sheet : List ℕ) (at to : ℕ) (w : LineWord) (n : Ne
           longer : length (add_term (terms_in g sheet ts) t) ≤ length (add_terms (add_term (terms_in g sheet ts) t) (left_named o.next))
           longer = let x = add_terms-extends (add_term (terms_in g sheet ts) t) (left_named o.next) in omega (arith, ap length x.1, length-append (add_term (terms_in g sheet ts) t) x.0)
 
-          step : Named g sheet (length g) ts span r → Stepped g sheet at to ts l.left r
-          step m =
+          go : (r : rust.Option ShortWord) → NameGiven g sheet (length g) ts span r → ShortStep g sheet at to ts l.left r
+          go None full = omega (arith, longer, ap length (ap (add_terms (terms_in g sheet ts)) added))
+          go (Some r) m =
               let room : r.terms.count ≤ max_helpers = m.there.table.count in
               record {
                 from = omega (arith, e.from, m.end);

@@ -4,8 +4,8 @@ use Rattle.std.proofs.Math.Option.{some}
 use Rattle.theory.specs.Syntax.{Signature, Term, term_ok}
 use Rattle.theory.specs.Grammar.{Word, term_words}
 use Rattle.naming.specs.FixedTerms.{is_fixed}
-use Rattle.shortening.specs.declared.terms.TermEnd.{TermEnd}
-use Rattle.shortening.specs.declared.terms.TermEnd.TheVariants.{At, Varies}
+use Rattle.std.specs.Prelude as rust
+use Rattle.std.specs.Prelude.{Some, None}
 use Rattle.shortening.specs.Spans.{words_between}
 
 -- the words between two places are those of a term over the signature, and others behind it
@@ -24,6 +24,6 @@ pub record EndsAt (g : Signature) (sheet : List ℕ) (at to : ℕ) (t : TermHere
   pub left : words_between g sheet (end + 1) to ≡ some t.rest
 
 -- r is the end of the term, if it has no variable
-abbrev pub EndOf : {g : Signature} {sheet : List ℕ} {at to : ℕ} → TermHere g sheet at to → TermEnd → Type 0
-EndOf {g = g} {sheet = sheet} {at = at} {to = to} t (At end) = EndsAt g sheet at to t end
-EndOf t Varies = is_fixed t.term ≡ false
+abbrev pub EndOf : {g : Signature} {sheet : List ℕ} {at to : ℕ} → TermHere g sheet at to → rust.Option ℕ → Type 0
+EndOf {g = g} {sheet = sheet} {at = at} {to = to} t (Some end) = EndsAt g sheet at to t end
+EndOf t None = is_fixed t.term ≡ false

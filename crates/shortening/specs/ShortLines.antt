@@ -1,6 +1,8 @@
 -- Clauses with names in the place of terms, word by word.
-use Rattle.std.specs.Prelude.{ℕ, ◌+◌, ◌≤◌, ◌<◌, ◌≡◌, true, false, List, ◌∷◌, ◌++◌, length}
+use Rattle.std.specs.Prelude.{ℕ, ◌+◌, ◌≤◌, ◌<◌, ◌≡◌, true, List, ◌∷◌, ◌++◌, length}
 use Rattle.std.proofs.Math.Option.{some}
+use Rattle.std.specs.Prelude as rust
+use Rattle.std.specs.Prelude.{Some, None}
 use Rattle.theory.specs.Lists.{all}
 use Rattle.theory.specs.Syntax.{Signature, Term, apply, empty, Clause, clause_ok}
 use Rattle.theory.specs.Grammar.{Word, clause_words}
@@ -28,9 +30,9 @@ pub record Named (g : Signature) (sheet : List ℕ) (n : ℕ) (ts : FixedTerms) 
   pub code : r.code < n + r.terms.count
 
 -- that, or the table is full
-pub record NameGiven (g : Signature) (sheet : List ℕ) (n : ℕ) (ts : FixedTerms) (s : Span) (r : ShortWord) : Type 0 where
-  pub full : r.full ≡ true → max_helpers < length (add_term (terms_in g sheet ts) (term_at g sheet s))
-  pub named : r.full ≡ false → Named g sheet n ts s r
+abbrev pub NameGiven : Signature → List ℕ → ℕ → FixedTerms → Span → rust.Option ShortWord → Type 0
+NameGiven g sheet n ts s (Some r) = Named g sheet n ts s r
+NameGiven g sheet n ts s None = max_helpers < length (add_term (terms_in g sheet ts) (term_at g sheet s))
 
 -- r is the word of the shortened clause for the first words of what is left, and the table with their term if they are one
 pub record Stepped (g : Signature) (sheet : List ℕ) (at to : ℕ) (ts : FixedTerms) (l : Left) (r : ShortWord) : Type 0 where
@@ -44,9 +46,9 @@ pub record Stepped (g : Signature) (sheet : List ℕ) (at to : ℕ) (ts : FixedT
   pub coded : is_code (length g + r.terms.count) r.code ≡ true
 
 -- that, or the table is full
-pub record ShortStep (g : Signature) (sheet : List ℕ) (at to : ℕ) (ts : FixedTerms) (l : Left) (r : ShortWord) : Type 0 where
-  pub full : r.full ≡ true → max_helpers < length (add_terms (terms_in g sheet ts) (left_named l))
-  pub step : r.full ≡ false → Stepped g sheet at to ts l r
+abbrev pub ShortStep : Signature → List ℕ → ℕ → ℕ → FixedTerms → Left → rust.Option ShortWord → Type 0
+ShortStep g sheet at to ts l (Some r) = Stepped g sheet at to ts l r
+ShortStep g sheet at to ts l None = max_helpers < length (add_terms (terms_in g sheet ts) (left_named l))
 
 -- the words between two places are those of a clause over the signature
 pub record LineClause (g : Signature) (sheet : List ℕ) (from to : ℕ) : Type 0 where
@@ -73,8 +75,12 @@ pub record ShortWhole (g g⁺ : Signature) (sheet : List ℕ) (ts : FixedTerms) 
   pub passed : Passed g⁺ (short_words g sheet ts c) r.words
   pub known : all (is_known g⁺) (short_words g sheet ts c) ≡ true
 
--- that, or there are more terms than the table has room for, or more words than a clause may have
-pub record Shortened (g g⁺ : Signature) (sheet : List ℕ) (ts : FixedTerms) (c : Clause) (r : ShortLine) : Type 0 where
-  pub full : r.full ≡ true → max_helpers < length (names_with g sheet ts c)
-  pub long : r.full ≡ false → max_words < r.words.count → max_words < length (short_words g sheet ts c)
-  pub whole : r.full ≡ false → r.words.count ≤ max_words → ShortWhole g g⁺ sheet ts c r
+-- that, or there are more words than a clause may have
+pub record ShortRead (g g⁺ : Signature) (sheet : List ℕ) (ts : FixedTerms) (c : Clause) (r : ShortLine) : Type 0 where
+  pub long : max_words < r.words.count → max_words < length (short_words g sheet ts c)
+  pub whole : r.words.count ≤ max_words → ShortWhole g g⁺ sheet ts c r
+
+-- that, or there are more terms than the table has room for
+abbrev pub Shortened : Signature → Signature → List ℕ → FixedTerms → Clause → rust.Option ShortLine → Type 0
+Shortened g g⁺ sheet ts c (Some r) = ShortRead g g⁺ sheet ts c r
+Shortened g g⁺ sheet ts c None = max_helpers < length (names_with g sheet ts c)

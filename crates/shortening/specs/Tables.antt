@@ -1,10 +1,12 @@
 -- Terms by the bytes that they are: the table of those that have names.
-use Rattle.std.specs.Prelude.{ℕ, ◌≤◌, ◌<◌, ◌≡◌, true, cond, List, map, ltb, length, get_or, take}
-use Rattle.std.proofs.Math.Option.{none, some}
+use Rattle.std.specs.Prelude.{ℕ, ◌≤◌, ◌<◌, ◌≡◌, true, List, map, length, get_or, take}
+use Rattle.std.proofs.Math.Option.{some}
+use Rattle.std.specs.Prelude as rust
 use Rattle.theory.specs.Lists.{same, place_that}
 use Rattle.theory.specs.Syntax.{Signature, Term, variable, Terms, empty, cons, term_ok}
 use Rattle.theory.specs.Grammar.{term_words, read_words}
 use Rattle.theory.specs.Columns.{or_no_words}
+use Rattle.theory.specs.Options.{told}
 use Rattle.text.specs.Lines.{part}
 use Rattle.syntax.specs.declared.terms.Span.{Span}
 use Rattle.syntax.specs.declared.terms.FixedTerms.{FixedTerms}
@@ -35,9 +37,9 @@ pub record TableWithin (sheet : List ℕ) (ts : FixedTerms) : Type 0 where
   pub count : ts.count ≤ max_helpers
   pub within : (i : ℕ) → i < ts.count → SpanWithin sheet (get_or ts.spans i no_span)
 
--- r is the place of the first span with these bytes, or the number of spans
-abbrev pub PlaceOf : List ℕ → FixedTerms → Span → ℕ → Type 0
-PlaceOf sheet ts s r = place_that (λ (u : Span). same (bytes_at sheet u) (bytes_at sheet s)) (spans_of ts) ≡ cond (ltb r ts.count) (some r) none
+-- r is the place of the first span with these bytes
+abbrev pub PlaceOf : List ℕ → FixedTerms → Span → rust.Option ℕ → Type 0
+PlaceOf sheet ts s r = place_that (λ (u : Span). same (bytes_at sheet u) (bytes_at sheet s)) (spans_of ts) ≡ told r
 
 -- the first term, if there is one
 abbrev pub first_term : Terms → Term

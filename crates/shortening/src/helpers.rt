@@ -22,10 +22,8 @@ pub fn with_helpers(signature: Signature, n: usize) -> Signature
     ensures { HelpersBehind signature n result }
 {
     let mut all = signature;
-    let mut i: usize = 0;
-    while i < n {
+    for _ in 0..n {
         all = all.with(helper());
-        i += 1;
     }
     all
 }

@@ -24,10 +24,9 @@ pub fn is_within(sheet: &[u8], signature: Signature, from: usize, to: usize) -> 
     ensures { (c : LineClause (signature_in sheet.now signature) sheet.now from to) → result ≡ is_within_named (length (signature_in sheet.now signature)) c.clause }
 {
     let all = with_helpers(signature, Problem::MAX_HELPERS);
-    let line = shorten(sheet, signature, all, from, to, FixedTerms::none());
-    if line.full {
+    let Some(line) = shorten(sheet, signature, all, from, to, FixedTerms::none()) else {
         return false;
-    }
+    };
     let words = line.words;
     if !fits(all, words) {
         return false;
@@ -41,13 +40,11 @@ fn helpers_fit(sheet: &[u8], signature: Signature, all: Signature, terms: FixedT
     requires { HelpersAsked sheet.now signature all terms }
     ensures { result ≡ lists.all is_within (helper_clauses (length (signature_in sheet.now signature)) (terms_in (signature_in sheet.now signature) sheet.now terms)) }
 {
-    let mut i: usize = 0;
-    while i < terms.count {
+    for i in 0..terms.count {
         let words = helper_words(sheet, signature, all, signature.count + i, terms.spans[i]);
         if !fits(all, words) {
             return false;
         }
-        i += 1;
     }
     true
 }

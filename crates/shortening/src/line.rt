@@ -4,7 +4,7 @@ ghost use Rattle.syntax.specs.Signatures.{signature_in};
 ghost use Rattle.clauses.specs.Names.{Readable};
 ghost use Rattle.shortening.specs.Spans.{CodeOf, NextWord};
 
-use clauses::words::{Word, word_of};
+use clauses::words::word_of;
 use syntax::signature::Signature;
 use text::lines::word_end;
 
@@ -32,8 +32,5 @@ fn code_of(sheet: &[u8], signature: Signature, word: &[u8]) -> u8
     requires { Readable sheet.now signature }
     ensures { CodeOf (signature_in sheet.now signature) word.now result }
 {
-    match word_of(sheet, signature, word) {
-        Word::Code(code) => code,
-        Word::Unknown => 0,
-    }
+    word_of(sheet, signature, word).unwrap_or(0)
 }

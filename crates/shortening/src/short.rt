@@ -9,30 +9,28 @@ ghost use Rattle.shortening.specs.Asked.{WordAsked, ShortAsked};
 
 use crate::line::next_word;
 use crate::table::{place_of, with_term};
-use crate::terms::{TermEnd, fixed_end, opens_term};
+use crate::terms::{fixed_end, opens_term};
 use clauses::clause::{Words, no_words, with_code};
 use syntax::limits::Problem;
 use syntax::signature::Signature;
 use syntax::terms::{FixedTerms, Span};
 
-// A word of a shortened clause by its code, where the words that it stands for end, and the terms that have names; or there are too many.
+// A word of a shortened clause by its code, where the words that it stands for end, and the terms that have names.
 #[derive(Drop)]
 pub struct ShortWord {
     pub code: u8,
     pub end: usize,
     pub terms: FixedTerms,
-    pub full: bool,
 }
 
-// The words of a shortened clause, and the terms that have names; or there are too many.
+// The words of a shortened clause, and the terms that have names.
 #[derive(Drop)]
 pub struct ShortLine {
     pub words: Words,
     pub terms: FixedTerms,
-    pub full: bool,
 }
 
-// The words of a line's clause with each outermost fixed term's name in its place, and the table with those terms. Names are places behind the declared symbols; `all` has a constant for each.
+// The words of a line's clause with each outermost fixed term's name in its place, and the table with those terms. Names are places behind the declared symbols; `all` has a constant for each. None where there are more terms than the table has room for.
 // A function's word that stays costs at most one pass over its term's words, and no more than 65 words are kept: so the time is at most that of 65 passes over the line.
 pub fn shorten(
     sheet: &[u8],
@@ -41,7 +39,7 @@ pub fn shorten(
     from: usize,
     to: usize,
     terms: FixedTerms,
-) -> ShortLine
+) -> Option<ShortLine>
     requires { ShortAsked sheet.now signature all from to terms }
     ensures { (c : LineClause (signature_in sheet.now signature) sheet.now from to) → Shortened (signature_in sheet.now signature) (signature_in sheet.now all) sheet.now terms c.clause result }
 {
@@ -49,84 +47,67 @@ pub fn shorten(
     let mut named = terms;
     let mut at = from;
     while at < to {
-        let next = short_word(sheet, signature, named, at, to);
-        if next.full {
-            return short_line(words, named, true);
-        }
+        let next = short_word(sheet, signature, named, at, to)?;
         words = with_code(all, words, next.code);
         if Problem::MAX_WORDS < words.count {
-            return short_line(words, named, false);
+            return Some(ShortLine {
+                words,
+                terms: named,
+            });
         }
         named = next.terms;
         at = next.end + 1;
     }
-    short_line(words, named, false)
+    Some(ShortLine {
+        words,
+        terms: named,
+    })
 }
 
-// A shortened line.
-fn short_line(words: Words, terms: FixedTerms, full: bool) -> ShortLine
-    ensures { result ≡ record { words = words; terms = terms; full = full } }
-{
-    ShortLine { words, terms, full }
-}
-
-// The word of the shortened clause for the words from a place on: a term's name, or the word there.
+// The word of the shortened clause for the words from a place on: a term's name, or the word there. None where there are too many terms.
 fn short_word(
     sheet: &[u8],
     signature: Signature,
     terms: FixedTerms,
     at: usize,
     to: usize,
-) -> ShortWord
+) -> Option<ShortWord>
     requires { WordAsked sheet.now signature terms at to }
     ensures { (l : LeftHere (signature_in sheet.now signature) sheet.now at to) → ShortStep (signature_in sheet.now signature) sheet.now at to terms l.left result }
 {
     let word = next_word(sheet, signature, at, to);
+    let as_it_stands = ShortWord {
+        code: word.code,
+        end: word.end,
+        terms,
+    };
     if !opens_term(signature, word.code) {
-        return ShortWord {
-            code: word.code,
-            end: word.end,
-            terms,
-            full: false,
-        };
+        return Some(as_it_stands);
     }
     match fixed_end(sheet, signature, at, to) {
-        TermEnd::Varies => ShortWord {
-            code: word.code,
-            end: word.end,
-            terms,
-            full: false,
-        },
-        TermEnd::At(end) => name_of(sheet, signature.count, terms, Span { from: at, to: end }),
+        Some(end) => name_of(sheet, signature.count, terms, Span { from: at, to: end }),
+        None => Some(as_it_stands),
     }
 }
 
-// The name of a term: that of the first equal one, or a new one.
-fn name_of(sheet: &[u8], declared: usize, terms: FixedTerms, term: Span) -> ShortWord
+// The name of a term: that of the first equal one, or a new one if there is room.
+fn name_of(sheet: &[u8], declared: usize, terms: FixedTerms, term: Span) -> Option<ShortWord>
     requires { (declared ≤ max_declared) × (TableWithin sheet.now terms × SpanWithin sheet.now term) }
     ensures { (g : theory.Signature) → TermsThere g sheet.now terms → TermThere g sheet.now term → NameGiven g sheet.now declared terms term result }
 {
-    let place = place_of(sheet, terms, term);
-    if place < terms.count {
-        return ShortWord {
+    if let Some(place) = place_of(sheet, terms, term) {
+        return Some(ShortWord {
             code: (declared + place) as u8,
             end: term.to,
             terms,
-            full: false,
-        };
+        });
     }
     if terms.count == Problem::MAX_HELPERS {
-        return ShortWord {
-            code: 0,
-            end: term.to,
-            terms,
-            full: true,
-        };
+        return None;
     }
-    ShortWord {
+    Some(ShortWord {
         code: (declared + terms.count) as u8,
         end: term.to,
         terms: with_term(terms, term),
-        full: false,
-    }
+    })
 }

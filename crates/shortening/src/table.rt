@@ -1,25 +1,23 @@
 // The table of terms that have names: each by its bytes in the sheet. Words are parted by one space, so terms are equal word for word exactly if their bytes are equal.
-ghost use Rattle.std.specs.Prelude.{◌≡◌, [], ◌∷◌, ◌++◌, ◌+◌, ◌<◌, length};
+ghost use Rattle.std.specs.Prelude.{◌≡◌, IfSome, [], ◌∷◌, ◌++◌, ◌+◌, ◌<◌, length};
 ghost use Rattle.theory.specs.Lists as lists;
 ghost use Rattle.naming.specs.NamedReading.{max_helpers};
 ghost use Rattle.shortening.specs.Tables.{bytes_at, SpanWithin, spans_of, TableWithin, PlaceOf};
 
 use syntax::terms::{FixedTerms, Span};
-use text::lines::same;
 
-// The place of the first term with the bytes of this one, or the number of terms.
-pub fn place_of(sheet: &[u8], terms: FixedTerms, term: Span) -> usize
+// The place of the first term with the bytes of this one.
+pub fn place_of(sheet: &[u8], terms: FixedTerms, term: Span) -> Option<usize>
     requires { TableWithin sheet.now terms × SpanWithin sheet.now term }
-    ensures { PlaceOf sheet.now terms term result }
+    ensures place { PlaceOf sheet.now terms term result }
+    ensures within { IfSome result (λ i. i < terms.count) }
 {
-    let mut i: usize = 0;
-    while i < terms.count {
+    for i in 0..terms.count {
         if same_bytes(sheet, terms.spans[i], term) {
-            return i;
+            return Some(i);
         }
-        i += 1;
     }
-    i
+    None
 }
 
 // Whether the bytes of two terms are the same.
@@ -31,7 +29,7 @@ fn same_bytes(sheet: &[u8], a: Span, b: Span) -> bool
     let to = a.to;
     let other = b.from;
     let end = b.to;
-    same(&sheet[from..to], &sheet[other..end])
+    sheet[from..to] == sheet[other..end]
 }
 
 // The table with one term more.

@@ -13,15 +13,8 @@ use crate::line::next_word;
 use syntax::signature::Signature;
 use syntax::words::ClauseWords;
 
-// Where a term's words end; or it has a variable.
-#[derive(Drop)]
-pub enum TermEnd {
-    At(usize),
-    Varies,
-}
-
 // The end of the term that starts at a place of a line, if it has no variable: one pass over its words, with a count of the terms that are due. A line may have thousands of words.
-pub fn fixed_end(sheet: &[u8], signature: Signature, at: usize, to: usize) -> TermEnd
+pub fn fixed_end(sheet: &[u8], signature: Signature, at: usize, to: usize) -> Option<usize>
     requires { TermAsked sheet.now signature at to }
     ensures { (t : TermHere (signature_in sheet.now signature) sheet.now at to) → EndOf t result }
 {
@@ -30,15 +23,15 @@ pub fn fixed_end(sheet: &[u8], signature: Signature, at: usize, to: usize) -> Te
     while next < to {
         let word = next_word(sheet, signature, next, to);
         if ClauseWords::LETTER <= word.code {
-            return TermEnd::Varies;
+            return None;
         }
         due = due - 1 + arguments(signature, word.code);
         if due == 0 {
-            return TermEnd::At(word.end);
+            return Some(word.end);
         }
         next = word.end + 1;
     }
-    TermEnd::Varies
+    None
 }
 
 // How many arguments a symbol has.

@@ -25,7 +25,7 @@ fine-both n (m ∷ ms) ns h k = (h.0, fine-both n ms ns h.1 k)
 
 fine-first : (n : ℕ) (t : TptpToken) (ms : List Move) (e : DueToken) → EachFine n ms
     → (elim (first_that (λ (m : Move). m.0 t) ms) as (λ _. Option DueToken) [ some m ↦ some m.1 | none ↦ none ]) ≡ some e → Fine n e
-fine-first n t [] e h k = let z : ◌≡◌ {A = ℕ} 0 1 = cc in absurd (omega arith)
+fine-first n t [] e h k = cc
 fine-first n t (m ∷ ms) e h k = go (m.0 t) k (λ x. fine-first n t ms e h.1 x)
   where
     go : (q : Bool)
@@ -79,7 +79,7 @@ goes-inside stop e t h m k = absurd (false≢true (refused (is full_stop t) h k)
   where
     refused : (q : Bool) → q ≡ false → (elim (elim q as (λ _. Option Move) [ true ↦ some (is full_stop, statement) | false ↦ none ]) as (λ _. Option DueToken) [ some m ↦ some m.1 | none ↦ none ]) ≡ some e → false ≡ true
     refused true h k = sym h
-    refused false h k = let z : ◌≡◌ {A = ℕ} 0 1 = cc in absurd (omega arith)
+    refused false h k = cc
 
 pub stop-kind : (k : TokenKind) → same_token_kind full_stop k ≡ true → k ≡ full_stop
 stop-kind full_stop e = refl
@@ -99,27 +99,27 @@ stop-kind open_comment e = absurd (false≢true e)
 
 stops_at : (d e : DueToken) (w : List ℕ) (p : ℕ) → due_after_token d (record { kind = full_stop; name = w; place = p }) ≡ some e → e ≡ statement
 unfolding due_after_token
-stops_at statement e w p h = let z : ◌≡◌ {A = ℕ} 0 1 = cc in absurd (omega arith)
-stops_at opening e w p h = let z : ◌≡◌ {A = ℕ} 0 1 = cc in absurd (omega arith)
-stops_at name e w p h = let z : ◌≡◌ {A = ℕ} 0 1 = cc in absurd (omega arith)
-stops_at name_comma e w p h = let z : ◌≡◌ {A = ℕ} 0 1 = cc in absurd (omega arith)
-stops_at role e w p h = let z : ◌≡◌ {A = ℕ} 0 1 = cc in absurd (omega arith)
-stops_at role_comma e w p h = let z : ◌≡◌ {A = ℕ} 0 1 = cc in absurd (omega arith)
-stops_at clause e w p h = let z : ◌≡◌ {A = ℕ} 0 1 = cc in absurd (omega arith)
-stops_at (literal b) e w p h = let z : ◌≡◌ {A = ℕ} 0 1 = cc in absurd (omega arith)
-stops_at (literal_end b) e w p h = let z : ◌≡◌ {A = ℕ} 0 1 = cc in absurd (omega arith)
-stops_at (term b s n) e w p h = let z : ◌≡◌ {A = ℕ} 0 1 = cc in absurd (omega arith)
-stops_at (word_end b (first true) zero) e w p h = let z : ◌≡◌ {A = ℕ} 0 1 = cc in absurd (omega arith)
-stops_at (word_end b (first false) zero) e w p h = let z : ◌≡◌ {A = ℕ} 0 1 = cc in absurd (omega arith)
-stops_at (word_end b second zero) e w p h = let z : ◌≡◌ {A = ℕ} 0 1 = cc in absurd (omega arith)
-stops_at (word_end b s (suc n)) e w p h = let z : ◌≡◌ {A = ℕ} 0 1 = cc in absurd (omega arith)
-stops_at (term_end b (first true) zero) e w p h = let z : ◌≡◌ {A = ℕ} 0 1 = cc in absurd (omega arith)
-stops_at (term_end b (first false) zero) e w p h = let z : ◌≡◌ {A = ℕ} 0 1 = cc in absurd (omega arith)
-stops_at (term_end b second zero) e w p h = let z : ◌≡◌ {A = ℕ} 0 1 = cc in absurd (omega arith)
-stops_at (term_end b s (suc n)) e w p h = let z : ◌≡◌ {A = ℕ} 0 1 = cc in absurd (omega arith)
-stops_at (equality b true) e w p h = let z : ◌≡◌ {A = ℕ} 0 1 = cc in absurd (omega arith)
-stops_at (equality b false) e w p h = let z : ◌≡◌ {A = ℕ} 0 1 = cc in absurd (omega arith)
-stops_at closing e w p h = let z : ◌≡◌ {A = ℕ} 0 1 = cc in absurd (omega arith)
+stops_at statement e w p h = cc
+stops_at opening e w p h = cc
+stops_at name e w p h = cc
+stops_at name_comma e w p h = cc
+stops_at role e w p h = cc
+stops_at role_comma e w p h = cc
+stops_at clause e w p h = cc
+stops_at (literal b) e w p h = cc
+stops_at (literal_end b) e w p h = cc
+stops_at (term b s n) e w p h = cc
+stops_at (word_end b (first true) zero) e w p h = cc
+stops_at (word_end b (first false) zero) e w p h = cc
+stops_at (word_end b second zero) e w p h = cc
+stops_at (word_end b s (suc n)) e w p h = cc
+stops_at (term_end b (first true) zero) e w p h = cc
+stops_at (term_end b (first false) zero) e w p h = cc
+stops_at (term_end b second zero) e w p h = cc
+stops_at (term_end b s (suc n)) e w p h = cc
+stops_at (equality b true) e w p h = cc
+stops_at (equality b false) e w p h = cc
+stops_at closing e w p h = cc
 stops_at stop e w p h = sym (some-injective statement e h)
 
 -- a full stop that may stand ends the statement

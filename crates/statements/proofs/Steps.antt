@@ -1,7 +1,7 @@
 -- The next token and what the code makes of it, inside a statement and at its begin.
 use Prim.Native.Nat.{ℕ, ◌+◌, ◌≤◌}
 use mathlib.Core.Path.{◌≡◌, refl, sym, ap, ◌∙◌, subst}
-use mathlib.Core.Bool.{Bool, true, false, ◌&&◌}
+use mathlib.Core.Bool.{Bool, true, false}
 use mathlib.Core.Option.{Option, none, some}
 use mathlib.Core.List.{List, [], ◌∷◌}
 use native.Mathlib.Omega.{arith}
@@ -17,43 +17,33 @@ use Rattle.tptp.specs.Tokens.{lower_word, full_stop, kind_number, TptpToken, is}
 use Rattle.tptp.specs.Grammar.{DueToken, Move, statement, opening, is_cnf, due_after_token, may_end}
 use Rattle.tptp.specs.Scanning.{same_token_kind}
 use Rattle.tokens.specs.Pieces.{kind_in}
-use Rattle.tokens.specs.declared.pieces.Kind.{Kind}
 use Rattle.tokens.specs.NextTokens.{tokens_at, token_in, NextFound}
-use Rattle.tokens.specs.declared.next.NextToken.TheVariants.{Is, End}
+use Rattle.std.specs.Prelude.{Some}
+use Rattle.tokens.specs.declared.next.Token.{Token}
 use Rattle.statements.specs.Dues.{kind_token, open_lists}
 use Rattle.statements.specs.Follows.{WholeFrom, ForeignFrom, OneOn, Inside, FollowedTo}
 use Rattle.statements.specs.declared.follow.Followed.TheVariants as followed
 use Rattle.statements.proofs.Moves.{due-moves}
 use Rattle.statements.proofs.Inside.{goes-inside, stops}
-use Rattle.statements.proofs.Wholes.{misplaced, whole-ends, whole-on, foreign-on, missing}
+use Rattle.statements.proofs.Wholes.{misplaced, whole-ends, whole-on, foreign-on}
 
--- a token is cnf by its kind and its bytes
-pub cnf-other : (t : TptpToken) → is lower_word t ≡ false → false ≡ is_cnf t
-cnf-other t e = ap (λ (q : Bool). q && same t.name (bytes "cnf")) (sym e)
-
-pub cnf-word : (t : TptpToken) (r : Bool) → is lower_word t ≡ true → r ≡ same t.name (bytes "cnf") → r ≡ is_cnf t
-cnf-word t r e h = h ∙ ap (λ (q : Bool). q && same t.name (bytes "cnf")) (sym e)
-
-pub step-ends : (text : List ℕ) (at : ℕ) (d : DueToken) → may_end d ≡ false → NextFound text at End → ForeignFrom text d at (length text)
-step-ends text at d m f = missing text d at f.listed m
-
-module _ (text : List ℕ) (at : ℕ) (d : DueToken) (k : Kind) (start end : ℕ) (f : NextFound text at (Is k start end)) where
+module _ (text : List ℕ) (at : ℕ) (d : DueToken) (u : Token) (f : NextFound text at (Some u)) where
   abbrev it : TptpToken
-  it = token_in text k start end
+  it = token_in text u
 
   module _ (m : may_end d ≡ false) where
     -- the kind is all that is looked at
-    after-it : (o : Option DueToken) → o ≡ due_after_token d (kind_token (kind_in k) false) → due_after_token d it ≡ o
-    after-it o e = sym (due-moves d (kind_in k) (part text start end) start m) ∙ due-moves d (kind_in k) [] 0 m ∙ sym e
+    after-it : (o : Option DueToken) → o ≡ due_after_token d (kind_token (kind_in u.kind) false) → due_after_token d it ≡ o
+    after-it o e = sym (due-moves d (kind_in u.kind) (part text u.start u.end) u.start m) ∙ due-moves d (kind_in u.kind) [] 0 m ∙ sym e
 
-    pub step-misplaced : none ≡ due_after_token d (kind_token (kind_in k) false) → ForeignFrom text d at start
-    step-misplaced e = misplaced text d at end it f.listed (after-it none e) (omega (arith, f.within.1.0, f.within.1.1.1))
+    pub step-misplaced : none ≡ due_after_token d (kind_token (kind_in u.kind) false) → ForeignFrom text d at u.start
+    step-misplaced e = misplaced text d at u.end it f.listed (after-it none e) (omega (arith, f.within.1.0, f.within.1.1.1))
 
-    pub step-stops : (x : DueToken) → some x ≡ due_after_token d (kind_token (kind_in k) false) → same_token_kind full_stop (kind_in k) ≡ true → WholeFrom text d at start end
+    pub step-stops : (x : DueToken) → some x ≡ due_after_token d (kind_token (kind_in u.kind) false) → same_token_kind full_stop (kind_in u.kind) ≡ true → WholeFrom text d at u.start u.end
     step-stops x e h =
-        whole-ends text d at end it f.listed (after-it (some x) e ∙ ap (λ (y : DueToken). some y) (stops d x it h (after-it (some x) e))) h f.within.0 f.within.1.0 f.within.1.1.0 f.within.1.1.1
+        whole-ends text d at u.end it f.listed (after-it (some x) e ∙ ap (λ (y : DueToken). some y) (stops d x it h (after-it (some x) e))) h f.within.0 f.within.1.0 f.within.1.1.0 f.within.1.1.1
 
-    pub step-on : (x : DueToken) → open_lists d ≤ at → some x ≡ due_after_token d (kind_token (kind_in k) false) → same_token_kind full_stop (kind_in k) ≡ false → OneOn text d x at end
+    pub step-on : (x : DueToken) → open_lists d ≤ at → some x ≡ due_after_token d (kind_token (kind_in u.kind) false) → same_token_kind full_stop (kind_in u.kind) ≡ false → OneOn text d x at u.end
     step-on x l e h =
         let i = goes-inside d x it h m (after-it (some x) e) in
         record {
@@ -75,9 +65,6 @@ pub record Going (text : List ℕ) (at i : ℕ) (d : DueToken) : Type 0 where
   pub foreigns : (p : ℕ) → ForeignFrom text d i p → ForeignFrom text opening at p
   pub wholes : (stop end : ℕ) → WholeFrom text d i stop end → WholeFrom text opening at stop end
 
-pub going-starts : (text : List ℕ) (at : ℕ) → at ≤ length text → Going text at at opening
-going-starts text at h = record { within = h; lists = omega arith; inside = refl; foreigns = λ p f. f; wholes = λ s e w. w }
-
 pub going_on : (text : List ℕ) (at i end : ℕ) (d e : DueToken) → OneOn text d e i end → Going text at i d → Going text at end e
 going_on text at i end d e o g = record {
   within = o.within;
@@ -87,9 +74,9 @@ going_on text at i end d e o g = record {
   wholes = λ s p w. g.wholes s p (whole-on text d i end o.token o.listed e o.moves o.goes_on o.past s p w);
 }
 
-module _ (text : List ℕ) (at : ℕ) (k : Kind) (start end : ℕ) (f : NextFound text at (Is k start end)) where
+module _ (text : List ℕ) (at : ℕ) (u : Token) (f : NextFound text at (Some u)) where
   abbrev first : TptpToken
-  first = token_in text k start end
+  first = token_in text u
 
   begun : (q : Bool) → is_cnf first ≡ q → due_after_token statement first ≡ (elim q as (λ _. Option DueToken) [ true ↦ some opening | false ↦ none ])
   unfolding due_after_token
@@ -103,23 +90,23 @@ module _ (text : List ℕ) (at : ℕ) (k : Kind) (start end : ℕ) (f : NextFoun
 
   -- cnf is no full stop
   no_stop : is_cnf first ≡ true → is full_stop first ≡ false
-  no_stop e = ap (eqb 7) (sym (eqb-true 0 (kind_number (kind_in k)) (and_left (is lower_word first) (same (part text start end) (bytes "cnf")) e)))
+  no_stop e = ap (eqb 7) (sym (eqb-true 0 (kind_number (kind_in u.kind)) (and_left (is lower_word first) (same (part text u.start u.end) (bytes "cnf")) e)))
 
-  pub follow-other : is_cnf first ≡ false → ForeignFrom text statement at start
-  follow-other e = misplaced text statement at end first f.listed (begun false e) (omega (arith, f.within.1.0, f.within.1.1.1))
+  pub follow-other : is_cnf first ≡ false → ForeignFrom text statement at u.start
+  follow-other e = misplaced text statement at u.end first f.listed (begun false e) (omega (arith, f.within.1.0, f.within.1.1.1))
 
-  pub follow-foreign : is_cnf first ≡ true → (p : ℕ) → ForeignFrom text opening end p → ForeignFrom text statement at p
-  follow-foreign e p g = foreign-on text statement at end first f.listed opening (begun true e) (no_stop e) f.within.1.1.0 p g
+  pub follow-foreign : is_cnf first ≡ true → (p : ℕ) → ForeignFrom text opening u.end p → ForeignFrom text statement at p
+  follow-foreign e p g = foreign-on text statement at u.end first f.listed opening (begun true e) (no_stop e) f.within.1.1.0 p g
 
   -- cnf has three bytes
-  three : is_cnf first ≡ true → end ≡ start + 3
+  three : is_cnf first ≡ true → u.end ≡ u.start + 3
   three e =
-      let n : length (part text start end) ≡ 3 = ap length (same_true (part text start end) (bytes "cnf") (and_right (is lower_word first) (same (part text start end) (bytes "cnf")) e)) in
-      omega (arith, n, length_part text start end f.within.1.0 f.within.1.1.1, f.within.1.0)
+      let n : length (part text u.start u.end) ≡ 3 = ap length (same_true (part text u.start u.end) (bytes "cnf") (and_right (is lower_word first) (same (part text u.start u.end) (bytes "cnf")) e)) in
+      omega (arith, n, length_part text u.start u.end f.within.1.0 f.within.1.1.1, f.within.1.0)
 
-  pub follow-whole : is_cnf first ≡ true → (stop past : ℕ) → WholeFrom text opening end stop past → FollowedTo text at (followed.Whole start stop past)
+  pub follow-whole : is_cnf first ≡ true → (stop past : ℕ) → WholeFrom text opening u.end stop past → FollowedTo text at (followed.Whole u.start stop past)
   follow-whole e stop past w = record {
-    whole = whole-on text statement at end first f.listed opening (begun true e) (no_stop e) f.within.1.1.0 stop past w;
+    whole = whole-on text statement at u.end first f.listed opening (begun true e) (no_stop e) f.within.1.1.0 stop past w;
     cnf = first;
     listed = f.listed ∙ ap (λ (n : ℕ). first ∷ tokens_at text n) (three e);
     begins = e;

@@ -1,14 +1,14 @@
 -- A statement token by token: what one more token does to the file, and what one whole statement does.
 use Prim.Native.Nat.{ℕ, ◌-◌, ◌≤◌, ◌<◌}
 use mathlib.Core.Path.{◌≡◌, refl, sym, ap, ◌∙◌}
-use mathlib.Core.Bool.{Bool, true, false, cond}
+use mathlib.Core.Bool.{Bool, true, false}
 use mathlib.Core.Option.{Option, none, some}
 use mathlib.Core.List.{List, [], ◌∷◌, ◌++◌, append_assoc}
 use native.Mathlib.Omega.{arith}
 use lib.ListN.{length, get_or, length-append}
 use lib.Seq.{get_or_at}
 use Rattle.tptp.specs.Tokens.{full_stop, TptpToken, is, tokens}
-use Rattle.tptp.specs.Grammar.{DueToken, statement, due_after_token, may_end}
+use Rattle.tptp.specs.Grammar.{DueToken, statement, due_after_token}
 use Rattle.tptp.specs.Trees.{no_token, statement_of}
 use Rattle.tptp.specs.Tptp.{File, foreign_at, with_statement, file_from, read_file}
 use Rattle.tptp.specs.Claims.Places.{due_after_tokens}
@@ -85,13 +85,6 @@ module _ (text : List ℕ) (d : DueToken) (at end : ℕ) (t : TptpToken) (l : to
       later = w.later;
       within = w.within;
     }
-
--- the text ends where it may not
-pub missing : (text : List ℕ) (d : DueToken) (at : ℕ) → tokens_at text at ≡ [] → may_end d ≡ false → ForeignFrom text d at (length text)
-missing text d at l m = record {
-  file = λ before. ap (λ (ts : List TptpToken). file_from (length text) ts before d) l ∙ ap (λ (q : Bool). foreign_at (cond q none (some (length text)))) m;
-  within = omega arith;
-}
 
 -- For callers: the file from a place on, by the statement that is followed from there on.
 

@@ -1,5 +1,6 @@
 -- What the code's states of a statement stand for.
-use Rattle.std.specs.Prelude.{ℕ, Bool, false, cond, List, [], ◌∷◌}
+use Rattle.std.specs.Prelude.{ℕ, Bool, false, cond, List, [], ◌∷◌, Some, None}
+use Rattle.std.specs.Prelude as rust
 use Rattle.std.proofs.Math.Option.{Option, none, some}
 use Rattle.theory.specs.Lists.{first_that}
 use Rattle.theory.specs.Bytes.{bytes}
@@ -8,10 +9,9 @@ use Rattle.tptp.specs.Grammar.{first, second, DueToken, Move, statement, opening
 use Rattle.tptp.specs.Grammar as grammar
 use Rattle.statements.specs.declared.due.Side.{Side}
 use Rattle.statements.specs.declared.due.Side.TheVariants.{First, Second}
+use Rattle.statements.specs.declared.due.TermPlace.{TermPlace}
 use Rattle.statements.specs.declared.due.Due.{Due}
 use Rattle.statements.specs.declared.due.Due.TheVariants.{Statement, Opening, Name, NameComma, Role, RoleComma, Clause, Literal, LiteralEnd, Term, WordEnd, TermEnd, Equality, Closing, Stop}
-use Rattle.statements.specs.declared.due.After.{After}
-use Rattle.statements.specs.declared.due.After.TheVariants.{Next, Misplaced}
 
 -- more argument lists than a text has bytes
 abbrev pub max_open : ℕ
@@ -20,6 +20,10 @@ max_open = 18446744073709551615
 abbrev pub side_in : Side → grammar.Side
 side_in (First c) = first c
 side_in Second = second
+
+-- a term's place outside argument lists
+abbrev pub outer_place : Bool → Side → TermPlace
+outer_place b s = record { wrapped = b; side = s; lists = 0 }
 
 abbrev pub due_token_in : Due → DueToken
 due_token_in Statement = statement
@@ -31,17 +35,17 @@ due_token_in RoleComma = role_comma
 due_token_in Clause = clause
 due_token_in (Literal b) = literal b
 due_token_in (LiteralEnd b) = literal_end b
-due_token_in (Term b s n) = term b (side_in s) n
-due_token_in (WordEnd b s n) = word_end b (side_in s) n
-due_token_in (TermEnd b s n) = term_end b (side_in s) n
+due_token_in (Term p) = term p.wrapped (side_in p.side) p.lists
+due_token_in (WordEnd p) = word_end p.wrapped (side_in p.side) p.lists
+due_token_in (TermEnd p) = term_end p.wrapped (side_in p.side) p.lists
 due_token_in (Equality b c) = equality b c
 due_token_in Closing = closing
 due_token_in Stop = stop
 
 -- what is due next, if the token may stand there
-abbrev pub after_in : After → Option DueToken
-after_in (Next d) = some (due_token_in d)
-after_in Misplaced = none
+abbrev pub after_in : rust.Option Due → Option DueToken
+after_in (Some d) = some (due_token_in d)
+after_in None = none
 
 -- a token of this kind, which spells cnf or does not: all that is looked at
 abbrev pub kind_token : TokenKind → Bool → TptpToken

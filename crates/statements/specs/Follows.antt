@@ -1,5 +1,5 @@
 -- What one statement of a text is, from a place on: its tokens, and what it does to the file.
-use Rattle.std.specs.Prelude.{ℕ, ◌+◌, ◌≤◌, ◌<◌, ◌≡◌, true, false, List, [], ◌∷◌, ◌++◌, length}
+use Rattle.std.specs.Prelude.{ℕ, ◌+◌, ◌≤◌, ◌<◌, ◌≡◌, true, false, List, [], ◌∷◌, ◌++◌, length, Result, Ok, Err}
 use Rattle.std.proofs.Math.Option.{some}
 use Rattle.tptp.specs.Tokens.{full_stop, TptpToken, is}
 use Rattle.tptp.specs.Grammar.{DueToken, statement, opening, is_cnf, due_after_token, may_end}
@@ -10,8 +10,6 @@ use Rattle.tokens.specs.NextTokens.{tokens_at}
 use Rattle.statements.specs.Dues.{due_token_in, open_lists}
 use Rattle.statements.specs.declared.follow.Followed.{Followed}
 use Rattle.statements.specs.declared.follow.Followed.TheVariants as followed
-use Rattle.statements.specs.declared.follow.Rest.{Rest}
-use Rattle.statements.specs.declared.follow.Rest.TheVariants as rest
 use Rattle.statements.specs.declared.follow.Step.{Step}
 use Rattle.statements.specs.declared.follow.Step.TheVariants as step
 
@@ -53,9 +51,9 @@ pub record ForeignFrom (text : List ℕ) (d : DueToken) (at p : ℕ) : Type 0 wh
   pub within : p ≤ length text
 
 -- the tokens after a place where d is due
-abbrev pub RestTo : List ℕ → DueToken → ℕ → Rest → Type 0
-RestTo text d at (rest.Whole stop end) = WholeFrom text d at stop end
-RestTo text d at (rest.Foreign p) = ForeignFrom text d at p
+abbrev pub RestTo : List ℕ → DueToken → ℕ → Result (ℕ × ℕ) ℕ → Type 0
+RestTo text d at (Ok (stop, end)) = WholeFrom text d at stop end
+RestTo text d at (Err p) = ForeignFrom text d at p
 
 -- one more token t where d is due inside a statement, up to the place `end`
 pub record OneOn (text : List ℕ) (d e : DueToken) (at end : ℕ) : Type 0 where

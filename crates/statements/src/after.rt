@@ -3,183 +3,170 @@ ghost use Rattle.std.specs.Prelude.{◌≡◌, cond, [], ◌∷◌, ◌++◌, �
 ghost use Rattle.tptp.specs.Grammar.{closing, stop, after_literal, relations, after_term, after_variable, begins_term, begins_literal, moves, due_after_token};
 ghost use Rattle.tptp.specs.Grammar as grammar;
 ghost use Rattle.tokens.specs.Pieces.{kind_in};
-ghost use Rattle.statements.specs.Dues.{max_open, side_in, due_token_in, after_in, kind_token, moved_by, open_lists, only_move};
+ghost use Rattle.statements.specs.Dues.{max_open, side_in, due_token_in, after_in, kind_token, moved_by, open_lists, only_move, outer_place};
 
-use crate::due::{After, Due, Side};
+use crate::due::{Due, Side, TermPlace};
 use crate::kinds::is;
 use tokens::pieces::Kind;
 
 // One kind of token may come, and then this is due.
-fn only(kind: Kind, want: Kind, next: Due) -> After
+fn only(kind: Kind, want: Kind, next: Due) -> Option<Due>
     ensures { after_in result ≡ moved_by (only_move (kind_in want) (due_token_in next)) (kind_in kind) }
 {
-    if is(want, kind) {
-        return After::Next(next);
-    }
-    After::Misplaced
+    is(want, kind).then_some(next)
 }
 
-fn after_statement(kind: Kind, cnf: bool) -> After
+#[tactic(auto, unfolding(tptp::specs::Grammar::due_after_token))]
+fn after_statement(kind: Kind, cnf: bool) -> Option<Due>
     ensures { after_in result ≡ due_after_token grammar.statement (kind_token (kind_in kind) cnf) }
 {
-    if !is(Kind::LowerWord, kind) {
-        return After::Misplaced;
+    match kind {
+        Kind::LowerWord if cnf => Some(Due::Opening),
+        _ => None,
     }
-    if cnf {
-        return After::Next(Due::Opening);
-    }
-    After::Misplaced
 }
 
-fn after_opening(kind: Kind) -> After
+fn after_opening(kind: Kind) -> Option<Due>
     ensures { after_in result ≡ moved_by (moves grammar.name) (kind_in kind) }
 {
-    if is(Kind::LowerWord, kind) {
-        return After::Next(Due::NameComma);
-    }
-    if is(Kind::Digits, kind) {
-        return After::Next(Due::NameComma);
-    }
-    After::Misplaced
-}
-
-// What is due after a variable: it is no atom.
-fn after_variable(wrapped: bool, side: Side, lists: usize) -> Due
-    ensures { due_token_in result ≡ after_variable wrapped (side_in side) lists }
-{
-    match side {
-        Side::Second => Due::TermEnd(wrapped, Side::Second, lists),
-        Side::First(tilde) => after_first_variable(wrapped, tilde, lists),
+    match kind {
+        Kind::LowerWord | Kind::Digits => Some(Due::NameComma),
+        _ => None,
     }
 }
 
-fn after_first_variable(wrapped: bool, tilde: bool, lists: usize) -> Due
-    ensures { due_token_in result ≡ after_variable wrapped (grammar.first tilde) lists }
-{
-    if lists == 0 {
-        return Due::Equality(wrapped, tilde);
-    }
-    Due::TermEnd(wrapped, Side::First(tilde), lists)
-}
-
-fn begins_term(wrapped: bool, side: Side, lists: usize, kind: Kind) -> After
-    ensures { after_in result ≡ moved_by (begins_term wrapped (side_in side) lists) (kind_in kind) }
-{
-    if is(Kind::LowerWord, kind) {
-        return After::Next(Due::WordEnd(wrapped, side, lists));
-    }
-    if is(Kind::UpperWord, kind) {
-        return After::Next(after_variable(wrapped, side, lists));
-    }
-    After::Misplaced
-}
-
-fn begins_literal(wrapped: bool, kind: Kind) -> After
+fn begins_literal(wrapped: bool, kind: Kind) -> Option<Due>
     ensures { after_in result ≡ moved_by (begins_literal wrapped) (kind_in kind) }
 {
-    if is(Kind::Falsum, kind) {
-        return After::Next(Due::LiteralEnd(wrapped));
+    match kind {
+        Kind::Falsum => Some(Due::LiteralEnd(wrapped)),
+        Kind::Tilde => Some(Due::Term(TermPlace::outer(wrapped, Side::First(true)))),
+        _ => TermPlace::outer(wrapped, Side::First(false)).begun(kind),
     }
-    if is(Kind::Tilde, kind) {
-        return After::Next(Due::Term(wrapped, Side::First(true), 0));
-    }
-    begins_term(wrapped, Side::First(false), 0, kind)
 }
 
-fn begins_clause(kind: Kind) -> After
+fn begins_clause(kind: Kind) -> Option<Due>
     ensures { after_in result ≡ moved_by (moves grammar.clause) (kind_in kind) }
 {
-    if is(Kind::LeftParen, kind) {
-        return After::Next(Due::Literal(true));
+    match kind {
+        Kind::LeftParen => Some(Due::Literal(true)),
+        _ => begins_literal(false, kind),
     }
-    begins_literal(false, kind)
 }
 
 // What is due after the clause: its parenthesis is closed first.
 fn after_clause(wrapped: bool) -> Due
     ensures { due_token_in result ≡ cond wrapped closing stop }
 {
-    if wrapped {
-        return Due::Closing;
-    }
-    Due::Stop
+    if wrapped { Due::Closing } else { Due::Stop }
 }
 
-fn after_literal(wrapped: bool, kind: Kind) -> After
+fn after_literal(wrapped: bool, kind: Kind) -> Option<Due>
     ensures { after_in result ≡ moved_by (after_literal wrapped) (kind_in kind) }
 {
-    if is(Kind::Bar, kind) {
-        return After::Next(Due::Literal(wrapped));
+    match kind {
+        Kind::Bar => Some(Due::Literal(wrapped)),
+        Kind::RightParen => Some(after_clause(wrapped)),
+        _ => None,
     }
-    if is(Kind::RightParen, kind) {
-        return After::Next(after_clause(wrapped));
-    }
-    After::Misplaced
 }
 
 // = or != after a literal's first term: != not after ~.
-fn relates(wrapped: bool, tilde: bool, kind: Kind) -> After
+fn relates(wrapped: bool, tilde: bool, kind: Kind) -> Option<Due>
     ensures { after_in result ≡ moved_by (relations wrapped tilde) (kind_in kind) }
 {
-    if is(Kind::EqualSign, kind) {
-        return After::Next(Due::Term(wrapped, Side::Second, 0));
+    let second = Due::Term(TermPlace::outer(wrapped, Side::Second));
+    match kind {
+        Kind::EqualSign => Some(second),
+        Kind::UnequalSign if !tilde => Some(second),
+        _ => None,
     }
-    if tilde {
-        return After::Misplaced;
-    }
-    if is(Kind::UnequalSign, kind) {
-        return After::Next(Due::Term(wrapped, Side::Second, 0));
-    }
-    After::Misplaced
 }
 
 // After a literal's first term: = or !=, or what follows a literal.
-fn after_first_term(wrapped: bool, tilde: bool, kind: Kind) -> After
+fn after_first_term(wrapped: bool, tilde: bool, kind: Kind) -> Option<Due>
     ensures { after_in result ≡ moved_by (relations wrapped tilde ++ after_literal wrapped) (kind_in kind) }
 {
-    match relates(wrapped, tilde, kind) {
-        After::Next(next) => After::Next(next),
-        After::Misplaced => after_literal(wrapped, kind),
-    }
+    relates(wrapped, tilde, kind).or(after_literal(wrapped, kind))
 }
 
-// After a term outside lists.
-fn after_outer_term(wrapped: bool, side: Side, kind: Kind) -> After
-    ensures { after_in result ≡ moved_by (after_term wrapped (side_in side) 0) (kind_in kind) }
-{
-    match side {
-        Side::Second => after_literal(wrapped, kind),
-        Side::First(tilde) => after_first_term(wrapped, tilde, kind),
+impl TermPlace {
+    // Outside argument lists.
+    fn outer(wrapped: bool, side: Side) -> TermPlace
+        ensures { result ≡ outer_place wrapped side }
+    {
+        TermPlace {
+            wrapped,
+            side,
+            lists: 0,
+        }
     }
-}
 
-fn after_term(wrapped: bool, side: Side, lists: usize, kind: Kind) -> After
-    ensures { after_in result ≡ moved_by (after_term wrapped (side_in side) lists) (kind_in kind) }
-{
-    if lists == 0 {
-        return after_outer_term(wrapped, side, kind);
+    // After the term's first token.
+    fn begun(self, kind: Kind) -> Option<Due>
+        ensures { after_in result ≡ moved_by (begins_term self.wrapped (side_in self.side) self.lists) (kind_in kind) }
+    {
+        match kind {
+            Kind::LowerWord => Some(Due::WordEnd(self)),
+            Kind::UpperWord => Some(self.after_variable()),
+            _ => None,
+        }
     }
-    if is(Kind::Comma, kind) {
-        return After::Next(Due::Term(wrapped, side, lists));
-    }
-    if is(Kind::RightParen, kind) {
-        return After::Next(Due::TermEnd(wrapped, side, lists - 1));
-    }
-    After::Misplaced
-}
 
-fn after_word(wrapped: bool, side: Side, lists: usize, kind: Kind) -> After
-    requires { lists < max_open }
-    ensures { after_in result ≡ moved_by (moves (grammar.word_end wrapped (side_in side) lists)) (kind_in kind) }
-{
-    if is(Kind::LeftParen, kind) {
-        return After::Next(Due::Term(wrapped, side, lists + 1));
+    // What is due after a variable: it is no atom.
+    fn after_variable(self) -> Due
+        ensures { due_token_in result ≡ after_variable self.wrapped (side_in self.side) self.lists }
+    {
+        match self.side {
+            Side::First(tilde) if self.lists == 0 => Due::Equality(self.wrapped, tilde),
+            _ => Due::TermEnd(self),
+        }
     }
-    after_term(wrapped, side, lists, kind)
+
+    // After a lower word: its arguments, or what follows the term.
+    fn after_word(self, kind: Kind) -> Option<Due>
+        requires { self.lists < max_open }
+        ensures { after_in result ≡ moved_by (moves (grammar.word_end self.wrapped (side_in self.side) self.lists)) (kind_in kind) }
+    {
+        match kind {
+            Kind::LeftParen => Some(Due::Term(TermPlace {
+                lists: self.lists + 1,
+                ..self
+            })),
+            _ => self.after_term(kind),
+        }
+    }
+
+    fn after_term(self, kind: Kind) -> Option<Due>
+        ensures { after_in result ≡ moved_by (after_term self.wrapped (side_in self.side) self.lists) (kind_in kind) }
+    {
+        if self.lists == 0 {
+            return self.after_outer_term(kind);
+        }
+        match kind {
+            Kind::Comma => Some(Due::Term(self)),
+            Kind::RightParen => Some(Due::TermEnd(TermPlace {
+                lists: self.lists - 1,
+                ..self
+            })),
+            _ => None,
+        }
+    }
+
+    // After a term outside lists.
+    fn after_outer_term(self, kind: Kind) -> Option<Due>
+        ensures { after_in result ≡ moved_by (after_term self.wrapped (side_in self.side) 0) (kind_in kind) }
+    {
+        match self.side {
+            Side::Second => after_literal(self.wrapped, kind),
+            Side::First(tilde) => after_first_term(self.wrapped, tilde, kind),
+        }
+    }
 }
 
 // What is due after a token of this kind, where `due` is due; cnf tells whether it spells cnf.
-pub fn after(due: Due, kind: Kind, cnf: bool) -> After
+#[tactic(auto, unfolding(tptp::specs::Grammar::due_after_token))]
+pub fn after(due: Due, kind: Kind, cnf: bool) -> Option<Due>
     requires { open_lists (due_token_in due) < max_open }
     ensures { after_in result ≡ due_after_token (due_token_in due) (kind_token (kind_in kind) cnf) }
 {
@@ -193,9 +180,9 @@ pub fn after(due: Due, kind: Kind, cnf: bool) -> After
         Due::Clause => begins_clause(kind),
         Due::Literal(wrapped) => begins_literal(wrapped, kind),
         Due::LiteralEnd(wrapped) => after_literal(wrapped, kind),
-        Due::Term(wrapped, side, lists) => begins_term(wrapped, side, lists, kind),
-        Due::WordEnd(wrapped, side, lists) => after_word(wrapped, side, lists, kind),
-        Due::TermEnd(wrapped, side, lists) => after_term(wrapped, side, lists, kind),
+        Due::Term(place) => place.begun(kind),
+        Due::WordEnd(place) => place.after_word(kind),
+        Due::TermEnd(place) => place.after_term(kind),
         Due::Equality(wrapped, tilde) => relates(wrapped, tilde, kind),
         Due::Closing => only(kind, Kind::RightParen, Due::Stop),
         Due::Stop => only(kind, Kind::FullStop, Due::Statement),

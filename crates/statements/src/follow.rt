@@ -6,9 +6,9 @@ ghost use Rattle.statements.specs.Dues.{open_lists, due_token_in};
 ghost use Rattle.statements.specs.Follows.{Stepped, RestTo, FollowedTo};
 
 use crate::after::after;
-use crate::due::{After, Due};
+use crate::due::Due;
 use crate::kinds::{is, spells_cnf};
-use tokens::next::{NextToken, next_token};
+use tokens::next::{Token, next_token};
 use tokens::pieces::Kind;
 
 // A whole statement: the places of its cnf and of its full stop, and the place after it; the text's end instead of a statement;
@@ -20,19 +20,12 @@ pub enum Followed {
     Foreign(usize),
 }
 
-// What follows the cnf: the statement's other tokens, with the place of its full stop and the place after it; or a place as above.
-#[derive(Drop)]
-pub enum Rest {
-    Whole(usize, usize),
-    Foreign(usize),
-}
-
 // One token inside a statement: what is due after it, and the place after it; or it is the full stop, with its place and the place after it;
 // or a place as above.
 #[derive(Drop)]
 pub enum Step {
-    On(Due, usize),
-    Stop(usize, usize),
+    On { next: Due, end: usize },
+    Stop { at: usize, end: usize },
     Foreign(usize),
 }
 
@@ -41,22 +34,18 @@ fn one_more(text: &[u8], at: usize, due: Due) -> Step
     requires { (at ≤ length text.now) × ((open_lists (due_token_in due) ≤ at) × (may_end (due_token_in due) ≡ false)) }
     ensures { Stepped text.now at (due_token_in due) result }
 {
-    match next_token(text, at) {
-        NextToken::End => Step::Foreign(text.len()),
-        NextToken::Is(kind, start, end) => match after(due, kind, false) {
-            After::Misplaced => Step::Foreign(start),
-            After::Next(next) => {
-                if is(Kind::FullStop, kind) {
-                    return Step::Stop(start, end);
-                }
-                Step::On(next, end)
-            }
-        },
+    let Some(Token { kind, start, end }) = next_token(text, at) else {
+        return Step::Foreign(text.len());
+    };
+    match after(due, kind, false) {
+        None => Step::Foreign(start),
+        Some(_) if is(Kind::FullStop, kind) => Step::Stop { at: start, end },
+        Some(next) => Step::On { next, end },
     }
 }
 
-// The tokens after a statement's cnf.
-fn follow_rest(text: &[u8], at: usize) -> Rest
+// The tokens after a statement's cnf: the place of its full stop and the place after it, or a place as above.
+fn follow_rest(text: &[u8], at: usize) -> Result<(usize, usize), usize>
     requires { at ≤ length text.now }
     ensures { RestTo text.now opening at result }
 {
@@ -65,12 +54,12 @@ fn follow_rest(text: &[u8], at: usize) -> Rest
     loop {
         match one_more(text, i, due) {
             Step::Foreign(place) => {
-                return Rest::Foreign(place);
+                return Err(place);
             }
-            Step::Stop(stop, end) => {
-                return Rest::Whole(stop, end);
+            Step::Stop { at, end } => {
+                return Ok((at, end));
             }
-            Step::On(next, end) => {
+            Step::On { next, end } => {
                 due = next;
                 i = end;
             }
@@ -79,14 +68,11 @@ fn follow_rest(text: &[u8], at: usize) -> Rest
 }
 
 // Whether a token is the word cnf.
-fn begins(text: &[u8], kind: Kind, start: usize, end: usize) -> bool
-    requires { (start ≤ end) × (end ≤ length text.now) }
-    ensures { result ≡ is_cnf (token_in text.now kind start end) }
+fn is_cnf(text: &[u8], token: Token) -> bool
+    requires { (token.start ≤ token.end) × (token.end ≤ length text.now) }
+    ensures { result ≡ is_cnf (token_in text.now token) }
 {
-    if !is(Kind::LowerWord, kind) {
-        return false;
-    }
-    spells_cnf(text, start, end)
+    is(Kind::LowerWord, token.kind) && spells_cnf(text, token.start, token.end)
 }
 
 // The statement from a place on.
@@ -94,16 +80,14 @@ pub fn follow(text: &[u8], at: usize) -> Followed
     requires { at ≤ length text.now }
     ensures { FollowedTo text.now at result }
 {
-    match next_token(text, at) {
-        NextToken::End => Followed::End,
-        NextToken::Is(kind, start, end) => {
-            if !begins(text, kind, start, end) {
-                return Followed::Foreign(start);
-            }
-            match follow_rest(text, end) {
-                Rest::Whole(stop, past) => Followed::Whole(start, stop, past),
-                Rest::Foreign(place) => Followed::Foreign(place),
-            }
-        }
+    let Some(token) = next_token(text, at) else {
+        return Followed::End;
+    };
+    if !is_cnf(text, token) {
+        return Followed::Foreign(token.start);
+    }
+    match follow_rest(text, token.end) {
+        Ok((stop, past)) => Followed::Whole(token.start, stop, past),
+        Err(place) => Followed::Foreign(place),
     }
 }

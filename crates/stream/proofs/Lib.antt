@@ -1,4 +1,4 @@
-pub mod Texts
 pub mod Codes
-pub mod Streams
 pub mod OneClause
+pub mod Streams
+pub mod Texts

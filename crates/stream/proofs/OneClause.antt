@@ -1,4 +1,4 @@
--- One clause of a stream, in each mode: what its consumer asks, and that it is then taken.
+-- One clause of a stream, at each consumer that lends a slice: what is asked, and that the clause is then taken.
 use Prim.Native.Nat.{ℕ, suc, ◌+◌, ◌^◌, ◌≤◌, ◌<◌}
 use mathlib.Core.Path.{◌≡◌, sym, ap, ◌∙◌, subst}
 use mathlib.Core.Bool.{Bool, true, ◌&&◌}
@@ -17,9 +17,11 @@ use Rattle.text.specs.Put.{put, put-run, length-put}
 use Rattle.loading.specs.Filling.{literals, area_end}
 use Rattle.loading.specs.Loading.{Tallied, Entered, Tallyable, Enterable}
 use Rattle.stream.specs.Literals.{literal_of, prop_clause_of, all_codes}
-use Rattle.stream.specs.declared.consumer.Mode.{Mode}
-use Rattle.stream.specs.declared.consumer.Mode.TheVariants.{Measure, Write, Tally, Enter}
-use Rattle.stream.specs.Consuming.{texts, Stream, State, state, Consumes, Consumed}
+use Rattle.stream.specs.declared.consumer.Writing.{Writing}
+use Rattle.stream.specs.declared.consumer.Tallying.{Tallying}
+use Rattle.stream.specs.declared.consumer.Entering.{Entering}
+use Rattle.stream.specs.Consuming.{texts, Consumes}
+use Rattle.stream.specs.Consumers.{Written, writing, Counted, tallying, EnteredFirst, entering}
 use Rattle.stream.proofs.Codes.{codes-clause_of, numbered-in-range}
 
 -- one clause more at the end
@@ -62,103 +64,92 @@ module _ (cs before after : List PropClause) (us : List ℕ) (split : cs ≡ bef
       and_left (p (prop_clause_of us)) (all p after)
       (and_right (all p before) (p (prop_clause_of us) && all p after) (sym (all_append p before (prop_clause_of us ∷ after)) ∙ ap (all p) (sym split) ∙ h))
 
--- Asked.
-module _ (v : ℕ) (us : List ℕ) (x : State) where
-  pub count_fits : (mode : Mode) → Consumes mode v (prop_clause_of us ∷ []) x → x.progress.count + 1 < 2 ^ 64
-  count_fits mode h = omega (arith, h.so_far.count, h.fits.count, length-split h.stream.clauses h.before h.after us h.split)
-
-  pub measure-fits : Consumes Measure v (prop_clause_of us ∷ []) x → x.progress.at + length (clause_text (prop_clause_of us)) < 2 ^ 64
-  measure-fits h = omega (arith, h.so_far.at, h.fits.room, texts-within h.stream.clauses h.before h.after us h.split)
-
-  pub write-fits : Consumes Write v (prop_clause_of us ∷ []) x → x.progress.at + length (clause_text (prop_clause_of us)) ≤ length x.output
+-- A line is written.
+module _ (us : List ℕ) (x : Writing) where
+  pub write-fits : Consumes writing (prop_clause_of us ∷ []) x → x.at + length (clause_text (prop_clause_of us)) ≤ length x.output.now
   write-fits h =
-      let s : Stream = h.stream in
-      let within = texts-within s.clauses h.before h.after us h.split in
-      omega (arith, h.so_far.at, h.fits.room, within, ap length h.so_far.output, length-put s.output s.start (texts h.before) (omega (arith, h.fits.room, within)))
+      let within = texts-within h.clauses h.before h.behind us h.split in
+      omega (arith, h.so_far.at, h.fits.1, within, ap length h.so_far.output, length-put h.start.output.now h.start.at (texts h.before) (omega (arith, h.fits.1, within)))
 
-  pub tally-fits : Consumes Tally v (prop_clause_of us ∷ []) x → Tallyable v us x.work
+module _ (us : List ℕ) (cs before behind : List PropClause) (start x y : Writing) (split : cs ≡ before ++ (prop_clause_of us ∷ behind)) where
+  pub written : start.at + length (texts cs) ≤ length start.output.now → Written start before x
+      → y.output.ghost_name ≡ x.output.ghost_name → y.output.now ≡ put x.output.now x.at (clause_text (prop_clause_of us)) → y.at ≡ x.at + length (clause_text (prop_clause_of us))
+      → y.count ≡ x.count + 1 → Written start (before ++ (prop_clause_of us ∷ [])) y
+  written fits a r p n m =
+      record {
+        same_reference = r ∙ a.same_reference;
+        at = omega (arith, a.at, length-texts-snoc before (prop_clause_of us));
+        count = m ∙ count-snoc before (prop_clause_of us) x.count a.count;
+        output =
+            put-run start.output.now x.output.now y.output.now start.at x.at (texts before) (clause_text (prop_clause_of us)) a.output a.at p
+            (omega (arith, a.at, fits, texts-within cs before behind us split))
+            ∙ ap (put start.output.now start.at) (sym (texts-snoc before (prop_clause_of us)));
+      }
+
+-- Its literals are counted.
+module _ (us : List ℕ) (x : Tallying) where
+  pub tally-fits : Consumes tallying (prop_clause_of us ∷ []) x → Tallyable x.variables us x.work.now
   tally-fits h =
-      let s : Stream = h.stream in
+      let same = h.so_far.variables in
       record {
         seen = all_codes h.before;
-        tallied = subst (λ (n : ℕ). Tallied n (all_codes h.before) x.work) h.variables h.so_far.work;
-        range = numbered-in-range v us (subst (λ (n : ℕ). all (is_numbered n) (prop_clause_of us) ≡ true) h.variables (passes s.clauses h.before h.after us h.split (all (is_numbered s.variables)) h.fits.numbered));
-        room = omega (arith, h.fits.room.0, h.variables, h.so_far.long);
-        fits = omega (arith, h.fits.room.1, literals-within s.clauses h.before h.after us h.split);
+        tallied = subst (λ (n : ℕ). Tallied n (all_codes h.before) x.work.now) (sym same) h.so_far.work;
+        range = numbered-in-range x.variables us (subst (λ (n : ℕ). all (is_numbered n) (prop_clause_of us) ≡ true) (sym same) (passes h.clauses h.before h.behind us h.split (all (is_numbered h.start.variables)) h.fits.numbered));
+        room = omega (arith, h.fits.room, same, h.so_far.long);
+        fits = omega (arith, h.fits.few, literals-within h.clauses h.before h.behind us h.split);
       }
 
-  pub enter-fits : Consumes Enter v (prop_clause_of us ∷ []) x → Enterable v us x.progress.count x.work
-  enter-fits h =
-      let s : Stream = h.stream in
-      let all_codes-is = codes-split s.clauses h.before h.after us h.split in
+module _ (us : List ℕ) (before : List PropClause) (start x y : Tallying) where
+  pub tallied : Counted start before x → y.work.ghost_name ≡ x.work.ghost_name → y.variables ≡ x.variables → y.count ≡ x.count + 1 → length y.work.now ≡ length x.work.now
+      → ((seen : List (List ℕ)) → Tallied x.variables seen x.work.now → Tallied x.variables (seen ++ (us ∷ [])) y.work.now)
+      → Counted start (before ++ (prop_clause_of us ∷ [])) y
+  tallied a r v n k t =
       record {
-        before = all_codes h.before;
-        after = all_codes h.after;
-        entered =
-            subst (λ (l : List (List ℕ)). Entered v l (all_codes h.before) x.work) all_codes-is
-            (subst (λ (n : ℕ). Entered n (all_codes s.clauses) (all_codes h.before) x.work) h.variables h.so_far.work);
-        at = length-map h.before codes ∙ sym h.so_far.count;
-        range = numbered-in-range v us (subst (λ (n : ℕ). all (is_numbered n) (prop_clause_of us) ≡ true) h.variables (passes s.clauses h.before h.after us h.split (all (is_numbered s.variables)) h.fits.numbered));
-        short = omega (arith, ltb-true (length (prop_clause_of us)) 64 (passes s.clauses h.before h.after us h.split (λ (c : PropClause). ltb (length c) 64) h.fits.room.0), length-map us literal_of);
-        fits = subst (λ (l : List (List ℕ)). area_end v l < 2 ^ 32) all_codes-is (subst (λ (n : ℕ). area_end n (all_codes s.clauses) < 2 ^ 32) h.variables h.fits.room.1);
-      }
-
-  -- Taken.
-  pub measured : (n : ℕ) → n ≡ length (clause_text (prop_clause_of us))
-      → Consumed Measure v (prop_clause_of us ∷ []) x (state (record { at = x.progress.at + n; count = x.progress.count + 1 }) x.output x.work)
-  measured n e s before after variables split fits a =
-      record {
-        at = omega (arith, a.at, length-texts-snoc before (prop_clause_of us));
-        count = count-snoc before (prop_clause_of us) x.progress.count a.count;
-        output = a.output;
-        work = a.work;
-        long = a.long;
-      }
-
-  pub written : (e : ℕ) (out : List ℕ) → out ≡ put x.output x.progress.at (clause_text (prop_clause_of us)) → e ≡ x.progress.at + length (clause_text (prop_clause_of us))
-      → Consumed Write v (prop_clause_of us ∷ []) x (state (record { at = e; count = x.progress.count + 1 }) out x.work)
-  written e out p n s before after variables split fits a =
-      record {
-        at = omega (arith, a.at, length-texts-snoc before (prop_clause_of us));
-        count = count-snoc before (prop_clause_of us) x.progress.count a.count;
-        output =
-            put-run s.output x.output out s.start x.progress.at (texts before) (clause_text (prop_clause_of us)) a.output a.at p
-            (omega (arith, a.at, fits.room, texts-within s.clauses before after us split))
-            ∙ ap (put s.output s.start) (sym (texts-snoc before (prop_clause_of us)));
-        work = a.work;
-        long = a.long;
-      }
-
-  pub tallied : (w : List ℕ) → length w ≡ length x.work → ((seen : List (List ℕ)) → Tallied v seen x.work → Tallied v (seen ++ (us ∷ [])) w)
-      → Consumed Tally v (prop_clause_of us ∷ []) x (state (record { at = x.progress.at; count = x.progress.count + 1 }) x.output w)
-  tallied w k t s before after variables split fits a =
-      record {
-        at = a.at;
-        count = count-snoc before (prop_clause_of us) x.progress.count a.count;
-        output = a.output;
+        same_reference = r ∙ a.same_reference;
+        variables = v ∙ a.variables;
+        count = n ∙ count-snoc before (prop_clause_of us) x.count a.count;
         work =
-            subst (λ (l : List (List ℕ)). Tallied s.variables l w) (sym (codes-snoc before us))
-            (subst (λ (n : ℕ). Tallied n (all_codes before ++ (us ∷ [])) w) (sym variables)
-            (t (all_codes before) (subst (λ (n : ℕ). Tallied n (all_codes before) x.work) variables a.work)));
+            subst (λ (l : List (List ℕ)). Tallied start.variables l y.work.now) (sym (codes-snoc before us))
+            (subst (λ (n : ℕ). Tallied n (all_codes before ++ (us ∷ [])) y.work.now) a.variables
+            (t (all_codes before) (subst (λ (n : ℕ). Tallied n (all_codes before) x.work.now) (sym a.variables) a.work)));
         long = k ∙ a.long;
       }
 
-  pub entered : (w : List ℕ) → length w ≡ length x.work
-      → ((es ds : List (List ℕ)) → Entered v (es ++ (us ∷ ds)) es x.work → length es ≡ x.progress.count → Entered v (es ++ (us ∷ ds)) (es ++ (us ∷ [])) w)
-      → Consumed Enter v (prop_clause_of us ∷ []) x (state (record { at = x.progress.at; count = x.progress.count + 1 }) x.output w)
-  entered w k t s before after variables split fits a =
-      let all_codes-is = codes-split s.clauses before after us split in
+-- It is entered.
+module _ (us : List ℕ) (x : Entering) where
+  pub enter-fits : Consumes entering (prop_clause_of us ∷ []) x → Enterable x.variables us x.count x.work.now
+  enter-fits h =
+      let same = h.so_far.variables in
+      let all_codes-is = codes-split h.clauses h.before h.behind us h.split in
       record {
-        at = a.at;
-        count = count-snoc before (prop_clause_of us) x.progress.count a.count;
-        output = a.output;
+        before = all_codes h.before;
+        after = all_codes h.behind;
+        entered =
+            subst (λ (l : List (List ℕ)). Entered x.variables l (all_codes h.before) x.work.now) all_codes-is
+            (subst (λ (n : ℕ). Entered n (all_codes h.clauses) (all_codes h.before) x.work.now) (sym same) h.so_far.work);
+        at = length-map h.before codes ∙ sym h.so_far.count;
+        range = numbered-in-range x.variables us (subst (λ (n : ℕ). all (is_numbered n) (prop_clause_of us) ≡ true) (sym same) (passes h.clauses h.before h.behind us h.split (all (is_numbered h.start.variables)) h.fits.numbered));
+        short = omega (arith, ltb-true (length (prop_clause_of us)) 64 (passes h.clauses h.before h.behind us h.split (λ (c : PropClause). ltb (length c) 64) h.fits.short), length-map us literal_of);
+        fits = subst (λ (l : List (List ℕ)). area_end x.variables l < 2 ^ 32) all_codes-is (subst (λ (n : ℕ). area_end n (all_codes h.clauses) < 2 ^ 32) (sym same) h.fits.room);
+      }
+
+module _ (us : List ℕ) (cs before behind : List PropClause) (start x y : Entering) (split : cs ≡ before ++ (prop_clause_of us ∷ behind)) where
+  pub entered : EnteredFirst cs start before x → y.work.ghost_name ≡ x.work.ghost_name → y.variables ≡ x.variables → y.count ≡ x.count + 1 → length y.work.now ≡ length x.work.now
+      → ((es ds : List (List ℕ)) → Entered x.variables (es ++ (us ∷ ds)) es x.work.now → length es ≡ x.count → Entered x.variables (es ++ (us ∷ ds)) (es ++ (us ∷ [])) y.work.now)
+      → EnteredFirst cs start (before ++ (prop_clause_of us ∷ [])) y
+  entered a r v n k t =
+      let all_codes-is = codes-split cs before behind us split in
+      record {
+        same_reference = r ∙ a.same_reference;
+        variables = v ∙ a.variables;
+        count = n ∙ count-snoc before (prop_clause_of us) x.count a.count;
         work =
-            subst (λ (l : List (List ℕ)). Entered s.variables (all_codes s.clauses) l w) (sym (codes-snoc before us))
-            (subst (λ (n : ℕ). Entered n (all_codes s.clauses) (all_codes before ++ (us ∷ [])) w) (sym variables)
-            (subst (λ (l : List (List ℕ)). Entered v l (all_codes before ++ (us ∷ [])) w) (sym all_codes-is)
-            (t (all_codes before) (all_codes after)
-            (subst (λ (l : List (List ℕ)). Entered v l (all_codes before) x.work) all_codes-is
-            (subst (λ (n : ℕ). Entered n (all_codes s.clauses) (all_codes before) x.work) variables a.work))
+            subst (λ (l : List (List ℕ)). Entered start.variables (all_codes cs) l y.work.now) (sym (codes-snoc before us))
+            (subst (λ (n : ℕ). Entered n (all_codes cs) (all_codes before ++ (us ∷ [])) y.work.now) a.variables
+            (subst (λ (l : List (List ℕ)). Entered x.variables l (all_codes before ++ (us ∷ [])) y.work.now) (sym all_codes-is)
+            (t (all_codes before) (all_codes behind)
+            (subst (λ (l : List (List ℕ)). Entered x.variables l (all_codes before) x.work.now) all_codes-is
+            (subst (λ (n : ℕ). Entered n (all_codes cs) (all_codes before) x.work.now) (sym a.variables) a.work))
             (length-map before codes ∙ sym a.count))));
         long = k ∙ a.long;
       }

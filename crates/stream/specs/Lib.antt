@@ -1,2 +1,3 @@
-pub mod Literals
+pub mod Consumers
 pub mod Consuming
+pub mod Literals

@@ -1,60 +1,85 @@
 // What is done with each clause of the stream: its text is measured or written, its literals are counted or entered in a search's work area.
 ghost use Rattle.std.specs.Prelude.{[], ◌∷◌};
 ghost use Rattle.stream.specs.Literals.{prop_clause_of};
-ghost use Rattle.stream.specs.Consuming.{Consumes, Consumed, state};
+ghost use Rattle.stream.specs.Consuming.{Effect, Consumes, Consumed};
+ghost use Rattle.stream.specs.Consumers.{measuring, writing, tallying, entering};
 
 use crate::dimacs::{clause_length, put_clause};
 use loading::{enter, tally};
 
-#[derive(Clone, Copy)]
-pub enum Mode {
-    Measure,
-    Write,
-    Tally,
-    Enter,
+// What takes the clauses of a stream one by one.
+pub trait ClauseConsumer {
+    ghost effect: { Effect Self };
+
+    // One clause more.
+    fn take(&mut self, clause: &[u32])
+        requires { Consumes effect (prop_clause_of clause.now ∷ []) self.old }
+        ensures { Consumed effect (prop_clause_of clause.now ∷ []) self.old self.new };
 }
 
-// The place after the text so far, and the number of clauses so far.
+// The place after the lines so far, and the number of clauses so far.
 #[derive(Drop)]
-pub struct Progress {
+pub struct Measuring {
     pub at: usize,
     pub count: usize,
 }
 
-// One clause more; v is the number of propositional variables.
-pub fn take_clause(
-    mode: Mode,
-    v: usize,
-    clause: &[u32],
-    out: &mut [u8],
-    work: &mut [u32],
-    p: Progress,
-) -> Progress
-    requires { Consumes mode v (prop_clause_of clause.now ∷ []) (state p out.old work.old) }
-    ensures { Consumed mode v (prop_clause_of clause.now ∷ []) (state p out.old work.old) (state result out.new work.new) }
-{
-    match mode {
-        Mode::Measure => Progress {
-            at: p.at + clause_length(clause),
-            count: p.count + 1,
-        },
-        Mode::Write => Progress {
-            at: put_clause(out, p.at, clause),
-            count: p.count + 1,
-        },
-        Mode::Tally => {
-            tally(work, v, clause);
-            Progress {
-                at: p.at,
-                count: p.count + 1,
-            }
-        }
-        Mode::Enter => {
-            enter(work, v, clause, p.count);
-            Progress {
-                at: p.at,
-                count: p.count + 1,
-            }
-        }
+impl ClauseConsumer for Measuring {
+    ghost effect = { measuring };
+
+    fn take(&mut self, clause: &[u32]) {
+        self.at += clause_length(clause);
+        self.count += 1;
+    }
+}
+
+// The lines go into the output, the next one to this place; so many are there.
+#[derive(Drop)]
+pub struct Writing<'a> {
+    pub output: &'a mut [u8],
+    pub at: usize,
+    pub count: usize,
+}
+
+impl<'a> ClauseConsumer for Writing<'a> {
+    ghost effect = { writing };
+
+    fn take(&mut self, clause: &[u32]) {
+        self.at = put_clause(self.output, self.at, clause);
+        self.count += 1;
+    }
+}
+
+// The literals of each of so many variables are counted in the work area, and so are the clauses.
+#[derive(Drop)]
+pub struct Tallying<'a> {
+    pub work: &'a mut [u32],
+    pub variables: usize,
+    pub count: usize,
+}
+
+impl<'a> ClauseConsumer for Tallying<'a> {
+    ghost effect = { tallying };
+
+    fn take(&mut self, clause: &[u32]) {
+        tally(self.work, self.variables, clause);
+        self.count += 1;
+    }
+}
+
+// The counted clauses are entered in the work area; so many are.
+#[derive(Drop)]
+pub struct Entering<'a> {
+    pub work: &'a mut [u32],
+    pub variables: usize,
+    pub count: usize,
+}
+
+impl<'a> ClauseConsumer for Entering<'a> {
+    ghost effect = { entering };
+
+    fn take(&mut self, clause: &[u32]) {
+        enter(self.work, self.variables, clause, self.count);
+        self.count += 1;
     }
 }

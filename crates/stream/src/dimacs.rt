@@ -12,11 +12,9 @@ pub fn clause_length(clause: &[u32]) -> usize
     requires { length (clause_text (prop_clause_of clause.now)) < 2 ^ 64 }
     ensures { result ≡ length (clause_text (prop_clause_of clause.now)) }
 {
-    let mut n: usize = 2;
-    let mut i: usize = 0;
-    while i < clause.len() {
-        n = n + literal_length(clause[i]);
-        i += 1;
+    let mut n = 2;
+    for l in clause {
+        n += literal_length(*l);
     }
     n
 }
@@ -35,10 +33,8 @@ pub fn put_clause(out: &mut [u8], at: usize, clause: &[u32]) -> usize
     ensures place { result ≡ at + length (clause_text (prop_clause_of clause.now)) }
 {
     let mut e = at;
-    let mut i: usize = 0;
-    while i < clause.len() {
-        e = put_literal(out, e, clause[i]);
-        i += 1;
+    for l in clause {
+        e = put_literal(out, e, *l);
     }
     out[e] = b'0';
     out[e + 1] = b'\n';

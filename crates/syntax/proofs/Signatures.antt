@@ -1,11 +1,12 @@
 -- Laws of the signature: its length, and the arities that a table has of it.
-use Prim.Native.Nat.{ℕ, suc, ◌≤◌, ◌<◌}
-use mathlib.Core.Path.{◌≡◌, sym, ap, ◌∙◌}
-use mathlib.Core.Bool.{Bool, true, false, cond}
+use Prim.Native.Nat.{ℕ, suc, ◌+◌, ◌≤◌, ◌<◌}
+use mathlib.Core.Path.{◌≡◌, refl, sym, ap, ◌∙◌}
+use mathlib.Core.Bool.{Bool, true, false, cond, not}
 use mathlib.Core.List.{List, [], ◌∷◌, ◌++◌, map, map-append}
 use native.Mathlib.Omega.{arith}
-use lib.ListN.{length, get_or, take, drop, set, length-map, drop_of_length-le}
-use lib.Seq.{take-suc, take-suc-set, drop-cons, get_or-take, length-take-le}
+use lib.ListN.{length, get_or, take, set, length-map}
+use lib.Seq.{take-suc, take-suc-set, get_or-take, length-take-le}
+use Rattle.std.specs.List.{prefix_len}
 use Rattle.theory.specs.Syntax.{symbol_at, no_symbol}
 use Rattle.theory.specs.Syntax as theory
 use Rattle.theory.proofs.Lists.{map_at}
@@ -25,25 +26,14 @@ arities_of-more ys arities i h k e =
     ∙ ap (λ (l : List ℕ). l ++ ((get_or ys i blank).arity ∷ [])) e
     ∙ sym (ap arities_of (take-suc ys i blank h) ∙ map-append (λ (y : Symbol). y.arity) (take i ys) (get_or ys i blank ∷ []))
 
--- the declared symbols from place i of n symbols on
-module _ (ys : List Symbol) (n : ℕ) (held : n ≤ length ys) (i : ℕ) where
-  abbrev pub declared_from : ℕ
-  declared_from = declared_count (drop i (take n ys))
-
-  from-here : i < n → declared_from ≡ cond (get_or ys i blank).helper 0 (suc (declared_count (drop (suc i) (take n ys))))
-  from-here l =
-      ap declared_count (drop-cons (take n ys) i blank (omega (arith, length-take-le n ys held)))
-      ∙ ap (λ (y : Symbol). cond y.helper 0 (suc (declared_count (drop (suc i) (take n ys))))) (get_or-take n ys i blank l)
-
-  -- none at a helper, one more at any other, none past the last
-  pub declared-ends : i < n → (get_or ys i blank).helper ≡ true → declared_from ≡ 0
-  declared-ends l h = from-here l ∙ ap (λ (b : Bool). cond b 0 (suc (declared_count (drop (suc i) (take n ys))))) h
-
-  pub declared-more : i < n → (get_or ys i blank).helper ≡ false → declared_from ≡ suc (declared_count (drop (suc i) (take n ys)))
-  declared-more l h = from-here l ∙ ap (λ (b : Bool). cond b 0 (suc (declared_count (drop (suc i) (take n ys))))) h
-
-  pub declared-none : n ≤ i → declared_from ≡ 0
-  declared-none l = ap declared_count (drop_of_length-le (take n ys) {i = i} (omega (arith, length-take-le n ys held)))
+-- the declared symbols are those before the first helper
+pub declared-prefix : (ys : List Symbol) → prefix_len (λ (y : Symbol). not y.helper) ys ≡ declared_count ys
+declared-prefix [] = refl
+declared-prefix (y ∷ ys) = go y.helper (declared-prefix ys)
+  where
+    go : (b : Bool) → prefix_len (λ (y : Symbol). not y.helper) ys ≡ declared_count ys → cond (not b) (1 + prefix_len (λ (y : Symbol). not y.helper) ys) 0 ≡ cond b 0 (suc (declared_count ys))
+    go true e = refl
+    go false e = omega (arith, e)
 
 -- a sheet's signature has the symbols' number
 pub length-signature_in : (sheet : List ℕ) (s : declared.Signature) → s.count ≤ length s.symbols → length (signature_in sheet s) ≡ s.count

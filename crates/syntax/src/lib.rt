@@ -1,6 +1,7 @@
 // A problem as the code holds it: its limits, its symbols, its clauses as codes of their words.
 #![tactic(auto)]
 
+pub mod faults;
 pub mod limits;
 pub mod signature;
 pub mod size;

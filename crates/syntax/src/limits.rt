@@ -55,20 +55,11 @@ impl Problem {
     // the elements of a domain
     pub const MAX_SIZE: usize = 8;
 
-    // the arguments of a clause's literals
-    pub const MAX_ARGUMENTS: usize = Self::MAX_LITERALS * Self::MAX_ARITY;
-
     // the terms lifted from a clause before its variables are counted: each has a word of its own
     pub const MAX_TERMS: usize = Self::MAX_WORDS;
 
-    // the arguments of those terms
-    pub const MAX_TERM_ARGUMENTS: usize = Self::MAX_TERMS * Self::MAX_ARITY;
-
     // the literals of a flattened clause: one for each new variable, then those that it had
     pub const MAX_FLAT_LITERALS: usize = Self::MAX_VARIABLES + Self::MAX_LITERALS;
-
-    // the arguments of those literals
-    pub const MAX_FLAT_ARGUMENTS: usize = Self::MAX_FLAT_LITERALS * Self::MAX_ARITY;
 
     // the numbers of a linear form: its kind and base, then a variable and its factor for each argument and for the result
     pub const FORM: usize = 2 + 2 * (Self::MAX_ARITY + 1);

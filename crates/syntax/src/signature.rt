@@ -1,11 +1,12 @@
 // The symbols of a problem in numbering order.
-ghost use Rattle.std.specs.Prelude.{◌≡◌, [], ◌∷◌, ◌++◌, map, ◌+◌, ◌<◌, ◌≤◌, take};
-ghost use Rattle.syntax.specs.Signatures.{max_in_all, arities_of, declared_count, without_helpers};
+ghost use Rattle.std.specs.Prelude.{◌≡◌, not, [], ◌∷◌, ◌++◌, map, ◌+◌, ◌<◌, ◌≤◌, take};
+ghost use Rattle.std.specs.List.{prefix_len};
+ghost use Rattle.syntax.specs.Signatures.{max_in_all, arities_of, without_helpers};
 
 use crate::limits::Problem;
 
 // A function or a predicate, whether it is a helper or declared, and the place and length of its name in the sheet.
-#[derive(Clone, Copy)]
+#[derive(Clone, Copy, Default)]
 pub struct Symbol {
     pub function: bool,
     pub helper: bool,
@@ -25,13 +26,7 @@ impl Signature {
         ensures { result.count ≡ 0 }
     {
         Signature {
-            symbols: [Symbol {
-                function: false,
-                helper: false,
-                arity: 0,
-                name: 0,
-                length: 0,
-            }; Problem::MAX_SYMBOLS],
+            symbols: [Symbol::default(); Problem::MAX_SYMBOLS],
             count: 0,
         }
     }
@@ -54,10 +49,8 @@ impl Signature {
         ensures { take self.count result ≡ arities_of (take self.count self.symbols) }
     {
         let mut arities = [0; Problem::MAX_SYMBOLS];
-        let mut i: usize = 0;
-        while i < self.count {
+        for i in 0..self.count {
             arities[i] = self.symbols[i].arity;
-            i += 1;
         }
         arities
     }
@@ -67,23 +60,18 @@ impl Signature {
         requires { self.count ≤ max_in_all }
         ensures { result ≡ without_helpers self }
     {
-        let count = self.declared_count();
-        self.count = count;
+        self.count = self.declared_count();
         self
     }
 
     // How many they are.
     fn declared_count(self) -> usize
         requires { self.count ≤ max_in_all }
-        ensures { result ≡ declared_count (take self.count self.symbols) }
+        ensures { result ≡ prefix_len (λ y. not y.helper) (take self.count self.symbols) }
     {
-        let mut i: usize = 0;
-        while i < self.count {
-            if self.symbols[i].helper {
-                return i;
-            }
-            i += 1;
-        }
-        i
+        self.symbols[..self.count]
+            .iter()
+            .take_while(|symbol| !symbol.helper)
+            .count()
     }
 }

@@ -27,10 +27,8 @@ pub fn variables_of(c: ClauseWords) -> Variables
         place: [Variables::NONE; Problem::MAX_LETTERS],
         count: 0,
     };
-    let mut i: usize = 0;
-    while i < c.count {
+    for i in 0..c.count {
         found = with_word(found, c.words[i]);
-        i += 1;
     }
     found
 }

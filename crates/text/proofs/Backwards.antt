@@ -26,24 +26,24 @@ module _ (l : List ℕ) (at n : ℕ) where
   }
 
   pub turn : (l' : List ℕ) (left i : ℕ) → at + length (decimal n) ≤ length l → 0 < i → Backwards l at n l' left i
-      → Backwards l at n (set l' (at + (i - 1)) (left % 10 + 48)) (left / 10) (i - 1)
+      → Backwards l at n (set l' (at + (i - 1)) (48 + left % 10)) (left / 10) (i - 1)
   turn l' left i room h b = step (i - 1) (omega arith)
     where
-      step : (j : ℕ) → i ≡ suc j → Backwards l at n (set l' (at + j) (left % 10 + 48)) (left / 10) j
+      step : (j : ℕ) → i ≡ suc j → Backwards l at n (set l' (at + j) (48 + left % 10)) (left / 10) j
       step j e =
           let within : i ≤ length (decimal n) = b.within in
           let rest : decimal left ≡ take (suc j) (decimal n) = b.rest h ∙ ap (λ (k : ℕ). take k (decimal n)) e in
           let count : length (decimal left) ≡ suc j = ap length rest ∙ length-take-le (suc j) (decimal n) (omega arith) in
           let place : at + i ≡ suc (at + j) = omega arith in
-          let digit : get_or (decimal n) j 0 ≡ left % 10 + 48 =
+          let digit : get_or (decimal n) j 0 ≡ 48 + left % 10 =
           sym (get_or-take (suc j) (decimal n) j 0 (omega arith)) ∙ ap (λ (k : List ℕ). get_or k j 0) (sym rest) ∙ last-digit j left count ∙ omega arith in
-          let front : drop j (decimal n) ≡ (left % 10 + 48) ∷ drop i (decimal n) =
-          drop-cons (decimal n) j 0 (omega arith) ∙ ap (λ (x : ℕ). x ∷ drop (suc j) (decimal n)) digit ∙ ap (λ (k : ℕ). (left % 10 + 48) ∷ drop k (decimal n)) (sym e) in
+          let front : drop j (decimal n) ≡ (48 + left % 10) ∷ drop i (decimal n) =
+          drop-cons (decimal n) j 0 (omega arith) ∙ ap (λ (x : ℕ). x ∷ drop (suc j) (decimal n)) digit ∙ ap (λ (k : ℕ). (48 + left % 10) ∷ drop k (decimal n)) (sym e) in
           record {
             within = omega arith;
-            kept = length-set l' (at + j) (left % 10 + 48) ∙ b.kept;
-            written = ap (λ (k : List ℕ). set k (at + j) (left % 10 + 48)) (b.written ∙ ap (λ (k : ℕ). put l k (drop i (decimal n))) place)
-                ∙ put_front l (at + j) (drop i (decimal n)) (left % 10 + 48) (omega arith)
+            kept = length-set l' (at + j) (48 + left % 10) ∙ b.kept;
+            written = ap (λ (k : List ℕ). set k (at + j) (48 + left % 10)) (b.written ∙ ap (λ (k : ℕ). put l k (drop i (decimal n))) place)
+                ∙ put_front l (at + j) (drop i (decimal n)) (48 + left % 10) (omega arith)
                 ∙ ap (put l (at + j)) (sym front);
             rest = λ k. before left j rest count k;
           }

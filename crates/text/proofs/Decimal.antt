@@ -2,13 +2,14 @@
 use mathlib.Core.Path.{◌≡◌, refl, sym, ap, ◌∙◌}
 use mathlib.Core.Bool.{Bool, true, false}
 use mathlib.Core.List.{List, [], ◌∷◌, ◌++◌}
-use Prim.Native.Nat.{ℕ, zero, suc, ◌+◌, ◌^◌, ◌/◌, ◌%◌, ◌≤◌, ◌<◌}
+use Prim.Native.Nat.{ℕ, zero, suc, ◌+◌, ◌*◌, ◌^◌, ◌/◌, ◌%◌, ◌≤◌, ◌<◌}
 use native.Mathlib.Nat.{pow-suc}
 use native.Mathlib.Omega.{arith}
 use lib.Dec.{ltb}
 use lib.ListN.{length, get_or, take, length-append}
 use lib.Seq.{get_or_at, take_at}
 use borrow.Author.Tests.{lt-ltb, le-ltb, ltb-true, ltb-false}
+use Rattle.std.specs.Prelude.{Option, Some, None, IfSome, IfNone, unwrap_or}
 use Rattle.theory.specs.Bytes.{digits, decimal}
 
 -- more digits than are needed change nothing
@@ -54,6 +55,16 @@ decimal-length (suc k) n lo hi =
     pow-positive : (k : ℕ) → 1 ≤ 10 ^ suc k
     pow-positive zero = omega (arith, pow-suc 10 0)
     pow-positive (suc k) = omega (arith, pow-suc 10 (suc k), pow-positive k)
+
+-- a number whose logarithm to ten is k has k + 1 digits
+decimal-log : (k n : ℕ) → 10 ^ k ≤ n → n < 10 * 10 ^ k → k + 1 ≡ length (decimal n)
+decimal-log zero n lo hi = omega (arith, decimal-length-small n (omega arith))
+decimal-log (suc k) n lo hi = omega (arith, decimal-length k n lo (omega (arith, pow-suc 10 (suc k))))
+
+-- the digits by what a logarithm in base ten tells, none being that of 0
+pub log-length : (n : ℕ) (r : Option ℕ) → IfNone r (n ≡ 0) → IfSome r (λ k. 10 ^ k ≤ n) → IfSome r (λ k. n < 10 * 10 ^ k) → unwrap_or r 0 + 1 ≡ length (decimal n)
+log-length n None z lo hi = omega (arith, decimal-length-small n (omega (arith, z)))
+log-length n (Some k) z lo hi = decimal-log k n lo hi
 
 -- the last digit
 pub last-digit : (k n : ℕ) → length (decimal n) ≡ suc k → get_or (decimal n) k 0 ≡ 48 + n % 10

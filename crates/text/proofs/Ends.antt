@@ -1,18 +1,22 @@
 -- Where a line and a word end, byte by byte.
-use mathlib.Core.Path.{◌≡◌, refl, sym, ap, ◌∙◌}
-use mathlib.Core.Bool.{Bool, true, false, cond}
+use mathlib.Core.Path.{◌≡◌, refl, sym, ap, ◌∙◌, subst}
+use mathlib.Core.Bool.{Bool, true, false, cond, not}
 use mathlib.Core.Option.{Option, none, some}
 use mathlib.Core.List.{List, [], ◌∷◌}
-use Prim.Native.Nat.{ℕ, zero, suc, ◌+◌, ◌≤◌, ◌<◌}
+use Prim.Native.Nat.{ℕ, zero, suc, ◌+◌, ◌-◌, ◌≤◌, ◌<◌}
 use native.Mathlib.Numerals.{add-one}
 use native.Mathlib.Omega.{arith}
 use lib.Dec.{eqb, ltb}
-use lib.ListN.{length, get_or, drop, drop_of_length-le}
-use lib.Seq.{drop-cons}
-use borrow.Author.Tests.{lt-ltb, le-ltb, eq-eqb, ne_eqb}
+use lib.ListN.{length, get_or, drop, drop_of_length-le, length-drop}
+use lib.Seq.{drop-cons, get_or-drop}
+use Rattle.std.specs.List.{position, position_or_len}
+use Rattle.std.specs.Prelude.{Some, None, unwrap_or}
+use Rattle.std.proofs.lemmas.List.Sums.{fails_before_first, passes_at_first, prefix_len-le-length}
+use Rattle.std.proofs.lemmas.Bool.{eqb-true}
+use borrow.Author.Tests.{lt-ltb, le-ltb, ltb-true, ltb-false, eq-eqb, ne_eqb}
 use Rattle.theory.specs.Bytes.{LF, space}
 use Rattle.theory.specs.Lines.{Cut, add_front, cut_line, add_byte, cut_words}
-use Rattle.text.specs.Lines.{part, LineEnd, WordEnd}
+use Rattle.text.specs.Lines.{part, ByteEnd, LineEnd, WordEnd}
 use Rattle.text.proofs.Part.{part_none, part-cons}
 
 module _ (text : List ℕ) (i : ℕ) where
@@ -134,3 +138,61 @@ module _ (line : List ℕ) (i : ℕ) where
     where
       x : ℕ
       x = get_or line i 0
+
+-- the place of the byte, from the next place on
+next-end : (text : List ℕ) (byte at r : ℕ) → at < r → ByteEnd text at byte r → ByteEnd text (at + 1) byte r
+next-end text byte at r h e = record { from = omega arith; within = e.within; before = λ k a b. e.before k (omega arith) b; here = e.here }
+
+-- the place of the first LF from `at` on is where the line ends
+pub line-to : (text : List ℕ) (at r : ℕ) → ByteEnd text at LF r → LineEnd text at r
+line-to text at r e = go (r - at) at (let f : at ≤ r = e.from in omega arith) e
+  where
+    ended : (b : Bool) → ltb r (length text) ≡ b → ByteEnd text r LF r → LineEnd text r r
+    ended true t e = let h : r < length text = ltb-true r (length text) t in line-ends text r h (e.here h)
+    ended false t e = line-unended text r (omega (arith, e.within, ltb-false r (length text) t))
+
+    go : (n at : ℕ) → r ≡ at + n → ByteEnd text at LF r → LineEnd text at r
+    go zero at p e = let q : at ≡ r = omega arith in subst (λ (a : ℕ). LineEnd text a r) (sym q) (ended (ltb r (length text)) refl (subst (λ (a : ℕ). ByteEnd text a LF r) q e))
+    go (suc n) at p e = line_on text at r (omega (arith, e.within)) (e.before at (omega arith) (omega arith)) (go n (at + 1) (omega arith) (next-end text LF at r (omega arith) e))
+
+-- the place of the first space from `at` on is where the word ends
+pub word-to : (line : List ℕ) (at r : ℕ) → ByteEnd line at space r → WordEnd line at r
+word-to line at r e = go (r - at) at (let f : at ≤ r = e.from in omega arith) e
+  where
+    ended : (b : Bool) → ltb r (length line) ≡ b → ByteEnd line r space r → WordEnd line r r
+    ended true t e = let h : r < length line = ltb-true r (length line) t in word-ends line r h (e.here h)
+    ended false t e = word-unended line r (omega (arith, e.within, ltb-false r (length line) t))
+
+    go : (n at : ℕ) → r ≡ at + n → ByteEnd line at space r → WordEnd line at r
+    go zero at p e = let q : at ≡ r = omega arith in subst (λ (a : ℕ). WordEnd line a r) (sym q) (ended (ltb r (length line)) refl (subst (λ (a : ℕ). ByteEnd line a space r) q e))
+    go (suc n) at p e = word_on line at r (omega (arith, e.within)) (e.before at (omega arith) (omega arith)) (go n (at + 1) (omega arith) (next-end line space at r (omega arith) e))
+
+-- the first place that passes, or else the length
+pub place-or-length : (p : ℕ → Bool) (xs : List ℕ) → unwrap_or (position p xs) (length xs) ≡ position_or_len p xs
+place-or-length p xs = go (ltb n (length xs)) refl
+  where
+    n : ℕ
+    n = position_or_len p xs
+
+    go : (b : Bool) → ltb n (length xs) ≡ b → unwrap_or (cond b (Some n) None) (length xs) ≡ n
+    go true e = refl
+    go false e = omega (arith, prefix_len-le-length (λ x. not (p x)) xs, ltb-false n (length xs) e)
+
+-- the first place of a byte in what is left of a text, as a place of the text
+pub end-found : (text : List ℕ) (at byte n : ℕ) → at ≤ length text → n ≡ position_or_len (λ b. eqb b byte) (drop at text) → ByteEnd text at byte (at + n)
+end-found text at byte n h e =
+    let size : length (drop at text) ≡ length text - at = length-drop at text in
+    let most : position_or_len (λ b. eqb b byte) (drop at text) ≤ length (drop at text) = prefix_len-le-length _ (drop at text) in
+    record {
+      from = omega arith;
+      within = omega arith;
+      before = λ k a b g.
+          let f : eqb (get_or (drop at text) (k - at) 0) byte ≡ false = fails_before_first (λ b. eqb b byte) (drop at text) (k - at) 0 (omega arith) in
+          let m : get_or (drop at text) (k - at) 0 ≡ get_or text (at + (k - at)) 0 = get_or-drop at text (k - at) 0 in
+          let p : at + (k - at) ≡ k = omega arith in
+          let t : eqb (get_or text k 0) byte ≡ true = eq-eqb _ _ g in
+          cc;
+      here = λ l.
+          let f : eqb (get_or (drop at text) n 0) byte ≡ true = rw e (passes_at_first (λ b. eqb b byte) (drop at text) 0 (omega arith)) in
+          sym (get_or-drop at text n 0) ∙ eqb-true _ byte f;
+    }

@@ -4,3 +4,4 @@ pub mod Keys
 pub mod Counts
 pub mod Decimal
 pub mod Backwards
+pub mod Positions

@@ -6,7 +6,7 @@ use native.Mathlib.Nat.{sub-zero}
 use native.Mathlib.Numerals.{add-one}
 use native.Mathlib.Omega.{arith}
 use lib.ListN.{length, get_or, take, drop, length-drop}
-use lib.Seq.{drop-cons, get_or-take, get_or-drop, length-take-le, take-nil, take-take, drop-drop}
+use lib.Seq.{drop-cons, get_or-take, get_or-drop, length-take-le, take-nil, take-take, take-length, drop-drop}
 use Rattle.text.specs.Lines.{part}
 
 drop-take : {A : Type 0} (k n : ℕ) (l : List A) → drop k (take n l) ≡ take (n - k) (drop k l)
@@ -43,3 +43,7 @@ module _ {A : Type 0} (s : List A) where
   take-part a e n h =
       let m : n ≡ a + n - a = omega arith in
       take-take n (e - a) (drop a s) h ∙ ap (λ (k : ℕ). take k (drop a s)) m
+
+-- the part from a place to the end is all that is left
+pub rest_all : {A : Type 0} (at : ℕ) (s : List A) → part s at (length s) ≡ drop at s
+rest_all at s = ap (λ (n : ℕ). take n (drop at s)) (sym (length-drop at s)) ∙ take-length (drop at s)

@@ -9,12 +9,9 @@ pub fn put_bytes(out: &mut [u8], at: usize, bytes: &[u8]) -> usize
     ensures written { out.new ≡ put out.old at bytes.now }
     ensures place { result ≡ at + length bytes.now }
 {
-    let mut i: usize = 0;
-    while i < bytes.len() {
-        out[at + i] = bytes[i];
-        i += 1;
-    }
-    at + i
+    let end = at + bytes.len();
+    out[at..end].copy_from_slice(bytes);
+    end
 }
 
 // The number in decimal, its last digit first.
@@ -25,11 +22,9 @@ pub fn put_number(out: &mut [u8], at: usize, n: u32) -> usize
 {
     let digits = decimal_length(n);
     let mut left = n;
-    let mut i = digits;
-    while 0 < i {
-        i -= 1;
-        out[at + i] = (left % 10 + 48) as u8;
-        left = left / 10;
+    for i in (0..digits).rev() {
+        out[at + i] = b'0' + (left % 10) as u8;
+        left /= 10;
     }
     at + digits
 }
@@ -38,32 +33,5 @@ pub fn put_number(out: &mut [u8], at: usize, n: u32) -> usize
 pub fn decimal_length(n: u32) -> usize
     ensures { result ≡ length (decimal n) }
 {
-    if n < 10 {
-        return 1;
-    }
-    if n < 100 {
-        return 2;
-    }
-    if n < 1000 {
-        return 3;
-    }
-    if n < 10000 {
-        return 4;
-    }
-    if n < 100000 {
-        return 5;
-    }
-    if n < 1000000 {
-        return 6;
-    }
-    if n < 10000000 {
-        return 7;
-    }
-    if n < 100000000 {
-        return 8;
-    }
-    if n < 1000000000 {
-        return 9;
-    }
-    10
+    n.checked_ilog10().unwrap_or(0) as usize + 1
 }

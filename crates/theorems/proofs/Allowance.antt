@@ -8,6 +8,7 @@ use mathlib.Core.List.{List}
 use native.Mathlib.Omega.{arith}
 use lib.ListN.{length, take, drop}
 use lib.Seq.{take-append_seam}
+use Rattle.std.specs.Prelude.{Ok, Err}
 use Rattle.theory.specs.Cells.{is_interpretation}
 use Rattle.theory.specs.Least.{least_model}
 use Rattle.theory.specs.Claims.Walk.{read_back_found}
@@ -29,12 +30,10 @@ use Rattle.symmetry.proofs.Searched.{Read, read-in, searched-with}
 use Rattle.allowance.specs.AllowedFind.{Stoppable, finished, stopped, find_within, allowed_answer, allowed_output, allowed_work}
 use Rattle.allowance.specs.Claims.AllowedFind.{choices_needed, AllowedFind}
 use Rattle.allowance.proofs.AllowedFind.{allowed-find, same-refusals}
-use Rattle.answers.specs.declared.FindAnswer.{FindAnswer}
-use Rattle.answers.specs.declared.FindAnswer.TheVariants as plain
-use Rattle.answers.specs.Answers.{refusal_in}
-use Rattle.finding.specs.declared.allowed.AllowedAnswer.{AllowedAnswer}
-use Rattle.finding.specs.declared.allowed.AllowedAnswer.TheVariants.{Found, Nothing, Stopped, Refused}
-use Rattle.finding.specs.Calls.{allowed_in, AllowedCall, FindCall}
+use Rattle.answers.specs.declared.PlainResult.TheVariants as plain
+use Rattle.answers.specs.Answers.{FindAnswer, refusal_in}
+use Rattle.finding.specs.declared.allowed.FindResult.TheVariants.{Found, Nothing, Stopped}
+use Rattle.finding.specs.Calls.{AllowedAnswer, allowed_in, AllowedCall, FindCall}
 use Rattle.theorems.specs.Models.{Model}
 use Rattle.theorems.specs.Unstopped.{counting}
 use Rattle.theorems.specs.Allowance.{Unrefused, IsStopped, StoppedCall, SameWithin, AllowedCalls, Allowance}
@@ -90,22 +89,22 @@ stopped-within (refused q) s n e = absurd (answer≢refused _ q (sym e))
 
 -- answers that say the same are the same
 same-allowed : (r s : AllowedAnswer) → allowed_in r ≡ allowed_in s → Unrefused r → r ≡ s
-same-allowed (Found m n k) (Found i j l) e h = let a : m ≡ i = cc in let b : n ≡ j = cc in let c : k ≡ l = cc in cc
-same-allowed (Found m n k) (Nothing b l) e h = let z : ◌≡◌ {A = ℕ} 0 1 = cc in absurd (omega arith)
-same-allowed (Found m n k) (Stopped i j) e h = let z : ◌≡◌ {A = ℕ} 0 1 = cc in absurd (omega arith)
-same-allowed (Found m n k) (Refused q) e h = absurd (answer≢refused _ (refusal_in q) e)
-same-allowed (Nothing b k) (Found i j l) e h = let z : ◌≡◌ {A = ℕ} 0 1 = cc in absurd (omega arith)
-same-allowed (Nothing b k) (Nothing d l) e h = let a : b ≡ d = cc in let c : k ≡ l = cc in cc
-same-allowed (Nothing b k) (Stopped i j) e h = let z : ◌≡◌ {A = ℕ} 0 1 = cc in absurd (omega arith)
-same-allowed (Nothing b k) (Refused q) e h = absurd (answer≢refused _ (refusal_in q) e)
-same-allowed (Stopped m n) (Found i j l) e h = let z : ◌≡◌ {A = ℕ} 0 1 = cc in absurd (omega arith)
-same-allowed (Stopped m n) (Nothing d l) e h = let z : ◌≡◌ {A = ℕ} 0 1 = cc in absurd (omega arith)
-same-allowed (Stopped m n) (Stopped i j) e h = let a : m ≡ i = cc in let b : n ≡ j = cc in cc
-same-allowed (Stopped m n) (Refused q) e h = absurd (answer≢refused _ (refusal_in q) e)
-same-allowed (Refused q) s e h = absurd (h q refl)
+same-allowed (Ok (Found m n k)) (Ok (Found i j l)) e h = let a : m ≡ i = cc in let b : n ≡ j = cc in let c : k ≡ l = cc in cc
+same-allowed (Ok (Found m n k)) (Ok (Nothing b l)) e h = let z : ◌≡◌ {A = ℕ} 0 1 = cc in absurd (omega arith)
+same-allowed (Ok (Found m n k)) (Ok (Stopped i j)) e h = let z : ◌≡◌ {A = ℕ} 0 1 = cc in absurd (omega arith)
+same-allowed (Ok (Found m n k)) (Err q) e h = absurd (answer≢refused _ (refusal_in q) e)
+same-allowed (Ok (Nothing b k)) (Ok (Found i j l)) e h = let z : ◌≡◌ {A = ℕ} 0 1 = cc in absurd (omega arith)
+same-allowed (Ok (Nothing b k)) (Ok (Nothing d l)) e h = let a : b ≡ d = cc in let c : k ≡ l = cc in cc
+same-allowed (Ok (Nothing b k)) (Ok (Stopped i j)) e h = let z : ◌≡◌ {A = ℕ} 0 1 = cc in absurd (omega arith)
+same-allowed (Ok (Nothing b k)) (Err q) e h = absurd (answer≢refused _ (refusal_in q) e)
+same-allowed (Ok (Stopped m n)) (Ok (Found i j l)) e h = let z : ◌≡◌ {A = ℕ} 0 1 = cc in absurd (omega arith)
+same-allowed (Ok (Stopped m n)) (Ok (Nothing d l)) e h = let z : ◌≡◌ {A = ℕ} 0 1 = cc in absurd (omega arith)
+same-allowed (Ok (Stopped m n)) (Ok (Stopped i j)) e h = let a : m ≡ i = cc in let b : n ≡ j = cc in cc
+same-allowed (Ok (Stopped m n)) (Err q) e h = absurd (answer≢refused _ (refusal_in q) e)
+same-allowed (Err q) s e h = absurd (h q refl)
 
 -- a found case stands at the front of the output
-stands-within : (a : Answer (Stoppable Search)) (r : AllowedAnswer) (work work' output output' : List ℕ) → AllowedCall a r work work' output output' → (size n k : ℕ) → r ≡ Found size n k
+stands-within : (a : Answer (Stoppable Search)) (r : AllowedAnswer) (work work' output output' : List ℕ) → AllowedCall a r work work' output output' → (size n k : ℕ) → r ≡ Ok (Found size n k)
     → (c : List ℕ) × (a ≡ answer (finished (found size c) k)) × (take n output' ≡ c)
 stands-within a r work work' output output' f size n k e =
     let c = found_within a size n k (sym f.answer ∙ ap allowed_in e) in (
@@ -124,21 +123,21 @@ module _ (sheet : List ℕ) (p : Problem) (low high : ℕ) (named symmetry : Boo
     law : AllowedFind named symmetry sheet p low high (length work) (length output)
     law = allowed-find named symmetry sheet p low high (length work) (length output) read
 
-    found_number : (size n k : ℕ) → r ≡ Found size n k → (k ≡ choices_needed named symmetry p low high) × (k ≤ a)
+    found_number : (size n k : ℕ) → r ≡ Ok (Found size n k) → (k ≡ choices_needed named symmetry p low high) × (k ≤ a)
     found_number size n k e =
         let c = found_within result size n k (sym f.answer ∙ ap allowed_in e) in
         let s = law.same a k (found size c.0) c.1 in
         (s.1, s.2)
 
-    none_number : (b : Bool) (k : ℕ) → r ≡ Nothing b k → (k ≡ choices_needed named symmetry p low high) × (k ≤ a)
+    none_number : (b : Bool) (k : ℕ) → r ≡ Ok (Nothing b k) → (k ≡ choices_needed named symmetry p low high) × (k ≤ a)
     none_number b k e =
         let s = law.same a k (nothing b) (none_within result b k (sym f.answer ∙ ap allowed_in e)) in
         (s.1, s.2)
 
-    is-stopped : (s n : ℕ) → r ≡ Stopped s n → result ≡ answer (stopped s n)
+    is-stopped : (s n : ℕ) → r ≡ Ok (Stopped s n) → result ≡ answer (stopped s n)
     is-stopped s n e = stopped-within result s n (sym f.answer ∙ ap allowed_in e)
 
-    stopped_call : (s n : ℕ) → r ≡ Stopped s n → StoppedCall named symmetry p low high a s n work work' output output'
+    stopped_call : (s n : ℕ) → r ≡ Ok (Stopped s n) → StoppedCall named symmetry p low high a s n work work' output output'
     stopped_call s n e =
         let z : result ≡ answer (stopped s n) = is-stopped s n e in
         let u = law.only_too_few a s n z in
@@ -157,10 +156,10 @@ module _ (sheet : List ℕ) (p : Problem) (low high : ℕ) (named symmetry : Boo
     stops-if h fewer = go r refl
       where
         go : (s : AllowedAnswer) → r ≡ s → IsStopped r
-        go (Found size n k) e = let s = found_number size n k e in let number = s.0 in let most = s.1 in absurd (omega (arith, number, most, fewer))
-        go (Nothing b k) e = let s = none_number b k e in let number = s.0 in let most = s.1 in absurd (omega (arith, number, most, fewer))
-        go (Stopped s n) e = (s, n, e)
-        go (Refused q) e = absurd (h q e)
+        go (Ok (Found size n k)) e = let s = found_number size n k e in let number = s.0 in let most = s.1 in absurd (omega (arith, number, most, fewer))
+        go (Ok (Nothing b k)) e = let s = none_number b k e in let number = s.0 in let most = s.1 in absurd (omega (arith, number, most, fewer))
+        go (Ok (Stopped s n)) e = (s, n, e)
+        go (Err q) e = absurd (h q e)
 
   -- two calls, the second with the larger allowance
   module _ (a b : ℕ) (more : a ≤ b) (r : AllowedAnswer) (work work' output output' : List ℕ) (f : FindCall sheet low high named symmetry a r work work' output output') (h : Unrefused r) (on : IsStopped r → ⊥)
@@ -215,10 +214,10 @@ module _ (sheet : List ℕ) (p : Problem) (low high : ℕ) (named symmetry : Boo
       }
 
 every-answer : (r : AllowedAnswer) → IsStopped r ⊎ ((x : FindAnswer) × (k : ℕ) × (r ≡ counting x k))
-every-answer (Found s n k) = inr (plain.Found s n, k, refl)
-every-answer (Nothing b k) = inr (plain.Nothing b, k, refl)
-every-answer (Stopped s n) = inl (s, n, refl)
-every-answer (Refused q) = inr (plain.Refused q, 0, refl)
+every-answer (Ok (Found s n k)) = inr (Ok (plain.Found s n), k, refl)
+every-answer (Ok (Nothing b k)) = inr (Ok (plain.Nothing b), k, refl)
+every-answer (Ok (Stopped s n)) = inl (s, n, refl)
+every-answer (Err q) = inr (Err q, 0, refl)
 
 -- the theorem
 pub allowance-of-calls : Allowance

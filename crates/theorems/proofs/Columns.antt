@@ -46,6 +46,7 @@ use Rattle.solver.specs.SolverText.{Outcome, model_case, claimed_none, stated_ca
 use Rattle.sheet_merging.specs.Sheets.{Sheet, sheet_of, text_of}
 use Rattle.sheet_merging.specs.Merging.{merged_sheet, agree, within_sheet, merged_text, which_sheet}
 use Rattle.sheet_merging.proofs.Merging.{merging}
+use Rattle.uniting.specs.Calls.{sheet_told}
 use Rattle.theorems.proofs.Leaving.{refused-text}
 use Rattle.theorems.specs.Columns.{InSheet, OfTheSheet, OfTheCase, NoPlace, OfTwoSheets, in_first, in_second, in_neither, Columns}
 use Rattle.theorems.proofs.Unstopped.{allowed-refused}
@@ -334,5 +335,5 @@ columns-of-calls =
       find = λ sheet low high named symmetry a r work work' output output' c q e. find-placed named symmetry sheet low high a (length work) (length output) q (allowed-refused _ q (sym c.answer ∙ e));
       find_plain = λ sheet low high r output output' c q e. plain-placed sheet low high (length output) q (search-refused _ q (sym c.answer ∙ e));
       from_solver = λ sheet size text r output output' c q e. solver-placed sheet size text (length output) q (outcome-refused _ q (sym c.answer ∙ e));
-      merge = λ first second r output output' c q e. merge-placed first second (length output) q (refused-text _ q (sym c.call.answer ∙ e)) r.sheet c.sheet;
+      merge = λ first second r output output' c q e. merge-placed first second (length output) q (refused-text _ q (sym c.call.answer ∙ e)) (sheet_told r) c.sheet;
     }

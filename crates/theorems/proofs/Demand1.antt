@@ -43,14 +43,11 @@ use Rattle.solver.specs.Replies.{Reply, claims_none, states, read_reply}
 use Rattle.solver.specs.SolverText.{Outcome, model_case, claimed_none, stated_case, outcome_of, solver_text, solver_answer, solver_output}
 use Rattle.sheet_merging.specs.Sheets.{Sheet, sheet_of, text_of}
 use Rattle.sheet_merging.specs.Merging.{merged_sheet, agree, within_sheet, merged_text}
-use Rattle.accepting.specs.declared.SolverAnswer.{SolverAnswer}
-use Rattle.accepting.specs.Calls.{solver_in, OutcomeCall}
-use Rattle.answers.specs.declared.WriteAnswer.{WriteAnswer}
-use Rattle.answers.specs.declared.FindAnswer.{FindAnswer}
-use Rattle.answers.specs.Answers.{length_in, find_in}
+use Rattle.accepting.specs.Calls.{SolverAnswer, solver_in, OutcomeCall}
+use Rattle.answers.specs.Answers.{FindAnswer, WriteAnswer, length_in, find_in}
 use Rattle.answers.specs.Calls.{WritingCall, PlainSearchingCall}
-use Rattle.finding.specs.declared.allowed.AllowedAnswer.{AllowedAnswer}
-use Rattle.finding.specs.Calls.{allowed_in, AllowedCall}
+use Rattle.finding.specs.Calls.{AllowedAnswer, allowed_in, AllowedCall}
+use Rattle.uniting.specs.Calls.{written_in}
 use Rattle.theorems.specs.Demand1.{read_numbers, judge_numbers, write_numbers, read_back_numbers, setting_numbers, renumber_numbers, least_form_numbers, find_numbers, plain_numbers, tptp_numbers, solver_numbers, merge_numbers, numbers_in, NumberOf, ResultOr, Demand1}
 use Rattle.theorems.proofs.TptpNumbers.{is_tptp_number, text-numbers}
 
@@ -349,5 +346,5 @@ demand1-of-calls =
       find_plain = λ sheet low high r output output' c. plain-kept plain_numbers (plain_result sheet low high (length output)) r output output' c (plain-within sheet low high (length output));
       from_tptp = λ text r output output' c. writing-kept tptp_numbers (tptp_text text (length output)) r output output' c (tptp-within text (length output));
       from_solver = λ sheet size text r output output' c. outcome-kept solver_numbers (solver_text sheet size text (length output)) r output output' c (solver-within sheet size text (length output));
-      merge = λ first second r output output' c. writing-kept merge_numbers (merged_text first second (length output)) r.answer output output' c.call (merge-within first second (length output));
+      merge = λ first second r output output' c. writing-kept merge_numbers (merged_text first second (length output)) (written_in r) output output' c.call (merge-within first second (length output));
     }

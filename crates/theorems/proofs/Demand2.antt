@@ -6,6 +6,7 @@ use mathlib.Core.List.{List}
 use native.Mathlib.Omega.{arith}
 use lib.ListN.{length, take, drop}
 use lib.Seq.{take-append_seam}
+use Rattle.std.specs.Prelude.{Ok, Err}
 use Rattle.theory.specs.Cells.{is_model}
 use Rattle.theory.specs.Refusals.{Refusal, Answer, answer, refused}
 use Rattle.theory.specs.Problem.{Problem, read_problem}
@@ -23,12 +24,8 @@ use Rattle.naming.specs.NamedOperations.{named_written_text, named_find_result, 
 use Rattle.naming.specs.Claims.FindsLeast.{NamedLeast}
 use Rattle.naming.proofs.FindsLeast.{named-finds-least}
 use Rattle.answers.specs.declared.Refusal as answers
-use Rattle.answers.specs.declared.JudgeAnswer.{JudgeAnswer}
-use Rattle.answers.specs.declared.JudgeAnswer.TheVariants as judge
-use Rattle.answers.specs.declared.WriteAnswer.{WriteAnswer}
-use Rattle.answers.specs.declared.FindAnswer.{FindAnswer}
-use Rattle.answers.specs.declared.FindAnswer.TheVariants.{Found, Nothing, Refused}
-use Rattle.answers.specs.Answers.{refusal_in, judge_in, find_in}
+use Rattle.answers.specs.declared.PlainResult.TheVariants.{Found, Nothing}
+use Rattle.answers.specs.Answers.{FindAnswer, JudgeAnswer, WriteAnswer, refusal_in, judge_in, find_in}
 use Rattle.answers.specs.Calls.{JudgeCall, WriteCall, PlainCall}
 use Rattle.theorems.specs.Texts.{clauses_text}
 use Rattle.theorems.specs.Leaving.{Leaves}
@@ -40,15 +37,15 @@ use Rattle.theorems.proofs.Unstopped.{SearchingCall, unstopped, found-taken, non
 use Rattle.theorems.proofs.Models.{true-if-model, model-if-true, judged-is-model, model-is-judged, sheet-model-is, is-sheet-model}
 
 -- Judge's answers
-pub said-yes : (r : JudgeAnswer) → judge_in r ≡ answer true → r ≡ judge.Yes
-said-yes judge.Yes e = refl
-said-yes judge.No e = absurd (true≢false (sym (answer-inj false true e)))
-said-yes (judge.Refused q) e = absurd (answer≢refused true (refusal_in q) (sym e))
+pub said-yes : (r : JudgeAnswer) → judge_in r ≡ answer true → r ≡ Ok true
+said-yes (Ok true) e = refl
+said-yes (Ok false) e = absurd (true≢false (sym (answer-inj false true e)))
+said-yes (Err q) e = absurd (answer≢refused true (refusal_in q) (sym e))
 
-pub said-no : (r : JudgeAnswer) → judge_in r ≡ answer false → r ≡ judge.No
-said-no judge.Yes e = absurd (true≢false (answer-inj true false e))
-said-no judge.No e = refl
-said-no (judge.Refused q) e = absurd (answer≢refused false (refusal_in q) (sym e))
+pub said-no : (r : JudgeAnswer) → judge_in r ≡ answer false → r ≡ Ok false
+said-no (Ok true) e = absurd (true≢false (answer-inj true false e))
+said-no (Ok false) e = refl
+said-no (Err q) e = absurd (answer≢refused false (refusal_in q) (sym e))
 
 module _ (sheet text : List ℕ) where
   -- what is judged of a case
@@ -176,7 +173,7 @@ searched-in false sheet p low high work room read = least-searched sheet p low h
 searched-in true sheet p low high work room read = named-searched sheet p low high read work room
 
 -- a call's case stands in its output
-pub output-stands : (result : Answer Search) (r : FindAnswer) (output output' : List ℕ) → find_in r ≡ find_answer result → output' ≡ find_output result output → (size n : ℕ) → r ≡ Found size n
+pub output-stands : (result : Answer Search) (r : FindAnswer) (output output' : List ℕ) → find_in r ≡ find_answer result → output' ≡ find_output result output → (size n : ℕ) → r ≡ Ok (Found size n)
     → (c : List ℕ) × (result ≡ answer (found size c)) × (take n output' ≡ c)
 output-stands result r output output' answered left size n e =
     let c = found-case result size n (sym answered ∙ ap find_in e) in (
@@ -185,14 +182,14 @@ output-stands result r output output' answered left size n e =
       ap (take n) (left ∙ ap (λ (a : Answer Search). find_output a output) c.1) ∙ ap (λ (n : ℕ). take n (over c.0 output)) (sym c.2) ∙ take-append_seam c.0 (drop (length c.0) output),
     )
 
-pub case-stands : (result : Answer Search) (r : FindAnswer) (work work' output output' : List ℕ) → SearchingCall result r work work' output output' → (size n : ℕ) → r ≡ Found size n
+pub case-stands : (result : Answer Search) (r : FindAnswer) (work work' output output' : List ℕ) → SearchingCall result r work work' output output' → (size n : ℕ) → r ≡ Ok (Found size n)
     → (c : List ℕ) × (result ≡ answer (found size c)) × (take n output' ≡ c)
 case-stands result r work work' output output' f = output-stands result r output output' f.answer f.left
 
 -- of an answer that tells such a result where it is not refused
 module _ (p : Problem) (low high : ℕ) (result : Answer Search) (d : Searched p low high result) (r : FindAnswer) (output output' : List ℕ)
-    (call : ((q : answers.Refusal) → r ≡ Refused q → ⊥) → (find_in r ≡ find_answer result) × (output' ≡ find_output result output)) where
-  find-found : (size n : ℕ) → r ≡ Found size n → LeastModel p low high size (take n output')
+    (call : ((q : answers.Refusal) → r ≡ Err q → ⊥) → (find_in r ≡ find_answer result) × (output' ≡ find_output result output)) where
+  find-found : (size n : ℕ) → r ≡ Ok (Found size n) → LeastModel p low high size (take n output')
   find-found size n e =
       let f = call (found-taken r size n e) in
       let c = output-stands result r output output' f.0 f.1 size n e in
@@ -206,10 +203,10 @@ module _ (p : Problem) (low high : ℕ) (result : Answer Search) (d : Searched p
         none_if = go r refl;
       }
     where
-      go : (a : FindAnswer) → r ≡ a → NoModel p low high → ((q : answers.Refusal) → r ≡ Refused q → ⊥) → (b : Bool) × (r ≡ Nothing b)
-      go (Found size n) e none unrefused = let l = find-found size n e in absurd (none size (take n output') l.searched.0 l.searched.1 l.model)
-      go (Nothing b) e none unrefused = (b, e)
-      go (Refused q) e none unrefused = absurd (unrefused q e)
+      go : (a : FindAnswer) → r ≡ a → NoModel p low high → ((q : answers.Refusal) → r ≡ Err q → ⊥) → (b : Bool) × (r ≡ Ok (Nothing b))
+      go (Ok (Found size n)) e none unrefused = let l = find-found size n e in absurd (none size (take n output') l.searched.0 l.searched.1 l.model)
+      go (Ok (Nothing b)) e none unrefused = (b, e)
+      go (Err q) e none unrefused = absurd (unrefused q e)
 
 finds : (sheet : List ℕ) (p : Problem) (low high : ℕ) (named : Bool) → read_problem_in named sheet ≡ answer p → (r : FindAnswer) (work work' output output' : List ℕ)
     → UnstoppedCall sheet low high named false r work work' output output' → Finds p low high r output'

@@ -7,6 +7,7 @@ use native.Mathlib.Nat.{le_refl}
 use native.Mathlib.Omega.{arith}
 use lib.ListN.{length, take, drop}
 use lib.Seq.{take-append_seam}
+use Rattle.std.specs.Prelude.{Ok, Err}
 use Rattle.theory.specs.Refusals.{Answer, answer, refused}
 use Rattle.theory.specs.Problem.{Problem, read_problem}
 use Rattle.theory.specs.CaseText.{case_length}
@@ -19,9 +20,8 @@ use Rattle.solver.specs.SolverText.{Outcome, model_case, claimed_none, solver_te
 use Rattle.solver.specs.Claims.Stating.{States}
 use Rattle.solver.specs.Claims.SolverAnswers.{SolverAnswers}
 use Rattle.solver.proofs.SolverAnswers.{solver-answers}
-use Rattle.accepting.specs.declared.SolverAnswer.{SolverAnswer}
-use Rattle.accepting.specs.declared.SolverAnswer.TheVariants.{Case, ClaimedNone, Refused}
-use Rattle.accepting.specs.Calls.{solver_in, OutcomeCall, FromSolverCall}
+use Rattle.accepting.specs.declared.SolverResult.TheVariants.{Case, ClaimedNone}
+use Rattle.accepting.specs.Calls.{SolverAnswer, solver_in, OutcomeCall, FromSolverCall}
 use Rattle.theorems.specs.Models.{Model}
 use Rattle.theorems.specs.Demand3.{ReadBackAs, AlwaysReadBackAs}
 use Rattle.theorems.specs.FromSolver.{LeavesCase, CaseLeft, FromSolverHolds}
@@ -36,15 +36,15 @@ case≢none : {A : Type 0} (a : A) → model_case a ≡ claimed_none → ⊥
 case≢none a e = let z : ◌≡◌ {A = ℕ} 0 1 = cc in omega arith
 
 -- the answer that says a case, or claimed none
-case-answered : (r : SolverAnswer) (n : ℕ) → solver_in r ≡ answer (model_case n) → r ≡ Case n
-case-answered (Case m) n e = ap Case (case-inj m n (answer-inj (model_case m) (model_case n) e))
-case-answered ClaimedNone n e = absurd (case≢none n (sym (answer-inj claimed_none (model_case n) e)))
-case-answered (Refused q) n e = absurd (answer≢refused (model_case n) (refusal_in q) (sym e))
+case-answered : (r : SolverAnswer) (n : ℕ) → solver_in r ≡ answer (model_case n) → r ≡ Ok (Case n)
+case-answered (Ok (Case m)) n e = ap (λ (n : ℕ). Ok (Case n)) (case-inj m n (answer-inj (model_case m) (model_case n) e))
+case-answered (Ok ClaimedNone) n e = absurd (case≢none n (sym (answer-inj claimed_none (model_case n) e)))
+case-answered (Err q) n e = absurd (answer≢refused (model_case n) (refusal_in q) (sym e))
 
-none-answered : (r : SolverAnswer) → solver_in r ≡ answer claimed_none → r ≡ ClaimedNone
-none-answered (Case m) e = absurd (case≢none m (answer-inj (model_case m) claimed_none e))
-none-answered ClaimedNone e = refl
-none-answered (Refused q) e = absurd (answer≢refused claimed_none (refusal_in q) (sym e))
+none-answered : (r : SolverAnswer) → solver_in r ≡ answer claimed_none → r ≡ Ok ClaimedNone
+none-answered (Ok (Case m)) e = absurd (case≢none m (answer-inj (model_case m) claimed_none e))
+none-answered (Ok ClaimedNone) e = refl
+none-answered (Err q) e = absurd (answer≢refused claimed_none (refusal_in q) (sym e))
 
 module _ (a : Answer (Outcome (List ℕ))) (r : SolverAnswer) (output output' : List ℕ) (w : OutcomeCall a r output output') where
   -- the case that the promise answers is left
@@ -75,10 +75,10 @@ module _ (a : Answer (Outcome (List ℕ))) (r : SolverAnswer) (output output' : 
       go (refused q) e = absurd (answer≢refused (model_case (length c)) q (told (refused q) e))
 
   -- claimed none is answered exactly where the promise says so
-  says_none : a ≡ answer claimed_none → r ≡ ClaimedNone
+  says_none : a ≡ answer claimed_none → r ≡ Ok ClaimedNone
   says_none e = none-answered r (w.answer ∙ ap solver_answer e)
 
-  said-none : r ≡ ClaimedNone → a ≡ answer claimed_none
+  said-none : r ≡ Ok ClaimedNone → a ≡ answer claimed_none
   said-none h = go a refl
     where
       told : (b : Answer (Outcome (List ℕ))) → a ≡ b → answer claimed_none ≡ solver_answer b
@@ -89,7 +89,7 @@ module _ (a : Answer (Outcome (List ℕ))) (r : SolverAnswer) (output output' : 
       go (answer claimed_none) e = e
       go (refused q) e = absurd (answer≢refused claimed_none q (told (refused q) e))
 
-  left-as-it-was : r ≡ ClaimedNone → output' ≡ output
+  left-as-it-was : r ≡ Ok ClaimedNone → output' ≡ output
   left-as-it-was h = w.left ∙ ap (λ (a : Answer (Outcome (List ℕ))). solver_output a output) (said-none h)
 
 module _ (sheet : List ℕ) (p : Problem) (size : ℕ) (placed : placed_problem sheet ≡ answer p) (sized : is_size size ≡ true) where

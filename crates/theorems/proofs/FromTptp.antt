@@ -18,8 +18,7 @@ use Rattle.tptp.specs.Claims.Deciding.{sheet_of}
 use Rattle.tptp.proofs.Taken as tptp
 use Rattle.tptp.proofs.Deciding.{deciding}
 use Rattle.tptp.proofs.PlacesOnBytes.{places-on-bytes}
-use Rattle.answers.specs.declared.ReadAnswer.{ReadAnswer}
-use Rattle.answers.specs.Answers.{read_in, judge_in}
+use Rattle.answers.specs.Answers.{ReadAnswer, read_in, judge_in}
 use Rattle.answers.specs.Calls.{ReadCall}
 use Rattle.theorems.specs.FromTptp.{problem_in, SheetLeft, SheetRefused, FromTptp}
 use Rattle.theorems.proofs.Leaving.{left-text, refused-text}

@@ -4,19 +4,18 @@ use mathlib.Core.Path.{◌≡◌, refl, sym, ap, ◌∙◌}
 use mathlib.Core.List.{List}
 use lib.ListN.{length, take, drop}
 use lib.Seq.{take-append_seam}
+use Rattle.std.specs.Prelude.{Ok, Err}
 use Rattle.theory.specs.Refusals.{Refusal, Answer, answer, refused}
 use Rattle.theory.specs.Operations.{length_answer, over, output_after}
 use Rattle.theory.proofs.Answers.{answer-inj, refused-inj, answer≢refused}
-use Rattle.answers.specs.declared.WriteAnswer.{WriteAnswer}
-use Rattle.answers.specs.declared.WriteAnswer.TheVariants.{Written, Refused}
-use Rattle.answers.specs.Answers.{refusal_in, length_in}
+use Rattle.answers.specs.Answers.{WriteAnswer, refusal_in, length_in}
 use Rattle.answers.specs.Calls.{WritingCall}
 use Rattle.theorems.specs.Leaving.{Leaves}
 
 -- the answer that says a length
-length-answered : (r : WriteAnswer) (n : ℕ) → length_in r ≡ answer n → r ≡ Written n
-length-answered (Written m) n e = ap Written (answer-inj m n e)
-length-answered (Refused q) n e = absurd (answer≢refused n (refusal_in q) (sym e))
+length-answered : (r : WriteAnswer) (n : ℕ) → length_in r ≡ answer n → r ≡ Ok n
+length-answered (Ok m) n e = ap Ok (answer-inj m n e)
+length-answered (Err q) n e = absurd (answer≢refused n (refusal_in q) (sym e))
 
 module _ (a : Answer (List ℕ)) (r : WriteAnswer) (output output' : List ℕ) (w : WritingCall a r output output') where
   -- the text that the promise answers is left

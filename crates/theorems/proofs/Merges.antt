@@ -24,8 +24,7 @@ use Rattle.sheet_merging.specs.Tables.{tables_for}
 use Rattle.sheet_merging.specs.Claims.Models.{Merge, Models}
 use Rattle.sheet_merging.proofs.Merging.{merging}
 use Rattle.sheet_merging.proofs.Models.{models}
-use Rattle.uniting.specs.declared.merge.MergeAnswer.{MergeAnswer}
-use Rattle.uniting.specs.Calls.{MergeCall}
+use Rattle.uniting.specs.Calls.{MergeAnswer, written_in, MergeCall}
 use Rattle.theorems.specs.Models.{Model}
 use Rattle.theorems.specs.Merges.{MergedAs, case_for, NamesAgree, FitsOneSheet, MergeOfTwo, Merges}
 use Rattle.theorems.proofs.Leaving.{leaves, left-text, refused-text}
@@ -34,7 +33,7 @@ use Rattle.theorems.proofs.Models.{judged-is-model, model-is-judged}
 
 -- the text that a call left is the one that the definition answers
 text-left : (first second text : List ℕ) (a : MergedAs first second text) → merged_text first second (length a.output) ≡ answer text
-text-left first second text a = left-text (merged_text first second (length a.output)) a.answer.answer a.output a.output' a.call.call text a.leaves
+text-left first second text a = left-text (merged_text first second (length a.output)) (written_in a.answer) a.output a.output' a.call.call text a.leaves
 
 -- what goes into a sheet
 module _ (m : Sheet) where
@@ -75,7 +74,7 @@ module _ (first second : List ℕ) (p q : Problem) (e : read_problem first ≡ a
       unrefused (check room-left (needing 11 (length (text_of m)))) _ (unplaced 22) e₁ (λ z. other-number 22 room-left (needing 11 (length (text_of m))) (λ n. absurd (omega (arith, n))) z) λ v _ e₂.
       answer≢refused _ (unplaced 22) e₂
 
-  differing : (r : MergeAnswer) (output output' : List ℕ) → MergeCall first second r output output' → (length_in r.answer ≡ refused (unplaced 22)) ↔ (NamesAgree p q → ⊥)
+  differing : (r : MergeAnswer) (output output' : List ℕ) → MergeCall first second r output output' → (length_in (written_in r) ≡ refused (unplaced 22)) ↔ (NamesAgree p q → ⊥)
   differing r output output' c = (
     λ h ag. both_false ((merging.shared p.symbols q.symbols).1 ag) (agreeing (length output) (refused-text _ (unplaced 22) (sym c.call.answer ∙ h))),
     λ ne. c.call.answer ∙ ap length_answer (disagreeing (length output) (not-true (agree p.symbols q.symbols) (λ ag. ne ((merging.shared p.symbols q.symbols).0 ag)))),
@@ -103,7 +102,7 @@ module _ (first second : List ℕ) (p q : Problem) (e : read_problem first ≡ a
       unrefused (check room-left (needing 11 (length (text_of both)))) _ (unplaced 23) e₂ (λ z. absurd (other-number 23 room-left (needing 11 (length (text_of both))) (λ n. absurd (omega (arith, n))) z)) λ x _ e₃.
       absurd (answer≢refused _ (unplaced 23) e₃)
 
-  too_large : (r : MergeAnswer) (output output' : List ℕ) → MergeCall first second r output output' → (length_in r.answer ≡ refused (unplaced 23)) ↔ (NamesAgree p q × (FitsOneSheet both → ⊥))
+  too_large : (r : MergeAnswer) (output output' : List ℕ) → MergeCall first second r output output' → (length_in (written_in r) ≡ refused (unplaced 23)) ↔ (NamesAgree p q × (FitsOneSheet both → ⊥))
   too_large r output output' c = (
     λ h.
         let t = only-over (length output) (refused-text _ (unplaced 23) (sym c.call.answer ∙ h)) in
@@ -176,9 +175,9 @@ merges =
       first_refused = λ first second q e r output output' c. let t = merging.first_refused first second (length output) q e in (c.call.answer ∙ ap length_answer t.0, c.sheet ∙ t.1);
       second_refused = λ first second p q e f r output output' c. let t = merging.second_refused first second (length output) p q e f in (c.call.answer ∙ ap length_answer t.0, c.sheet ∙ t.1);
       nothing_after = λ sheet none p e f r output output' c fits.
-          leaves (merged_text sheet none (length output)) r.answer output output' c.call sheet (merging.nothing_after sheet none p (length output) e f fits);
+          leaves (merged_text sheet none (length output)) (written_in r) output output' c.call sheet (merging.nothing_after sheet none p (length output) e f fits);
       nothing_before = λ none sheet p e f r output output' c fits.
-          leaves (merged_text none sheet (length output)) r.answer output output' c.call sheet (merging.nothing_before none sheet p (length output) e f fits);
+          leaves (merged_text none sheet (length output)) (written_in r) output output' c.call sheet (merging.nothing_before none sheet p (length output) e f fits);
       grouped = λ a b c ab bc left right x y z w.
           merging.grouped a b c ab bc left right (length x.output) (length y.output) (length z.output) (length w.output)
           (text-left a b ab x) (text-left ab c left y) (text-left b c bc z) (text-left a bc right w);

@@ -5,14 +5,14 @@ use mathlib.Core.Bool.{true, false}
 use mathlib.Core.List.{List}
 use native.Mathlib.Omega.{arith}
 use lib.ListN.{length}
+use Rattle.std.specs.Prelude.{Ok, Err}
 use Rattle.theory.specs.Refusals.{Answer, answer}
 use Rattle.theory.specs.Operations.{Search, found, find_answer}
 use Rattle.theory.proofs.Answers.{answer-inj, answer≢refused}
 use Rattle.symmetry.specs.SymmetricOperations.{find_result_with}
 use Rattle.symmetry.proofs.Switches.{switches}
-use Rattle.answers.specs.declared.FindAnswer.{FindAnswer}
-use Rattle.answers.specs.declared.FindAnswer.TheVariants as call
-use Rattle.answers.specs.Answers.{refusal_in, find_in}
+use Rattle.answers.specs.declared.PlainResult.TheVariants as call
+use Rattle.answers.specs.Answers.{FindAnswer, refusal_in, find_in}
 use Rattle.theorems.specs.SameAnswers.{NotRefused}
 use Rattle.theorems.specs.Named.{AnswersAlike, NamedAnswersHold}
 use Rattle.theorems.proofs.Unstopped.{SearchingCall, unstopped}
@@ -21,13 +21,13 @@ use Rattle.theorems.proofs.SameAnswers.{taken}
 
 -- answers that say the same are the same
 same-find : (r s : FindAnswer) → find_in r ≡ find_in s → NotRefused r → r ≡ s
-same-find (call.Found m n) (call.Found i j) e h = let a : m ≡ i = cc in let b : n ≡ j = cc in cc
-same-find (call.Found m n) (call.Nothing b) e h = let z : ◌≡◌ {A = ℕ} 0 1 = cc in absurd (omega arith)
-same-find (call.Found m n) (call.Refused q) e h = absurd (answer≢refused _ (refusal_in q) e)
-same-find (call.Nothing b) (call.Found i j) e h = let z : ◌≡◌ {A = ℕ} 0 1 = cc in absurd (omega arith)
-same-find (call.Nothing b) (call.Nothing d) e h = let a : b ≡ d = cc in cc
-same-find (call.Nothing b) (call.Refused q) e h = absurd (answer≢refused _ (refusal_in q) e)
-same-find (call.Refused q) s e h = absurd (h q refl)
+same-find (Ok (call.Found m n)) (Ok (call.Found i j)) e h = let a : m ≡ i = cc in let b : n ≡ j = cc in cc
+same-find (Ok (call.Found m n)) (Ok (call.Nothing b)) e h = let z : ◌≡◌ {A = ℕ} 0 1 = cc in absurd (omega arith)
+same-find (Ok (call.Found m n)) (Err q) e h = absurd (answer≢refused _ (refusal_in q) e)
+same-find (Ok (call.Nothing b)) (Ok (call.Found i j)) e h = let z : ◌≡◌ {A = ℕ} 0 1 = cc in absurd (omega arith)
+same-find (Ok (call.Nothing b)) (Ok (call.Nothing d)) e h = let a : b ≡ d = cc in cc
+same-find (Ok (call.Nothing b)) (Err q) e h = absurd (answer≢refused _ (refusal_in q) e)
+same-find (Err q) s e h = absurd (h q refl)
 
 -- calls with one result answer alike
 pub alike : (a b : Answer Search) → a ≡ b → (r : FindAnswer) (work work' output output' : List ℕ) → SearchingCall a r work work' output output' → NotRefused r

@@ -8,6 +8,7 @@ use native.Mathlib.Omega.{arith}
 use native.Mathlib.Nat.{le_refl}
 use lib.Dec.{leb}
 use lib.ListN.{length}
+use Rattle.std.specs.Prelude.{Ok}
 use Rattle.theory.specs.Refusals.{answer, refused, unplaced, needing, check}
 use Rattle.theory.specs.Problem.{Problem, read_problem}
 use Rattle.theory.specs.CaseText.{Case, case_length, read_case}
@@ -19,9 +20,7 @@ use Rattle.renumbered_cases.specs.RenumberedCases.{is_listed, renumbered_text, l
 use Rattle.renumbered_cases.specs.Claims.RenumberedCases.{LeavesRenumbered, RenumberedCases}
 use Rattle.renumbered_cases.proofs.RenumberedCases.{renumbered_cases}
 use Rattle.answers.proofs.Answering.{writes}
-use Rattle.answers.specs.declared.WriteAnswer.{WriteAnswer}
-use Rattle.answers.specs.declared.WriteAnswer.TheVariants.{Written}
-use Rattle.answers.specs.Answers.{length_in}
+use Rattle.answers.specs.Answers.{WriteAnswer, length_in}
 use Rattle.case_forms.specs.Calls.{RenumberCall}
 use Rattle.theorems.specs.Models.{Model}
 use Rattle.theorems.specs.Renumbers.{RenumberedAs, AlwaysRenumberedAs, LeastFormAs, EachOnce, RenumberCallsHold}
@@ -51,11 +50,11 @@ module _ (sheet : List ℕ) where
       let text = l (length case) (le_refl (length case)) in
       let call = writes (renumbered_text sheet case list (length case)) turned (length turned) case (over turned case) text refl refl in
       record {
-        answer = Written (length turned);
+        answer = Ok (length turned);
         output = case;
         output' = over turned case;
         call = call;
-        leaves = leaves (renumbered_text sheet case list (length case)) (Written (length turned)) case (over turned case) call turned text;
+        leaves = leaves (renumbered_text sheet case list (length case)) (Ok (length turned)) case (over turned case) call turned text;
       }
 
   model-turned : (p : Problem) (size : ℕ) (case list turned : List ℕ) → read_problem sheet ≡ answer p → RenumberedAs sheet case list turned → Model p size case → Model p size turned

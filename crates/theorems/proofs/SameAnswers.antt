@@ -7,6 +7,7 @@ use mathlib.Core.List.{List}
 use native.Mathlib.Omega.{arith}
 use lib.ListN.{length, take, drop}
 use lib.Seq.{take-append_seam}
+use Rattle.std.specs.Prelude.{Ok, Err}
 use Rattle.theory.specs.Refusals.{Answer, answer, refused}
 use Rattle.theory.specs.Problem.{Problem}
 use Rattle.theory.specs.Columns.{placed_problem}
@@ -14,9 +15,8 @@ use Rattle.theory.specs.Least.{smallest_model}
 use Rattle.theory.specs.Operations.{Found, found_case, no_case, Search, found, nothing, search_of, find_result, find_answer, find_output}
 use Rattle.theory.specs.PlainSearch.{plain_result}
 use Rattle.theory.proofs.Answers.{unbind, answer-inj, answer≢refused}
-use Rattle.answers.specs.declared.FindAnswer.{FindAnswer}
-use Rattle.answers.specs.declared.FindAnswer.TheVariants as find
-use Rattle.answers.specs.Answers.{refusal_in, find_in}
+use Rattle.answers.specs.declared.PlainResult.TheVariants as find
+use Rattle.answers.specs.Answers.{FindAnswer, refusal_in, find_in}
 use Rattle.theorems.specs.SameAnswers.{NotRefused, LeavesFound, SameCase, SameMark, SameAnswersHold}
 use Rattle.theorems.proofs.Unstopped.{SearchingCall, unstopped}
 
@@ -54,24 +54,24 @@ same-search sheet low high x y a b =
 -- a call that is not refused has a result
 pub taken : (a : Answer Search) (r : FindAnswer) → find_in r ≡ find_answer a → NotRefused r → (x : Search) × (a ≡ answer x)
 taken (answer x) r e h = (x, refl)
-taken (refused q) (find.Found s n) e h = absurd (answer≢refused (found_case s n) q e)
-taken (refused q) (find.Nothing b) e h = absurd (answer≢refused (no_case b) q e)
-taken (refused q) (find.Refused p) e h = absurd (h p refl)
+taken (refused q) (Ok (find.Found s n)) e h = absurd (answer≢refused (found_case s n) q e)
+taken (refused q) (Ok (find.Nothing b)) e h = absurd (answer≢refused (no_case b) q e)
+taken (refused q) (Err p) e h = absurd (h p refl)
 
 -- the answers that say a case, or none
-pub case-answered : (r : FindAnswer) (s n : ℕ) → find_in r ≡ answer (found_case s n) → r ≡ find.Found s n
-case-answered (find.Found t m) s n e =
+pub case-answered : (r : FindAnswer) (s n : ℕ) → find_in r ≡ answer (found_case s n) → r ≡ Ok (find.Found s n)
+case-answered (Ok (find.Found t m)) s n e =
     let k : found_case t m ≡ found_case s n = answer-inj (found_case t m) (found_case s n) e in
     let a : t ≡ s = cc in
     let b : m ≡ n = cc in
-    ap (λ (t : ℕ). find.Found t m) a ∙ ap (λ (m : ℕ). find.Found s m) b
-case-answered (find.Nothing b) s n e = let z : ◌≡◌ {A = ℕ} 0 1 = cc in absurd (omega arith)
-case-answered (find.Refused q) s n e = absurd (answer≢refused (found_case s n) (refusal_in q) (sym e))
+    ap (λ (t : ℕ). Ok (find.Found t m)) a ∙ ap (λ (m : ℕ). Ok (find.Found s m)) b
+case-answered (Ok (find.Nothing b)) s n e = let z : ◌≡◌ {A = ℕ} 0 1 = cc in absurd (omega arith)
+case-answered (Err q) s n e = absurd (answer≢refused (found_case s n) (refusal_in q) (sym e))
 
-pub none-answered : (r : FindAnswer) (b : Bool) → find_in r ≡ answer (no_case b) → r ≡ find.Nothing b
-none-answered (find.Found s n) b e = let z : ◌≡◌ {A = ℕ} 0 1 = cc in absurd (omega arith)
-none-answered (find.Nothing d) b e = let k : d ≡ b = cc in ap (λ (b : Bool). find.Nothing b) k
-none-answered (find.Refused q) b e = absurd (answer≢refused (no_case b) (refusal_in q) (sym e))
+pub none-answered : (r : FindAnswer) (b : Bool) → find_in r ≡ answer (no_case b) → r ≡ Ok (find.Nothing b)
+none-answered (Ok (find.Found s n)) b e = let z : ◌≡◌ {A = ℕ} 0 1 = cc in absurd (omega arith)
+none-answered (Ok (find.Nothing d)) b e = let k : d ≡ b = cc in ap (λ (b : Bool). Ok (find.Nothing b)) k
+none-answered (Err q) b e = absurd (answer≢refused (no_case b) (refusal_in q) (sym e))
 
 -- a found case stands at the front of the output
 leaves-found : (a : Answer Search) (r : FindAnswer) (output output' : List ℕ) (s : ℕ) (c : List ℕ) → a ≡ answer (found s c) → find_in r ≡ find_answer a → output' ≡ find_output a output

@@ -16,7 +16,7 @@ use Rattle.theory.proofs.Tests.{leb-true}
 use Rattle.theory.proofs.Answers.{unbind, answer-inj, check-true}
 use Rattle.theory.proofs.PlacedReading.{problem-read, case-read}
 use Rattle.theory.proofs.Settings.{settings}
-use Rattle.answers.specs.declared.WriteAnswer.{WriteAnswer}
+use Rattle.answers.specs.Answers.{WriteAnswer}
 use Rattle.answers.specs.Calls.{WriteCall, ReadBackCall}
 use Rattle.theorems.specs.Leaving.{Leaves}
 use Rattle.theorems.specs.Models.{Model}

@@ -4,6 +4,7 @@ use mathlib.Core.Path.{◌≡◌, sym, ap, ◌∙◌}
 use mathlib.Core.Bool.{Bool, true, false}
 use mathlib.Core.List.{List}
 use lib.ListN.{length}
+use Rattle.std.specs.Prelude.{Ok}
 use Rattle.theory.specs.Refusals.{answer}
 use Rattle.theory.specs.Problem.{Problem}
 use Rattle.theory.specs.Operations.{nothing}
@@ -15,9 +16,8 @@ use Rattle.naming.specs.NamedOperations.{read_problem_in}
 use Rattle.naming.proofs.FindsLeast.{named-finds-least}
 use Rattle.symmetry.specs.SymmetricOperations.{find_result_with}
 use Rattle.symmetry.proofs.FindsObeying.{finds-obeying}
-use Rattle.answers.specs.Answers.{find_in}
-use Rattle.answers.specs.declared.FindAnswer.{FindAnswer}
-use Rattle.answers.specs.declared.FindAnswer.TheVariants.{Nothing}
+use Rattle.answers.specs.Answers.{FindAnswer, find_in}
+use Rattle.answers.specs.declared.PlainResult.TheVariants.{Nothing}
 use Rattle.theorems.specs.Unstopped.{UnstoppedCall}
 use Rattle.theorems.specs.Settles.{Settles}
 use Rattle.theorems.proofs.Unstopped.{unstopped, none-taken}
@@ -30,7 +30,7 @@ none_in true false sheet p low high work room read e = (named-finds-least sheet 
 none_in named true sheet p low high work room read e = (finds-obeying named sheet p low high work room read).settles e
 
 find-settles : (sheet : List ℕ) (p : Problem) (low high : ℕ) (named symmetry : Bool) → read_problem_in named sheet ≡ answer p
-    → (r : FindAnswer) (work work' output output' : List ℕ) → UnstoppedCall sheet low high named symmetry r work work' output output' → r ≡ Nothing true → Unsatisfiable p
+    → (r : FindAnswer) (work work' output output' : List ℕ) → UnstoppedCall sheet low high named symmetry r work work' output output' → r ≡ Ok (Nothing true) → Unsatisfiable p
 find-settles sheet p low high named symmetry read r work work' output output' f e =
     let c = unstopped sheet low high named symmetry r work work' output output' f (none-taken r true e) in
     none_in named symmetry sheet p low high (length work) (length output) read

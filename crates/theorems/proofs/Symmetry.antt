@@ -5,6 +5,7 @@ use mathlib.Core.Logic.{◌⊎◌, ◌↔◌, inl, inr, ⊎_elim}
 use mathlib.Core.Bool.{Bool, true, false, ◌&&◌}
 use mathlib.Core.List.{List}
 use lib.ListN.{length, take}
+use Rattle.std.specs.Prelude.{Ok, Err}
 use Rattle.theory.specs.Valuation.{satisfies_text, is_valuation, read_back}
 use Rattle.theory.specs.Refusals as theory
 use Rattle.theory.specs.Refusals.{Answer, answer, refused}
@@ -23,15 +24,13 @@ use Rattle.symmetry.proofs.Switches.{switches}
 use Rattle.symmetry.proofs.Asked.{asked}
 use Rattle.allowance.specs.AllowedFind.{max_allowance, find_within, allowed_answer}
 use Rattle.allowance.proofs.AllowedFind.{same-refusals}
+use Rattle.syntax.specs.Faults.{number_of}
 use Rattle.answers.specs.declared.Refusal as answers
-use Rattle.answers.specs.declared.WriteAnswer.{WriteAnswer}
-use Rattle.answers.specs.declared.FindAnswer.{FindAnswer}
-use Rattle.answers.specs.declared.FindAnswer.TheVariants.{Found, Nothing, Refused}
-use Rattle.answers.specs.Answers.{refusal_in, find_in}
+use Rattle.answers.specs.declared.PlainResult.TheVariants.{Found, Nothing}
+use Rattle.answers.specs.Answers.{FindAnswer, WriteAnswer, refusal_in, find_in}
 use Rattle.answers.specs.Calls.{WriteCall}
-use Rattle.finding.specs.declared.allowed.AllowedAnswer.{AllowedAnswer}
-use Rattle.finding.specs.declared.allowed.AllowedAnswer.TheVariants as allowed
-use Rattle.finding.specs.Calls.{allowed_in, FindCall}
+use Rattle.finding.specs.declared.allowed.FindResult.TheVariants as allowed
+use Rattle.finding.specs.Calls.{AllowedAnswer, allowed_in, FindCall}
 use Rattle.theorems.specs.Leaving.{Leaves}
 use Rattle.theorems.specs.Unstopped.{UnstoppedCall}
 use Rattle.theorems.specs.Allowance.{Unrefused}
@@ -80,7 +79,7 @@ module _ (sheet : List ℕ) (p : Problem) (low high : ℕ) (named : Bool) (read 
   d : texts.FindsObeying p low high result
   d = finds-obeying named sheet p low high (length work) (length output) read
 
-  finds-found : (size n : ℕ) → r ≡ Found size n → LeastObeyingModel p low high size (take n output')
+  finds-found : (size n : ℕ) → r ≡ Ok (Found size n) → LeastObeyingModel p low high size (take n output')
   finds-found size n e =
       let c = case-stands result r work work' output output' (call (found-taken r size n e)) size n e in
       subst (LeastObeyingModel p low high size) (sym c.2) (least-obeying p low high size c.0 (d.finds size c.0 c.1))
@@ -93,15 +92,15 @@ module _ (sheet : List ℕ) (p : Problem) (low high : ℕ) (named : Bool) (read 
         none_if = go r refl;
       }
     where
-      go : (a : FindAnswer) → r ≡ a → NoModel p low high → NotRefused r → (b : Bool) × (r ≡ Nothing b)
-      go (Found size n) e none unrefused = let l = finds-found size n e in absurd (none size (take n output') l.searched.0 l.searched.1 l.obeying.model)
-      go (Nothing b) e none unrefused = (b, e)
-      go (Refused q) e none unrefused = absurd (unrefused q e)
+      go : (a : FindAnswer) → r ≡ a → NoModel p low high → NotRefused r → (b : Bool) × (r ≡ Ok (Nothing b))
+      go (Ok (Found size n)) e none unrefused = let l = finds-found size n e in absurd (none size (take n output') l.searched.0 l.searched.1 l.obeying.model)
+      go (Ok (Nothing b)) e none unrefused = (b, e)
+      go (Err q) e none unrefused = absurd (unrefused q e)
 
 -- the answer to a result
 abbrev sized : Search → FindAnswer
-sized (found s c) = Found s 0
-sized (nothing b) = Nothing b
+sized (found s c) = Ok (Found s 0)
+sized (nothing b) = Ok (Nothing b)
 
 size-answered : (r : FindAnswer) (x : Search) → find_in r ≡ find_answer (answer x) → size_of r ≡ sized (without_case x)
 size-answered r (found s c) e = ap size_of (case-answered r s (length c) e)
@@ -152,7 +151,7 @@ module _ (sheet : List ℕ) (low high : ℕ) (named : Bool) (a : ℕ) (r s : All
       let limit : a ≤ max_allowance = limit-kept named true sheet low high a (length work) (length output) w.0 w.1 in
       answer≢refused x.0 (refusal_in q) (sym x.1 ∙ refused-without false limit q (sym f.answer ∙ ap allowed_in e))
 
-  refused-more : Unrefused r → (q : answers.Refusal) → s ≡ allowed.Refused q → (q.number ≡ 9) ⊎ (q.number ≡ 10)
+  refused-more : Unrefused r → (q : answers.Refusal) → s ≡ Err q → (number_of q.fault ≡ 9) ⊎ (number_of q.fault ≡ 10)
   refused-more h q e =
       let w = answered _ r f.answer h in
       let x = answered-without named false sheet low high a (length work) (length output) w.0 w.1 in

@@ -6,6 +6,7 @@ use mathlib.Core.List.{List}
 use native.Mathlib.Omega.{arith}
 use lib.Dec.{leb}
 use lib.ListN.{length}
+use Rattle.std.specs.Prelude.{Ok, Err}
 use Rattle.theory.specs.Refusals as theory
 use Rattle.theory.specs.Refusals.{Answer, answer, refused, unplaced}
 use Rattle.theory.specs.Problem.{Problem}
@@ -17,12 +18,10 @@ use Rattle.allowance.specs.AllowedFind.{max_allowance, Stoppable, finished, stop
 use Rattle.allowance.proofs.AllowedFind.{same-refusals}
 use Rattle.allowance.proofs.NotStopped.{not_stopped}
 use Rattle.answers.specs.declared.Refusal.{Refusal}
-use Rattle.answers.specs.declared.FindAnswer.{FindAnswer}
-use Rattle.answers.specs.declared.FindAnswer.TheVariants as plain
-use Rattle.answers.specs.Answers.{find_in}
-use Rattle.finding.specs.declared.allowed.AllowedAnswer.{AllowedAnswer}
-use Rattle.finding.specs.declared.allowed.AllowedAnswer.TheVariants as allowed
-use Rattle.finding.specs.Calls.{allowed_in}
+use Rattle.answers.specs.declared.PlainResult.TheVariants as plain
+use Rattle.answers.specs.Answers.{FindAnswer, find_in}
+use Rattle.finding.specs.declared.allowed.FindResult.TheVariants as allowed
+use Rattle.finding.specs.Calls.{AllowedAnswer, allowed_in}
 use Rattle.theorems.specs.Unstopped.{counting, UnstoppedCall}
 use Rattle.theorems.specs.Allowance.{Unrefused, IsStopped}
 use Rattle.theorems.specs.SameAnswers.{NotRefused}
@@ -34,22 +33,22 @@ finished≢stopped r m s n e = let z : ◌≡◌ {A = ℕ} 0 1 = cc in omega ari
 -- an answer that is neither refused nor stopped has a result
 pub result-of : (a : Answer (Stoppable Search)) (r : AllowedAnswer) → allowed_in r ≡ allowed_answer a → Unrefused r → (IsStopped r → ⊥) → (x : Search) × (n : ℕ) × (a ≡ answer (finished x n))
 result-of (answer (finished x n)) r e h k = (x, n, refl)
-result-of (answer (stopped s n)) (allowed.Found t m c) e h k = absurd (finished≢stopped (found_case t m) c s n e)
-result-of (answer (stopped s n)) (allowed.Nothing b c) e h k = absurd (finished≢stopped (no_case b) c s n e)
-result-of (answer (stopped s n)) (allowed.Stopped t m) e h k = absurd (k (t, m, refl))
-result-of (answer (stopped s n)) (allowed.Refused q) e h k = absurd (h q refl)
-result-of (refused p) (allowed.Found t m c) e h k = absurd (answer≢refused _ p e)
-result-of (refused p) (allowed.Nothing b c) e h k = absurd (answer≢refused _ p e)
-result-of (refused p) (allowed.Stopped t m) e h k = absurd (answer≢refused _ p e)
-result-of (refused p) (allowed.Refused q) e h k = absurd (h q refl)
+result-of (answer (stopped s n)) (Ok (allowed.Found t m c)) e h k = absurd (finished≢stopped (found_case t m) c s n e)
+result-of (answer (stopped s n)) (Ok (allowed.Nothing b c)) e h k = absurd (finished≢stopped (no_case b) c s n e)
+result-of (answer (stopped s n)) (Ok (allowed.Stopped t m)) e h k = absurd (k (t, m, refl))
+result-of (answer (stopped s n)) (Err q) e h k = absurd (h q refl)
+result-of (refused p) (Ok (allowed.Found t m c)) e h k = absurd (answer≢refused _ p e)
+result-of (refused p) (Ok (allowed.Nothing b c)) e h k = absurd (answer≢refused _ p e)
+result-of (refused p) (Ok (allowed.Stopped t m)) e h k = absurd (answer≢refused _ p e)
+result-of (refused p) (Err q) e h k = absurd (h q refl)
 
 -- one that is not refused is answered
 pub answered : (a : Answer (Stoppable Search)) (r : AllowedAnswer) → allowed_in r ≡ allowed_answer a → Unrefused r → (w : Stoppable Search) × (a ≡ answer w)
 answered (answer w) r e h = (w, refl)
-answered (refused p) (allowed.Found t m c) e h = absurd (answer≢refused _ p e)
-answered (refused p) (allowed.Nothing b c) e h = absurd (answer≢refused _ p e)
-answered (refused p) (allowed.Stopped t m) e h = absurd (answer≢refused _ p e)
-answered (refused p) (allowed.Refused q) e h = absurd (h q refl)
+answered (refused p) (Ok (allowed.Found t m c)) e h = absurd (answer≢refused _ p e)
+answered (refused p) (Ok (allowed.Nothing b c)) e h = absurd (answer≢refused _ p e)
+answered (refused p) (Ok (allowed.Stopped t m)) e h = absurd (answer≢refused _ p e)
+answered (refused p) (Err q) e h = absurd (h q refl)
 
 -- one that is refused is refused
 pub allowed-refused : (a : Answer (Stoppable Search)) (q : theory.Refusal) → allowed_answer a ≡ refused q → a ≡ refused q
@@ -59,22 +58,22 @@ allowed-refused (answer (stopped s n)) q e = absurd (answer≢refused _ q e)
 allowed-refused (refused p) q e = ap refused (refused-inj p q e)
 
 -- found and none are no refusals
-pub found-taken : (r : FindAnswer) (s n : ℕ) → r ≡ plain.Found s n → NotRefused r
+pub found-taken : (r : FindAnswer) (s n : ℕ) → r ≡ Ok (plain.Found s n) → NotRefused r
 found-taken r s n e q h = let z : ◌≡◌ {A = ℕ} 0 1 = cc in omega arith
 
-pub none-taken : (r : FindAnswer) (b : Bool) → r ≡ plain.Nothing b → NotRefused r
+pub none-taken : (r : FindAnswer) (b : Bool) → r ≡ Ok (plain.Nothing b) → NotRefused r
 none-taken r b e q h = let z : ◌≡◌ {A = ℕ} 0 1 = cc in omega arith
 
 -- an answer with a number beside it
 counting-taken : (r : FindAnswer) (k : ℕ) → NotRefused r → Unrefused (counting r k)
-counting-taken (plain.Found s n) k h q e = let z : ◌≡◌ {A = ℕ} 0 1 = cc in omega arith
-counting-taken (plain.Nothing b) k h q e = let z : ◌≡◌ {A = ℕ} 0 1 = cc in omega arith
-counting-taken (plain.Refused p) k h q e = h p refl
+counting-taken (Ok (plain.Found s n)) k h q e = let z : ◌≡◌ {A = ℕ} 0 1 = cc in omega arith
+counting-taken (Ok (plain.Nothing b)) k h q e = let z : ◌≡◌ {A = ℕ} 0 1 = cc in omega arith
+counting-taken (Err p) k h q e = h p refl
 
 counting-unstopped : (r : FindAnswer) (k : ℕ) → IsStopped (counting r k) → ⊥
-counting-unstopped (plain.Found s n) k h = let e = h.2 in let z : ◌≡◌ {A = ℕ} 0 1 = cc in omega arith
-counting-unstopped (plain.Nothing b) k h = let e = h.2 in let z : ◌≡◌ {A = ℕ} 0 1 = cc in omega arith
-counting-unstopped (plain.Refused p) k h = let e = h.2 in let z : ◌≡◌ {A = ℕ} 0 1 = cc in omega arith
+counting-unstopped (Ok (plain.Found s n)) k h = let e = h.2 in let z : ◌≡◌ {A = ℕ} 0 1 = cc in omega arith
+counting-unstopped (Ok (plain.Nothing b)) k h = let e = h.2 in let z : ◌≡◌ {A = ℕ} 0 1 = cc in omega arith
+counting-unstopped (Err p) k h = let e = h.2 in let z : ◌≡◌ {A = ℕ} 0 1 = cc in omega arith
 
 -- the answer with its number left out; what stopped becomes is not looked at
 abbrev numberless : Answer (Stoppable Found) → Answer Found
@@ -83,9 +82,9 @@ numberless (answer (stopped s k)) = answer (no_case false)
 numberless (refused q) = refused q
 
 numberless-in : (r : FindAnswer) (k : ℕ) → find_in r ≡ numberless (allowed_in (counting r k))
-numberless-in (plain.Found s n) k = refl
-numberless-in (plain.Nothing b) k = refl
-numberless-in (plain.Refused q) k = refl
+numberless-in (Ok (plain.Found s n)) k = refl
+numberless-in (Ok (plain.Nothing b)) k = refl
+numberless-in (Err q) k = refl
 
 numberless-answer : (x : Search) (n : ℕ) → numberless (allowed_answer (answer (finished x n))) ≡ find_answer (answer x)
 numberless-answer (found s c) n = refl

@@ -4,20 +4,12 @@ use Rattle.theory.specs.Refusals.{Refusal, answer, refused}
 use Rattle.theory.specs.Problem.{Problem, read_problem}
 use Rattle.theory.specs.DueLines.{first_line, from_line, due_in_sheet, sheet_symbols}
 use Rattle.theory.specs.Claims.Columns.{two_on, twelve_on, ByteBeyondHelp, OverNumber, BadName, WordBeyondHelp, FirstUnknown, OverLimit}
-use Rattle.answers.specs.declared.ReadAnswer.{ReadAnswer}
-use Rattle.answers.specs.declared.JudgeAnswer.{JudgeAnswer}
-use Rattle.answers.specs.declared.ExplainAnswer.{ExplainAnswer}
-use Rattle.answers.specs.declared.WriteAnswer.{WriteAnswer}
-use Rattle.answers.specs.declared.FindAnswer.{FindAnswer}
-use Rattle.answers.specs.Answers.{read_in, judge_in, explain_in, length_in, find_in}
+use Rattle.answers.specs.Answers.{FindAnswer, ExplainAnswer, JudgeAnswer, ReadAnswer, WriteAnswer, read_in, judge_in, explain_in, length_in, find_in}
 use Rattle.answers.specs.Calls.{ReadCall, JudgeCall, ExplainCall, WriteCall, ReadBackCall, SettingCall, PlainCall}
-use Rattle.finding.specs.declared.allowed.AllowedAnswer.{AllowedAnswer}
-use Rattle.finding.specs.Calls.{allowed_in, FindCall}
+use Rattle.finding.specs.Calls.{AllowedAnswer, allowed_in, FindCall}
 use Rattle.case_forms.specs.Calls.{RenumberCall, LeastFormCall}
-use Rattle.accepting.specs.declared.SolverAnswer.{SolverAnswer}
-use Rattle.accepting.specs.Calls.{solver_in, FromSolverCall}
-use Rattle.uniting.specs.declared.merge.MergeAnswer.{MergeAnswer}
-use Rattle.uniting.specs.Calls.{MergeCall}
+use Rattle.accepting.specs.Calls.{SolverAnswer, solver_in, FromSolverCall}
+use Rattle.uniting.specs.Calls.{MergeAnswer, written_in, sheet_told, MergeCall}
 
 -- the column of a 7 on line l; in the mode of named terms always 1
 abbrev pub SevenAt : Bool → List ℕ → ℕ → ℕ → Type 0
@@ -87,4 +79,4 @@ pub record Columns : Type 0 where
   pub from_solver : (sheet : List ℕ) (size : ℕ) (text : List ℕ) (r : SolverAnswer) (output output' : List ℕ) → FromSolverCall sheet size text r output output'
       → (q : Refusal) → solver_in r ≡ refused q → OfTheSheet false sheet q ⊎ NoPlace q
   pub merge : (first second : List ℕ) (r : MergeAnswer) (output output' : List ℕ) → MergeCall first second r output output'
-      → (q : Refusal) → length_in r.answer ≡ refused q → OfTwoSheets first second q r.sheet
+      → (q : Refusal) → length_in (written_in r) ≡ refused q → OfTwoSheets first second q (sheet_told r)

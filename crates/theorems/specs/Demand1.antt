@@ -3,21 +3,13 @@
 use Rattle.std.specs.Prelude.{ℕ, ◌≡◌, Bool, true, false, List, [], ◌∷◌, ◌++◌}
 use Rattle.theory.specs.Lists.{up_from, elem}
 use Rattle.theory.specs.Refusals.{Refusal, Answer, answer, refused}
-use Rattle.answers.specs.declared.ReadAnswer.{ReadAnswer}
-use Rattle.answers.specs.declared.JudgeAnswer.{JudgeAnswer}
-use Rattle.answers.specs.declared.ExplainAnswer.{ExplainAnswer}
-use Rattle.answers.specs.declared.WriteAnswer.{WriteAnswer}
-use Rattle.answers.specs.declared.FindAnswer.{FindAnswer}
-use Rattle.answers.specs.Answers.{read_in, judge_in, explain_in, length_in, find_in}
+use Rattle.answers.specs.Answers.{FindAnswer, ExplainAnswer, JudgeAnswer, ReadAnswer, WriteAnswer, read_in, judge_in, explain_in, length_in, find_in}
 use Rattle.answers.specs.Calls.{ReadCall, JudgeCall, ExplainCall, WriteCall, ReadBackCall, SettingCall, PlainCall}
-use Rattle.finding.specs.declared.allowed.AllowedAnswer.{AllowedAnswer}
-use Rattle.finding.specs.Calls.{allowed_in, FindCall}
+use Rattle.finding.specs.Calls.{AllowedAnswer, allowed_in, FindCall}
 use Rattle.importing.specs.Calls.{TptpCall}
 use Rattle.case_forms.specs.Calls.{RenumberCall, LeastFormCall}
-use Rattle.accepting.specs.declared.SolverAnswer.{SolverAnswer}
-use Rattle.accepting.specs.Calls.{solver_in, FromSolverCall}
-use Rattle.uniting.specs.declared.merge.MergeAnswer.{MergeAnswer}
-use Rattle.uniting.specs.Calls.{MergeCall}
+use Rattle.accepting.specs.Calls.{SolverAnswer, solver_in, FromSolverCall}
+use Rattle.uniting.specs.Calls.{MergeAnswer, written_in, MergeCall}
 
 -- The numbers that documents 01 and 02 give each operation. Read: 1 to 7
 abbrev pub read_numbers : List ℕ
@@ -105,4 +97,4 @@ pub record Demand1 : Type 0 where
   pub from_solver : (sheet : List ℕ) (size : ℕ) (text : List ℕ) (r : SolverAnswer) (output output' : List ℕ) → FromSolverCall sheet size text r output output'
       → ResultOr (λ q. NumberOf solver_numbers q × (output' ≡ output)) (solver_in r)
   pub merge : (first second : List ℕ) (r : MergeAnswer) (output output' : List ℕ) → MergeCall first second r output output'
-      → ResultOr (λ q. NumberOf merge_numbers q × (output' ≡ output)) (length_in r.answer)
+      → ResultOr (λ q. NumberOf merge_numbers q × (output' ≡ output)) (length_in (written_in r))

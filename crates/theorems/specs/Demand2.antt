@@ -1,17 +1,14 @@
 -- Demand 2 of the calls: truth in a finite interpretation decides what Judge, Write, Find and Find plain answer; of Write and Find in the mode of named terms too, `named` being the switch. "No others" and the least model are
 -- of Write not asked for the constant clauses and of Find told no: the switch after `named` is `false`. What is said of the other calls is `Symmetry`; of stopped ones, `Allowance`.
-use Rattle.std.specs.Prelude.{ℕ, ◌≤◌, ◌<◌, ◌≡◌, ◌⊎◌, ◌↔◌, Bool, false, List, take}
+use Rattle.std.specs.Prelude.{ℕ, ◌≤◌, ◌<◌, ◌≡◌, ◌⊎◌, ◌↔◌, Bool, false, List, take, Ok, Err, true}
 use Rattle.theory.specs.Refusals.{answer}
 use Rattle.theory.specs.Problem.{Problem, read_problem}
 use Rattle.theory.specs.CaseText.{Case, read_case}
 use Rattle.theory.specs.Claims.Least.{NotAfter}
 use Rattle.naming.specs.NamedOperations.{read_problem_in, mode_problem, content_of_in}
 use Rattle.answers.specs.declared.Refusal.{Refusal}
-use Rattle.answers.specs.declared.JudgeAnswer.{JudgeAnswer}
-use Rattle.answers.specs.declared.JudgeAnswer.TheVariants.{Yes, No}
-use Rattle.answers.specs.declared.WriteAnswer.{WriteAnswer}
-use Rattle.answers.specs.declared.FindAnswer.{FindAnswer}
-use Rattle.answers.specs.declared.FindAnswer.TheVariants.{Found, Nothing, Refused}
+use Rattle.answers.specs.declared.PlainResult.TheVariants.{Found, Nothing}
+use Rattle.answers.specs.Answers.{FindAnswer, JudgeAnswer, WriteAnswer}
 use Rattle.answers.specs.Calls.{JudgeCall, WriteCall, PlainCall}
 use Rattle.theorems.specs.Texts.{clauses_text}
 use Rattle.theorems.specs.Leaving.{Leaves}
@@ -27,8 +24,8 @@ pub record CaseOf (sheet text : List ℕ) : Type 0 where
 
 -- of a call of Judge: a case is judged a model exactly if it is one
 pub record Judges (sheet text : List ℕ) (r : JudgeAnswer) : Type 0 where
-  pub yes : (r ≡ Yes) ↔ ((c : CaseOf sheet text) × IsTrue c.problem c.case)
-  pub no : (r ≡ No) ↔ ((c : CaseOf sheet text) × (IsTrue c.problem c.case → ⊥))
+  pub yes : (r ≡ Ok true) ↔ ((c : CaseOf sheet text) × IsTrue c.problem c.case)
+  pub no : (r ≡ Ok false) ↔ ((c : CaseOf sheet text) × (IsTrue c.problem c.case → ⊥))
 
 -- of the text that a call of Write leaves, not asked: the clauses are those of document 01's steps, taken on the clauses that the mode has, and no others
 pub record Writes (sheet : List ℕ) (size : ℕ) (named : Bool) (text : List ℕ) : Type 0 where
@@ -48,9 +45,9 @@ pub record LeastModel (p : Problem) (low high size : ℕ) (text : List ℕ) : Ty
 
 -- of a call of Find told no that is not stopped, or of Find plain: it finds the least model at the smallest size that has one, or it says none; none exactly if no case of a searched size is a model
 pub record Finds (p : Problem) (low high : ℕ) (r : FindAnswer) (output : List ℕ) : Type 0 where
-  pub found : (size n : ℕ) → r ≡ Found size n → LeastModel p low high size (take n output)
-  pub says_none : (settled : Bool) → r ≡ Nothing settled → NoModel p low high
-  pub none_if : NoModel p low high → ((q : Refusal) → r ≡ Refused q → ⊥) → (settled : Bool) × (r ≡ Nothing settled)
+  pub found : (size n : ℕ) → r ≡ Ok (Found size n) → LeastModel p low high size (take n output)
+  pub says_none : (settled : Bool) → r ≡ Ok (Nothing settled) → NoModel p low high
+  pub none_if : NoModel p low high → ((q : Refusal) → r ≡ Err q → ⊥) → (settled : Bool) × (r ≡ Ok (Nothing settled))
 
 -- it holds of every call
 pub record Demand2 : Type 0 where

@@ -6,7 +6,7 @@ use Rattle.theory.specs.Problem.{Problem}
 use Rattle.theory.specs.CaseText.{case_length}
 use Rattle.theory.specs.Claims.ReadingBack.{Satisfying}
 use Rattle.naming.specs.NamedOperations.{mode_problem, content_of_in}
-use Rattle.answers.specs.declared.WriteAnswer.{WriteAnswer}
+use Rattle.answers.specs.Answers.{WriteAnswer}
 use Rattle.answers.specs.Calls.{WriteCall, ReadBackCall}
 use Rattle.theorems.specs.Texts.{clauses_text}
 use Rattle.theorems.specs.Leaving.{Leaves}

@@ -1,5 +1,5 @@
 -- From TPTP, of the calls (document 02, slip 4): the sheet left has the models of the text's clauses; where a 15 points; the order of refusals.
-use Rattle.std.specs.Prelude.{ℕ, ◌≡◌, ◌⊎◌, ◌↔◌, List, [], ◌++◌, length}
+use Rattle.std.specs.Prelude.{ℕ, ◌≡◌, ◌⊎◌, ◌↔◌, List, [], ◌++◌, length, Ok, true}
 use Rattle.std.proofs.Math.Option.{none, some}
 use Rattle.theory.specs.Cells.{interpretation}
 use Rattle.theory.specs.Refusals.{Refusal, answer, refused, at_place}
@@ -16,11 +16,7 @@ use Rattle.tptp.specs.Claims.Models.{meaning}
 use Rattle.tptp.specs.Claims.Order.{first_fault_from}
 use Rattle.tptp.specs.Claims.Deciding.{declared_in, last_fault}
 use Rattle.tptp.specs.Claims.PlacesOnBytes.{BeyondHelp, MissingText}
-use Rattle.answers.specs.declared.ReadAnswer.{ReadAnswer}
-use Rattle.answers.specs.declared.JudgeAnswer.{JudgeAnswer}
-use Rattle.answers.specs.declared.JudgeAnswer.TheVariants.{Yes}
-use Rattle.answers.specs.declared.WriteAnswer.{WriteAnswer}
-use Rattle.answers.specs.Answers.{read_in, length_in}
+use Rattle.answers.specs.Answers.{JudgeAnswer, ReadAnswer, WriteAnswer, read_in, length_in}
 use Rattle.answers.specs.Calls.{ReadCall, JudgeCall}
 use Rattle.importing.specs.Calls.{TptpCall}
 use Rattle.theorems.specs.Leaving.{Leaves}
@@ -57,7 +53,7 @@ pub record FromTptp : Type 0 where
   pub taken : (text sheet : List ℕ) → SheetLeft text sheet → (r : ReadAnswer) → ReadCall sheet r → read_in r ≡ answer (counts (problem_in text))
   -- and Judge says yes to a case of it exactly if every clause of the text is true in the case
   pub models : (text sheet case : List ℕ) (k : Case) → SheetLeft text sheet → read_case (problem_in text).symbols case ≡ answer k
-      → (r : JudgeAnswer) → JudgeCall sheet case r → (r ≡ Yes) ↔ TrueInCase text k
+      → (r : JudgeAnswer) → JudgeCall sheet case r → (r ≡ Ok true) ↔ TrueInCase text k
   -- a 15 points at a token that nothing after it puts right, or at the end of a text that more puts right
   pub places : (text : List ℕ) (q : Refusal) → SheetRefused text q → q.number ≡ 15 → BeyondHelp text q ⊎ MissingText text q
   -- a text of which the first statements are whole and clean is refused no earlier than in the next one: for a fault of that or of a later one, for the 15, or for the sheet's bytes

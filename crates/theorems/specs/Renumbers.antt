@@ -6,9 +6,7 @@ use Rattle.theory.specs.Problem.{Problem, read_problem}
 use Rattle.theory.specs.CaseText.{Case, read_case}
 use Rattle.theory.specs.Claims.Least.{NotAfter}
 use Rattle.renumbered_cases.specs.Claims.RenumberedCases.{composed_list, reversed_list}
-use Rattle.answers.specs.declared.JudgeAnswer.{JudgeAnswer}
-use Rattle.answers.specs.declared.WriteAnswer.{WriteAnswer}
-use Rattle.answers.specs.Answers.{judge_in, length_in}
+use Rattle.answers.specs.Answers.{JudgeAnswer, WriteAnswer, judge_in, length_in}
 use Rattle.answers.specs.Calls.{JudgeCall}
 use Rattle.case_forms.specs.Calls.{RenumberCall, LeastFormCall}
 use Rattle.theorems.specs.Leaving.{Leaves}

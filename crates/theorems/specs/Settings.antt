@@ -7,8 +7,7 @@ use Rattle.theory.specs.Problem.{Problem, read_problem}
 use Rattle.theory.specs.CaseText.{Case, case_length, read_case}
 use Rattle.theory.specs.Operations.{is_size, content_of}
 use Rattle.theory.specs.Claims.ReadingBack.{Satisfying}
-use Rattle.answers.specs.declared.WriteAnswer.{WriteAnswer}
-use Rattle.answers.specs.Answers.{length_in}
+use Rattle.answers.specs.Answers.{WriteAnswer, length_in}
 use Rattle.answers.specs.Calls.{WriteCall, ReadBackCall, SettingCall}
 use Rattle.theorems.specs.Leaving.{Leaves}
 use Rattle.theorems.specs.Models.{Model}

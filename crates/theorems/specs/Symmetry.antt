@@ -1,6 +1,6 @@
 -- Symmetry, of the calls (document 02, slip 10): Find told yes and Write asked for the constant clauses, in the mode of named terms too. None still means that no case of a searched size is a model; found is the least model
 -- among those that obey, at the smallest size that has a model; and every model has a renumbering that obeys. What obeying is says `symmetry/specs/Obeying`; that the clauses say it, `symmetry/specs/Claims/ConstantClauses`.
-use Rattle.std.specs.Prelude.{ℕ, ◌≤◌, ◌<◌, ◌≡◌, ◌⊎◌, ◌↔◌, Bool, true, false, List, take}
+use Rattle.std.specs.Prelude.{ℕ, ◌≤◌, ◌<◌, ◌≡◌, ◌⊎◌, ◌↔◌, Bool, true, false, List, take, Ok, Err}
 use Rattle.theory.specs.Valuation.{read_back}
 use Rattle.theory.specs.Refusals.{answer}
 use Rattle.theory.specs.Problem.{Problem}
@@ -10,14 +10,13 @@ use Rattle.naming.specs.NamedOperations.{read_problem_in, mode_problem}
 use Rattle.renumbering.specs.Rearrangements.{is_rearrangement}
 use Rattle.renumbering.specs.Renumbering.{renumbered}
 use Rattle.symmetry.specs.Obeying.{obeys, constants_first}
+use Rattle.syntax.specs.Faults.{number_of}
 use Rattle.answers.specs.declared.Refusal.{Refusal}
-use Rattle.answers.specs.declared.WriteAnswer.{WriteAnswer}
-use Rattle.answers.specs.declared.FindAnswer.{FindAnswer}
-use Rattle.answers.specs.declared.FindAnswer.TheVariants.{Found, Nothing, Refused}
+use Rattle.answers.specs.declared.PlainResult.TheVariants.{Found, Nothing}
+use Rattle.answers.specs.Answers.{FindAnswer, WriteAnswer}
 use Rattle.answers.specs.Calls.{WriteCall}
-use Rattle.finding.specs.declared.allowed.AllowedAnswer.{AllowedAnswer}
-use Rattle.finding.specs.declared.allowed.AllowedAnswer.TheVariants as allowed
-use Rattle.finding.specs.Calls.{FindCall}
+use Rattle.finding.specs.declared.allowed.FindResult.TheVariants as allowed
+use Rattle.finding.specs.Calls.{AllowedAnswer, FindCall}
 use Rattle.theorems.specs.Leaving.{Leaves}
 use Rattle.theorems.specs.Models.{Model}
 use Rattle.theorems.specs.Unstopped.{UnstoppedCall}
@@ -40,9 +39,9 @@ pub record LeastObeyingModel (p : Problem) (low high size : ℕ) (text : List �
 
 -- of a call of Find told yes that is neither refused nor stopped; none exactly if no case of a searched size is a model, obeying or not
 pub record FindsToldYes (p : Problem) (low high : ℕ) (r : FindAnswer) (output : List ℕ) : Type 0 where
-  pub found : (size n : ℕ) → r ≡ Found size n → LeastObeyingModel p low high size (take n output)
-  pub says_none : (settled : Bool) → r ≡ Nothing settled → NoModel p low high
-  pub none_if : NoModel p low high → NotRefused r → (settled : Bool) × (r ≡ Nothing settled)
+  pub found : (size n : ℕ) → r ≡ Ok (Found size n) → LeastObeyingModel p low high size (take n output)
+  pub says_none : (settled : Bool) → r ≡ Ok (Nothing settled) → NoModel p low high
+  pub none_if : NoModel p low high → NotRefused r → (settled : Bool) × (r ≡ Ok (Nothing settled))
 
 -- of a model's values: a renumbering of them that obeys, and its text
 pub record RenumberedModel (p : Problem) (size : ℕ) (values : List ℕ) : Type 0 where
@@ -62,9 +61,9 @@ pub record Answers (sheet : List ℕ) (low high : ℕ) (named symmetry : Bool) (
 
 -- the answer without the length of its case: the size, or none with the mark
 abbrev pub size_of : FindAnswer → FindAnswer
-size_of (Found size n) = Found size 0
-size_of (Nothing settled) = Nothing settled
-size_of (Refused q) = Refused q
+size_of (Ok (Found size n)) = Ok (Found size 0)
+size_of (Ok (Nothing settled)) = Ok (Nothing settled)
+size_of (Err q) = Err q
 
 -- the theorem
 pub record Symmetry : Type 0 where
@@ -86,7 +85,7 @@ pub record Symmetry : Type 0 where
   -- and where told no it is not refused, told yes it is refused with 9 or 10 at most
   pub refused_more : (sheet : List ℕ) (low high : ℕ) (named : Bool) (a : ℕ) (r s : AllowedAnswer) (work work' work⁺ output output' output⁺ : List ℕ)
       → FindCall sheet low high named false a r work work' output output' → FindCall sheet low high named true a s work work⁺ output output⁺ → Unrefused r
-      → (q : Refusal) → s ≡ allowed.Refused q → (q.number ≡ 9) ⊎ (q.number ≡ 10)
+      → (q : Refusal) → s ≡ Err q → (number_of q.fault ≡ 9) ⊎ (number_of q.fault ≡ 10)
   -- Write: a setting satisfies the text of Write asked exactly if it satisfies the text of Write not asked, and the values that it is read back as obey; helpers are no constants of the sheet
   pub write : (sheet : List ℕ) (p : Problem) (size : ℕ) (named : Bool) → read_problem_in named sheet ≡ answer p
       → (r : WriteAnswer) (output output' text : List ℕ) → WriteCall sheet size named false r output output' → Leaves r output' text

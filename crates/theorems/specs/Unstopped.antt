@@ -1,16 +1,15 @@
 -- A call of Find that is not stopped, the number of choices left out: what is said of Find beside its allowance is said of these calls (document 02, slip 12).
-use Rattle.std.specs.Prelude.{ℕ, ◌≡◌, Bool, List}
-use Rattle.answers.specs.declared.FindAnswer.{FindAnswer}
-use Rattle.answers.specs.declared.FindAnswer.TheVariants.{Found, Nothing, Refused}
-use Rattle.finding.specs.declared.allowed.AllowedAnswer.{AllowedAnswer}
-use Rattle.finding.specs.declared.allowed.AllowedAnswer.TheVariants as allowed
-use Rattle.finding.specs.Calls.{FindCall}
+use Rattle.std.specs.Prelude.{ℕ, ◌≡◌, Bool, List, Ok, Err}
+use Rattle.answers.specs.declared.PlainResult.TheVariants.{Found, Nothing}
+use Rattle.finding.specs.declared.allowed.FindResult.TheVariants as allowed
+use Rattle.finding.specs.Calls.{AllowedAnswer, FindCall}
+use Rattle.answers.specs.Answers.{FindAnswer}
 
 -- the answer with the choices made beside it; a refusal has no number
 abbrev pub counting : FindAnswer → ℕ → AllowedAnswer
-counting (Found s n) k = allowed.Found s n k
-counting (Nothing b) k = allowed.Nothing b k
-counting (Refused q) k = allowed.Refused q
+counting (Ok (Found s n)) k = Ok (allowed.Found s n k)
+counting (Ok (Nothing b)) k = Ok (allowed.Nothing b k)
+counting (Err q) k = Err q
 
 -- a call of Find, with whatever allowance, that is not stopped and answers r, whatever the number of choices
 pub record UnstoppedCall (sheet : List ℕ) (low high : ℕ) (named symmetry : Bool) (r : FindAnswer) (work work' output output' : List ℕ) : Type 0 where

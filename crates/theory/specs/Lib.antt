@@ -1,4 +1,5 @@
 pub mod Lists
+pub mod Options
 pub mod Bytes
 pub mod Vectors
 pub mod Syntax

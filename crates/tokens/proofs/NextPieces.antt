@@ -1,6 +1,6 @@
 -- The tokens of a text from a place on, by the piece that begins there.
 use Prim.Native.Nat.{ℕ, suc, ◌+◌, ◌-◌, ◌≤◌, ◌<◌}
-use mathlib.Core.Path.{◌≡◌, refl, sym, ap, ◌∙◌, subst}
+use mathlib.Core.Path.{◌≡◌, sym, ap, ◌∙◌, subst}
 use mathlib.Core.List.{List, [], ◌∷◌, ◌++◌}
 use native.Mathlib.Omega.{arith}
 use lib.ListN.{length, get_or, take, drop, length-drop, drop_of_length-le}
@@ -13,7 +13,7 @@ use Rattle.tokens.specs.NextTokens.{tokens_at, NextFound}
 use Rattle.tokens.specs.Pieces.{kind_in}
 use Rattle.tokens.specs.declared.pieces.Kind.{Kind}
 use Rattle.tokens.specs.declared.pieces.Kind.TheVariants.{OpenComment}
-use Rattle.tokens.specs.declared.next.NextToken.TheVariants.{Is, End}
+use Rattle.std.specs.Prelude.{Some}
 
 -- a token in front of others
 abbrev front : TokenKind → List ℕ → ℕ → List TptpToken → List TptpToken
@@ -94,7 +94,7 @@ module _ (text : List ℕ) (at i : ℕ) where
       let s = gap-size text i h n e in
       record { from = omega (arith, p.from); within = s.1; same = p.same ∙ gap-passed text i h n e }
 
-  pub found-token : (k : Kind) (n : ℕ) → i < length text → token (kind_in k) n ≡ piece_of (get_or text i 0) (drop (suc i) text) → Passed text at i → NextFound text at (Is k i (i + n))
+  pub found-token : (k : Kind) (n : ℕ) → i < length text → token (kind_in k) n ≡ piece_of (get_or text i 0) (drop (suc i) text) → Passed text at i → NextFound text at (Some (record { kind = k; start = i; end = i + n }))
   found-token k n h e p =
       let s = token-size text i h (kind_in k) n e in
       let m : n ≡ i + n - i = omega arith in
@@ -104,15 +104,9 @@ module _ (text : List ℕ) (at i : ℕ) where
         within = (p.from, (omega arith, (omega (arith, s.0, p.from), s.1)));
       }
 
-  pub found-open : i < length text → unclosed ≡ piece_of (get_or text i 0) (drop (suc i) text) → Passed text at i → NextFound text at (Is OpenComment (length text) (length text))
+  pub found-open : i < length text → unclosed ≡ piece_of (get_or text i 0) (drop (suc i) text) → Passed text at i → NextFound text at (Some (record { kind = OpenComment; start = length text; end = length text }))
   found-open h e p =
       record {
         listed = p.same ∙ open-last text i h e;
         within = (omega (arith, p.from), (omega arith, (omega (arith, p.from), omega arith)));
       }
-
-  pub found-end : length text ≤ i → Passed text at i → NextFound text at End
-  found-end h p = record { listed = p.same ∙ none_left text i h; within = tt }
-
-pub passed_none : (text : List ℕ) (at : ℕ) → at ≤ length text → Passed text at at
-passed_none text at h = record { from = omega arith; within = h; same = refl }

@@ -1,5 +1,5 @@
 -- The piece that begins at a place of a text, by its first byte.
-use Prim.Native.Nat.{ℕ, suc, ◌+◌, ◌-◌, ◌≤◌}
+use Prim.Native.Nat.{ℕ, suc, ◌+◌, ◌≤◌}
 use mathlib.Core.Path.{◌≡◌, sym, ap, ◌∙◌}
 use mathlib.Core.Bool.{Bool, cond, not, ◌&&◌}
 use mathlib.Core.Option.{Option, none, some}
@@ -8,51 +8,15 @@ use native.Mathlib.Numerals.{add-one}
 use native.Mathlib.Omega.{arith}
 use lib.Dec.{eqb}
 use lib.ListN.{length, get_or, take, drop, length-drop}
-use lib.Seq.{drop-drop, length-take-le}
-use borrow.Author.Tests.{eq-eqb, ne_eqb}
-use Rattle.theory.specs.Lists.{same}
-use Rattle.theory.specs.Bytes.{bytes, LF, is_digit}
+use lib.Seq.{drop-drop}
+use Rattle.theory.specs.Bytes.{LF, is_digit}
 use Rattle.theory.specs.Problem.{is_lower}
-use Rattle.tptp.specs.Tokens.{Piece, gap, token, lower_word, upper_word, digits, falsum, foreign, run, starts_with, is_word_byte, is_upper, is_blank, to_comment_end, number_rest, comment_piece, digits_piece, dollar_piece, sign_piece, piece_of}
+use Rattle.tptp.specs.Tokens.{Piece, gap, token, lower_word, upper_word, run, starts_with, is_word_byte, is_upper, is_blank, to_comment_end, comment_piece, digits_piece, dollar_piece, sign_piece, piece_of}
 use Rattle.tptp.proofs.PieceSizes.{run-within, Counted, comment-within}
 
 -- a run lies within the text
 pub run_room : (p : ℕ → Bool) (text : List ℕ) (at r : ℕ) → at ≤ length text → r ≡ run p (drop at text) → at + r ≤ length text
 run_room p text at r h e = omega (arith, run-within p (drop at text), length-drop at text)
-
-module _ (text : List ℕ) (at n : ℕ) where
-  digits-rest : (r : ℕ) → n ≡ run is_digit (drop at text) → r ≡ number_rest (drop (at + n) text) → number_rest (drop (run is_digit (drop at text)) (drop at text)) ≡ r
-  digits-rest r e f = ap (λ (k : ℕ). number_rest (drop k (drop at text))) (sym e) ∙ ap number_rest (drop-drop n at text) ∙ sym f
-
-  -- digits that are no other number
-  pub digits-plain : (r : ℕ) → n ≡ run is_digit (drop at text) → r ≡ number_rest (drop (at + n) text) → r ≡ 0
-      → token digits (n + 1) ≡ digits_piece (suc (run is_digit (drop at text))) (drop (run is_digit (drop at text)) (drop at text))
-  digits-plain r e f z =
-      let k : n + 1 ≡ suc (run is_digit (drop at text)) = omega arith in
-      ap (token digits) k
-      ∙ sym (ap (λ (q : Bool). cond q (token digits (suc (run is_digit (drop at text)))) (token foreign (suc (run is_digit (drop at text)) + number_rest (drop (run is_digit (drop at text)) (drop at text)))))
-      (eq-eqb _ _ (digits-rest r e f ∙ z)))
-
-  -- digits that begin a rational or a real
-  pub digits_number : (r : ℕ) → n ≡ run is_digit (drop at text) → r ≡ number_rest (drop (at + n) text) → (r ≡ 0 → ⊥)
-      → token foreign (n + 1 + r) ≡ digits_piece (suc (run is_digit (drop at text))) (drop (run is_digit (drop at text)) (drop at text))
-  digits_number r e f z =
-      let d : number_rest (drop (run is_digit (drop at text)) (drop at text)) ≡ r = digits-rest r e f in
-      let k : n + 1 + r ≡ suc (run is_digit (drop at text)) + number_rest (drop (run is_digit (drop at text)) (drop at text)) = omega arith in
-      ap (token foreign) k
-      ∙ sym (ap (λ (q : Bool). cond q (token digits (suc (run is_digit (drop at text)))) (token foreign (suc (run is_digit (drop at text)) + number_rest (drop (run is_digit (drop at text)) (drop at text)))))
-      (ne_eqb _ _ (λ x. z (sym d ∙ x))))
-
-  -- $ and a word
-  pub dollar-by : (q : Bool) → at ≤ length text → n ≡ run is_word_byte (drop at text) → q ≡ same (take (at + n - at) (drop at text)) (bytes "false")
-      → cond q (token falsum 6) (token foreign (n + 1)) ≡ dollar_piece (take (run is_word_byte (drop at text)) (drop at text))
-  dollar-by q h e f =
-      let k : at + n - at ≡ run is_word_byte (drop at text) = omega arith in
-      let l : length (take (run is_word_byte (drop at text)) (drop at text)) ≡ run is_word_byte (drop at text) = length-take-le _ (drop at text) (run-within is_word_byte (drop at text)) in
-      let m : n + 1 ≡ suc (length (take (run is_word_byte (drop at text)) (drop at text))) = omega arith in
-      ap (λ (k : ℕ). cond q (token falsum 6) (token foreign k)) m
-      ∙ ap (λ (q : Bool). cond q (token falsum 6) (token foreign (suc (length (take (run is_word_byte (drop at text)) (drop at text))))))
-      (f ∙ ap (λ (k : ℕ). same (take k (drop at text)) (bytes "false")) k)
 
 -- the piece by the tests of its first bytes, in their order
 abbrev pub chain : (blank percent slash lower upper digit dollar : Bool) → ℕ → List ℕ → Piece
@@ -98,13 +62,10 @@ comment-body text at p h =
     let e : at + 2 ≡ at + 1 + 1 = omega arith in
     h ∙ ap (λ (l : List ℕ). comment_piece (to_comment_end l)) (ap (λ (j : ℕ). drop j text) e ∙ sym (drop-drop 1 (at + 1) text))
 
-pub comment-ends : (n : ℕ) (o : Option ℕ) → some n ≡ o → gap (n + 2) ≡ comment_piece o
-comment-ends n o e = let k : n + 2 ≡ 2 + n = omega arith in ap gap k ∙ ap comment_piece e
-
 -- a comment's end lies within the text
 pub comment-room : (n : ℕ) (bs : List ℕ) → some n ≡ to_comment_end bs → n ≤ length bs
 comment-room n bs e = go (to_comment_end bs) e (comment-within bs)
   where
     go : (o : Option ℕ) → some n ≡ o → Counted (length bs) o → n ≤ length bs
-    go none e h = let z : ◌≡◌ {A = ℕ} 0 1 = cc in absurd (omega arith)
+    go none e h = cc
     go (some m) e h = let k : n ≡ m = cc in omega (arith, h.1)

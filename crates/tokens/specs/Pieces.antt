@@ -1,20 +1,12 @@
--- What the code's kinds, pieces and comments stand for.
+-- What the code's kinds and pieces stand for.
 use Rattle.std.specs.Prelude.{ℕ, suc, List, take, drop}
-use Rattle.std.proofs.Math.Option.{Option, none, some}
 use Rattle.theory.specs.Bytes.{is_digit}
 use Rattle.tptp.specs.Tokens.{TokenKind, lower_word, upper_word, digits, falsum, left_paren, right_paren, comma, full_stop, bar, tilde, equal_sign, unequal_sign, foreign, open_comment, gap, token, unclosed}
 use Rattle.tptp.specs.Tokens as tokens
-use Rattle.tokens.specs.declared.comments.CommentRest.{CommentRest}
-use Rattle.tokens.specs.declared.comments.CommentRest.TheVariants.{Closed, Open}
 use Rattle.tokens.specs.declared.pieces.Kind.{Kind}
 use Rattle.tokens.specs.declared.pieces.Kind.TheVariants.{LowerWord, UpperWord, Digits, Falsum, LeftParen, RightParen, Comma, FullStop, Bar, Tilde, EqualSign, UnequalSign, Foreign, OpenComment}
 use Rattle.tokens.specs.declared.pieces.Piece.{Piece}
 use Rattle.tokens.specs.declared.pieces.Piece.TheVariants.{Gap, Token, Unclosed}
-
--- how many bytes there are to the comment's end
-abbrev pub comment_in : CommentRest → Option ℕ
-comment_in (Closed n) = some n
-comment_in Open = none
 
 abbrev pub kind_in : Kind → TokenKind
 kind_in LowerWord = lower_word

@@ -4,14 +4,16 @@ ghost use Rattle.tokens.specs.NextTokens.{NextFound};
 
 use crate::pieces::{Kind, Piece, piece_at};
 
-// A token: its kind, its place and the place after it; or none where the text has ended.
-#[derive(Drop)]
-pub enum NextToken {
-    Is(Kind, usize, usize),
-    End,
+// A token: its kind, its place and the place after it.
+#[derive(Clone, Copy)]
+pub struct Token {
+    pub kind: Kind,
+    pub start: usize,
+    pub end: usize,
 }
 
-pub fn next_token(text: &[u8], at: usize) -> NextToken
+// The next token, or none where the text has ended.
+pub fn next_token(text: &[u8], at: usize) -> Option<Token>
     requires { at ≤ length text.now }
     ensures { NextFound text.now at result }
 {
@@ -22,12 +24,20 @@ pub fn next_token(text: &[u8], at: usize) -> NextToken
                 i += n;
             }
             Piece::Token(kind, n) => {
-                return NextToken::Is(kind, i, i + n);
+                return Some(Token {
+                    kind,
+                    start: i,
+                    end: i + n,
+                });
             }
             Piece::Unclosed => {
-                return NextToken::Is(Kind::OpenComment, text.len(), text.len());
+                return Some(Token {
+                    kind: Kind::OpenComment,
+                    start: text.len(),
+                    end: text.len(),
+                });
             }
         }
     }
-    NextToken::End
+    None
 }

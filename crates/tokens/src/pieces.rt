@@ -3,15 +3,15 @@ ghost use Rattle.std.specs.Prelude.{◌≡◌, cond, ◌&&◌, ◌||◌, suc, �
 ghost use Rattle.tptp.specs.Tokens as tokens;
 ghost use Rattle.tokens.specs.Pieces.{piece_in, number_piece_of, dollar_piece_of};
 
-use crate::classes::{is_blank, is_lower, is_upper};
-use crate::comments::{CommentRest, comment_rest};
+use crate::classes::{is_blank, is_upper};
+use crate::comments::comment_rest;
 use crate::numbers::number_rest;
-use crate::runs::{byte_is, digit_run, either_is, line_run, word_run};
-use text::lines::same;
+use crate::runs::{byte_is, digit_run, line_run, word_run};
+use text::classes::is_lower;
 use text::numbers::is_digit;
 
 // What a token is; Foreign: a token of TPTP that this part of it lacks, or a byte that begins no token.
-#[derive(Clone, Copy)]
+#[derive(Clone, Copy, PartialEq, Eq)]
 pub enum Kind {
     LowerWord,
     UpperWord,
@@ -41,61 +41,47 @@ pub enum Piece {
 fn tilde_piece(text: &[u8], at: usize) -> Piece
     ensures { piece_in result ≡ cond (tokens.starts_with (λ c. eqb c 124 || eqb c 38) (drop at text.now)) (tokens.token tokens.foreign 2) (tokens.token tokens.tilde 1) }
 {
-    if either_is(text, at, 124, 38) {
-        return Piece::Token(Kind::Foreign, 2);
+    match text.get(at) {
+        Some(b'|' | b'&') => Piece::Token(Kind::Foreign, 2),
+        _ => Piece::Token(Kind::Tilde, 1),
     }
-    Piece::Token(Kind::Tilde, 1)
 }
 
 // The piece that begins with =, before this place.
 fn equal_piece(text: &[u8], at: usize) -> Piece
     ensures { piece_in result ≡ cond (tokens.starts_with (eqb 62) (drop at text.now)) (tokens.token tokens.foreign 2) (tokens.token tokens.equal_sign 1) }
 {
-    if byte_is(text, at, 62) {
-        return Piece::Token(Kind::Foreign, 2);
+    match text.get(at) {
+        Some(b'>') => Piece::Token(Kind::Foreign, 2),
+        _ => Piece::Token(Kind::EqualSign, 1),
     }
-    Piece::Token(Kind::EqualSign, 1)
 }
 
 // The piece that begins with !, before this place.
 fn bang_piece(text: &[u8], at: usize) -> Piece
     ensures { piece_in result ≡ cond (tokens.starts_with (eqb 61) (drop at text.now)) (tokens.token tokens.unequal_sign 2) (tokens.token tokens.foreign 1) }
 {
-    if byte_is(text, at, 61) {
-        return Piece::Token(Kind::UnequalSign, 2);
+    match text.get(at) {
+        Some(b'=') => Piece::Token(Kind::UnequalSign, 2),
+        _ => Piece::Token(Kind::Foreign, 1),
     }
-    Piece::Token(Kind::Foreign, 1)
 }
 
 // The piece that begins with a byte of punctuation, before this place, or with a byte that begins no token.
 fn sign_piece(text: &[u8], at: usize, b: u8) -> Piece
     ensures { piece_in result ≡ tokens.sign_piece b (drop at text.now) }
 {
-    if b == 40 {
-        return Piece::Token(Kind::LeftParen, 1);
+    match b {
+        b'(' => Piece::Token(Kind::LeftParen, 1),
+        b')' => Piece::Token(Kind::RightParen, 1),
+        b',' => Piece::Token(Kind::Comma, 1),
+        b'.' => Piece::Token(Kind::FullStop, 1),
+        b'|' => Piece::Token(Kind::Bar, 1),
+        b'~' => tilde_piece(text, at),
+        b'=' => equal_piece(text, at),
+        b'!' => bang_piece(text, at),
+        _ => Piece::Token(Kind::Foreign, 1),
     }
-    if b == 41 {
-        return Piece::Token(Kind::RightParen, 1);
-    }
-    if b == 44 {
-        return Piece::Token(Kind::Comma, 1);
-    }
-    if b == 46 {
-        return Piece::Token(Kind::FullStop, 1);
-    }
-    if b == 124 {
-        return Piece::Token(Kind::Bar, 1);
-    }
-    if b == 126 {
-        return tilde_piece(text, at);
-    }
-    if b == 61 {
-        return equal_piece(text, at);
-    }
-    if b == 33 {
-        return bang_piece(text, at);
-    }
-    Piece::Token(Kind::Foreign, 1)
 }
 
 // The piece that begins with $, before this place.
@@ -105,7 +91,7 @@ fn dollar_piece(text: &[u8], at: usize) -> Piece
 {
     let n = word_run(text, at);
     let end = at + n;
-    if same(&text[at..end], b"false") {
+    if &text[at..end] == b"false".as_slice() {
         return Piece::Token(Kind::Falsum, 6);
     }
     Piece::Token(Kind::Foreign, n + 1)
@@ -130,8 +116,8 @@ fn comment_piece(text: &[u8], at: usize) -> Piece
     ensures { piece_in result ≡ tokens.comment_piece (tokens.to_comment_end (drop at text.now)) }
 {
     match comment_rest(text, at) {
-        CommentRest::Closed(n) => Piece::Gap(n + 2),
-        CommentRest::Open => Piece::Unclosed,
+        Some(n) => Piece::Gap(n + 2),
+        None => Piece::Unclosed,
     }
 }
 
@@ -140,10 +126,7 @@ fn opens_comment(text: &[u8], at: usize) -> bool
     requires { at < length text.now }
     ensures { result ≡ (eqb (get_or text.now at 0) 47 && tokens.starts_with (eqb 42) (drop (suc at) text.now)) }
 {
-    if text[at] != 47 {
-        return false;
-    }
-    byte_is(text, at + 1, 42)
+    text[at] == b'/' && byte_is(text, at + 1, b'*')
 }
 
 // The piece that begins at a place.
@@ -155,7 +138,7 @@ pub fn piece_at(text: &[u8], at: usize) -> Piece
     if is_blank(b) {
         return Piece::Gap(1);
     }
-    if b == 37 {
+    if b == b'%' {
         return Piece::Gap(1 + line_run(text, at + 1));
     }
     if opens_comment(text, at) {
@@ -170,7 +153,7 @@ pub fn piece_at(text: &[u8], at: usize) -> Piece
     if is_digit(b) {
         return number_piece(text, at + 1);
     }
-    if b == 36 {
+    if b == b'$' {
         return dollar_piece(text, at + 1);
     }
     sign_piece(text, at + 1, b)

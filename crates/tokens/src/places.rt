@@ -16,16 +16,13 @@ pub fn place_of(text: &[u8], n: usize) -> Place
 {
     let mut line: usize = 1;
     let mut column: usize = 1;
-    let mut i: usize = 0;
-    while i < n {
-        if text[i] == 10 {
+    for b in &text[..n] {
+        if *b == b'\n' {
             line += 1;
             column = 1;
-            i += 1;
-            continue;
+        } else {
+            column += 1;
         }
-        column += 1;
-        i += 1;
     }
     Place { line, column }
 }

@@ -1,21 +1,19 @@
 -- The atom that a literal's first word and the values of its terms stand for.
 use Prim.Native.Nat.{ℕ, ◌+◌, ◌<◌}
 use mathlib.Core.Path.{◌≡◌, refl, sym, ap, ◌∙◌, subst}
-use mathlib.Core.Bool.{Bool}
-use mathlib.Core.List.{List, [], ◌∷◌}
-use native.Mathlib.Omega.{arith}
+use mathlib.Core.List.{List}
 use lib.ListN.{length, get_or}
 use Rattle.theory.specs.Vectors.{rank}
-use Rattle.theory.specs.Syntax.{predicate, Signature, symbol_at, Term, Terms, Atom, equal, holds, count, predicate_of, terms_ok, atom_ok}
-use Rattle.theory.specs.Truth.{Interpretation, value, values, atom_true}
-use Rattle.theory.specs.Cells.{cell, interpretation}
+use Rattle.theory.specs.Syntax.{predicate, Signature, symbol_at, Terms, Atom, equal, holds, count, predicate_of, terms_ok, atom_ok}
+use Rattle.theory.specs.Truth.{Interpretation, values}
+use Rattle.theory.specs.Cells.{interpretation}
 use Rattle.theory.proofs.Tests.{and_left}
 use Rattle.theory.proofs.Declared.{Declared, predicate_of→}
 use Rattle.syntax.specs.Codes.{equals_code, code_of}
 use Rattle.syntax.proofs.Codes.{code_of-word_of}
 use Rattle.truth.specs.Steps.{atom_word, atom_terms, AtomLent}
 use Rattle.truth.proofs.Stack.{length-values}
-use Rattle.truth.proofs.SymbolCells.{cell-is, cell-within}
+use Rattle.truth.proofs.SymbolCells.{cell-within}
 
 module _ {word : ℕ} {bases cells : List ℕ} {s : ℕ} {held : List ℕ} (a : AtomLent word bases cells s held) where
   abbrev g : Signature
@@ -30,20 +28,6 @@ module _ {word : ℕ} {bases cells : List ℕ} {s : ℕ} {held : List ℕ} (a : 
 
   declared : (p : ℕ) (ts : Terms) → a.atom ≡ holds p ts → Declared a.signature p predicate (count ts)
   declared p ts q = predicate_of→ g p (count ts) (and_left (predicate_of g p (count ts)) (terms_ok g ts) (ap (atom_ok g) (sym q) ∙ a.ok))
-
-  -- an equality of two terms
-  pub record IsEquality : Type 0 where
-    pub left : Term
-    pub right : Term
-    pub is : a.atom ≡ equal left right
-    pub terms : held ≡ value I a.assignment left ∷ (value I a.assignment right ∷ [])
-
-  pub is-equality : word ≡ equals_code → IsEquality
-  is-equality e = go a.atom refl
-    where
-      go : (b : Atom) → a.atom ≡ b → IsEquality
-      go (equal t u) q = record { left = t; right = u; is = q; terms = a.terms ∙ ap (λ (b : Atom). values I a.assignment (atom_terms b)) q }
-      go (holds p ts) q = absurd (omega (arith, code_is (holds p ts) q, (declared p ts q).below, a.interprets.small.symbols))
 
   -- a predicate and its terms
   pub record IsPredicate : Type 0 where
@@ -69,20 +53,7 @@ module _ {word : ℕ} {bases cells : List ℕ} {s : ℕ} {held : List ℕ} (a : 
             arity = ap length v ∙ length-values I a.assignment ts ∙ (declared p ts q).arity ∙ ap (λ (p : ℕ). (symbol_at g p).arity) k;
           }
 
-  -- an equality's truth, from the values of its terms
-  pub equality-value : (e : IsEquality) (b : Bool)
-      → ((t u : Term) → get_or held 0 0 ≡ value I a.assignment t → get_or held 1 0 ≡ value I a.assignment u → b ≡ atom_true I a.assignment (equal t u))
-      → b ≡ atom_true (interpretation s a.signature cells) a.assignment a.atom
-  equality-value e b h =
-      h e.left e.right (ap (λ (l : List ℕ). get_or l 0 0) e.terms) (ap (λ (l : List ℕ). get_or l 1 0) e.terms) ∙ ap (atom_true I a.assignment) (sym e.is)
-
-  -- a predicate's, from its cell at them
+  -- the cell of a predicate at the values of its terms
   module _ (p : IsPredicate) (c : ℕ) (e : c ≡ get_or bases word 0 + rank s held) where
     pub predicate-cell : c < length cells
     predicate-cell = cell-within a.interprets word p.below held p.arity a.below c e
-
-    pub predicate-value : (b : Bool) → ((ts : Terms) → c ≡ cell s g word (values I a.assignment ts) → b ≡ atom_true I a.assignment (holds word ts))
-        → b ≡ atom_true (interpretation s a.signature cells) a.assignment a.atom
-    predicate-value b h =
-        h p.terms (cell-is a.interprets word p.below held p.arity a.below c e ∙ ap (cell s g word) p.values)
-        ∙ ap (atom_true I a.assignment) (sym p.is)

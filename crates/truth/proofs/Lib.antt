@@ -1,4 +1,3 @@
-pub mod Signs
 pub mod Standing
 pub mod Stack
 pub mod Variables

@@ -1,7 +1,7 @@
 -- The variables of a literal's terms are valued from the first to the last, up to the next sign.
 use Prim.Native.Nat.{ℕ, zero, suc, ◌+◌, ◌-◌, ◌≤◌, ◌<◌}
-use mathlib.Core.Path.{◌≡◌, sym, ap, ◌∙◌}
-use mathlib.Core.Logic.{◌⊎◌, inl, inr, ⊎_elim}
+use mathlib.Core.Path.{◌≡◌, sym, ap, ◌∙◌, subst}
+use mathlib.Core.Logic.{inl, inr, ⊎_elim}
 use mathlib.Core.Bool.{true}
 use mathlib.Core.List.{List, [], ◌∷◌, map}
 use native.Mathlib.Omega.{arith}
@@ -35,14 +35,6 @@ pub record ValuedTo {words : List ℕ} {from : ℕ} {place choice : List ℕ} (v
   pub values : VariablesHeld (assign v.variables choice) words from i held
 
 module _ {words : List ℕ} {from : ℕ} {place choice : List ℕ} (v : VariablesLent words from place choice) where
-  pub none-valued : (held : List ℕ) → ValuedTo v from from held
-  none-valued held =
-      record {
-        within = omega arith;
-        tail = record { start = omega arith; within = omega arith; letters = λ j a b. absurd (omega arith) };
-        values = λ j x a b. absurd (omega arith);
-      }
-
   -- a letter of the clause
   module _ (i : ℕ) (below : i < length words) (letters : letter_code ≤ get_or words i 0) where
     pub letter-below : get_or words i 0 - letter_code < 8
@@ -95,5 +87,7 @@ module _ {words : List ℕ} {from : ℕ} {place choice : List ℕ} (v : Variable
     sign-ends l m = record { end = stops v.there i start h.within below v.small.symbols l m; tail = h.tail; values = h.values }
 
   -- and at the clause's end
-  pub clause-ends : {k i : ℕ} {held : List ℕ} → ValuedTo v k i held → length words ≤ i → VariablesValued v (record { tail = k; end = i }) held
-  clause-ends h l = record { end = omega (arith, h.within, end-within v.there); tail = h.tail; values = h.values }
+  pub clause-ends : {k i : ℕ} {held : List ℕ} → ValuedTo v k i held → length words ≤ i → VariablesValued v (record { tail = k; end = length words }) held
+  clause-ends {k = k} {i = i} {held = held} h l =
+      let e : i ≡ length words = omega (arith, h.within, end-within v.there) in
+      subst (λ (n : ℕ). VariablesValued v (record { tail = k; end = n }) held) e (record { end = omega (arith, h.within, end-within v.there); tail = h.tail; values = h.values })

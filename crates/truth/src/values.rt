@@ -43,22 +43,22 @@ fn variable_values(
     ensures { (v : VariablesLent words.now from place.now choice.now) → VariablesValued v result values.new }
 {
     let mut tail = from;
-    let mut i = from;
-    while i < words.len() {
+    for i in from..words.len() {
         let word = words[i];
         if ClauseWords::LETTER <= word {
             let v = variable_value(choice, place, word);
             values[i] = v.0;
-            i += 1;
             continue;
         }
         if ClauseWords::PLUS <= word {
             return TermsSpan { tail, end: i };
         }
-        i += 1;
-        tail = i;
+        tail = i + 1;
     }
-    TermsSpan { tail, end: i }
+    TermsSpan {
+        tail,
+        end: words.len(),
+    }
 }
 
 // Functions: the cell of the symbol with this first cell at the values of its terms. The loop's bound is fixed, so that it is compiled to straight code.
@@ -68,13 +68,11 @@ pub fn cell_at(base: Cell, arguments: &[u8], size: DomainSize) -> Cell
 {
     let s = size.0;
     let mut rank: usize = 0;
-    let mut i: usize = 0;
-    while i < Problem::MAX_ARITY {
+    for i in 0..Problem::MAX_ARITY {
         if arguments.len() <= i {
             return Cell(base.0 + rank);
         }
         rank = rank * s + arguments[i] as usize;
-        i += 1;
     }
     Cell(base.0 + rank)
 }
@@ -105,14 +103,11 @@ fn term_values(
         → TermsValued t result values.new }
 {
     let mut top = tail;
-    let mut done = tail;
-    while from < done {
-        let i = done - 1;
+    for i in (from..tail).rev() {
         let word = words[i];
         if ClauseWords::LETTER <= word {
             top -= 1;
             values[top] = values[i];
-            done = i;
             continue;
         }
         let f = word as usize;
@@ -122,7 +117,6 @@ fn term_values(
         let v = function_value(cells, c);
         top = rest - 1;
         values[top] = v.0;
-        done = i;
     }
     top
 }

@@ -4,13 +4,14 @@ use mathlib.Core.Path.{◌≡◌, refl, sym, ap, ap₂, ◌∙◌}
 use mathlib.Core.Bool.{Bool, true, false, cond, ◌&&◌, not}
 use mathlib.Core.List.{List, [], ◌∷◌, ◌++◌, map, map-append}
 use native.Mathlib.Nat.{zero-add}
-use native.Mathlib.Numerals.{add-one}
 use native.Mathlib.Omega.{arith}
 use lib.Dec.{eqb, leb}
-use lib.ListN.{length, get_or, take, set, length-append}
-use lib.Seq.{get_or-take, length-take-le, take-suc-set}
+use lib.ListN.{length, get_or, take, length-append}
+use lib.Seq.{get_or-take, length-take-le}
+use Rattle.std.specs.List.{count_by}
+use Rattle.std.proofs.lemmas.List.Sums.{count_by_more_yes, count_by_more_no}
 use Rattle.theory.specs.Lists.{all, select, up_from, up_to}
-use Rattle.theory.specs.Syntax.{is_function, is_from_sheet, Signature, symbol_at}
+use Rattle.theory.specs.Syntax.{is_function, is_from_sheet, symbol_at}
 use Rattle.theory.specs.Propositional.{prop_base}
 use Rattle.theory.proofs.Tests.{leb-true, leb-of-≤}
 use Rattle.theory.proofs.Lists.{all-at, all_map, all-select, up_to-all, select-append, up_from-append, map-all}
@@ -50,23 +51,34 @@ noted_more p f i j b x l l' n e k h q =
     mapped true = refl
     mapped false = refl
 
--- one constant more, where the place is marked
-pub counted-more : (p : ℕ → Bool) (i j : ℕ) (b : Bool) (n n' : ℕ) → j ≡ suc i → b ≡ p i → n ≡ length (select p (up_to i)) → n' ≡ n + cond b 1 0 → n' ≡ length (select p (up_to j))
-counted-more p i j b n n' k e h q =
-    q
-    ∙ ap₂ (λ (m : ℕ) (c : Bool). m + cond c 1 0) h e
-    ∙ ap (λ (m : ℕ). length (select p (up_to i)) + m) (one (p i))
-    ∙ sym (length-append (select p (up_to i)) (cond (p i) (i ∷ []) []))
-    ∙ ap length (sym (places-more p i))
-    ∙ ap (λ (k : ℕ). length (select p (up_to k))) (sym k)
+-- the marked ones of the first n symbols, counted
+pub marked-counted : (y : declared.Signature) (n : ℕ) → n ≤ length y.symbols → count_by (λ z. constant_mark z.function z.helper z.arity) (take n y.symbols) ≡ length (select (marked_at y) (up_to n))
+marked-counted y zero h = refl
+marked-counted y (suc n) h = go (marked_at y n) refl (marked-counted y n (omega arith))
   where
-    one : (c : Bool) → cond c 1 0 ≡ length (cond c (i ∷ []) [])
-    one true = refl
-    one false = refl
+    mark : Symbol → Bool
+    mark z = constant_mark z.function z.helper z.arity
 
--- one base behind those held
-pub one-noted : (k : Constants) (base : ℕ) → k.count < length k.first → take (k.count + 1) (set k.first k.count base) ≡ held_bases k ++ (base ∷ [])
-one-noted k base h = ap (λ (n : ℕ). take n (set k.first k.count base)) (add-one k.count) ∙ take-suc-set k.first k.count base h
+    next : suc n ≡ n + 1
+    next = omega arith
+
+    places : (b : Bool) → marked_at y n ≡ b → length (select (marked_at y) (up_to (suc n))) ≡ length (select (marked_at y) (up_to n)) + length (cond b (n ∷ []) [])
+    places b e =
+        ap length (places-more (marked_at y) n)
+        ∙ length-append (select (marked_at y) (up_to n)) (cond (marked_at y n) (n ∷ []) [])
+        ∙ ap (λ (c : Bool). length (select (marked_at y) (up_to n)) + length (cond c (n ∷ []) [])) e
+
+    go : (b : Bool) → marked_at y n ≡ b → count_by mark (take n y.symbols) ≡ length (select (marked_at y) (up_to n)) → count_by mark (take (suc n) y.symbols) ≡ length (select (marked_at y) (up_to (suc n)))
+    go true e before =
+        ap (λ (m : ℕ). count_by mark (take m y.symbols)) next
+        ∙ count_by_more_yes mark y.symbols n blank (omega arith) e
+        ∙ ap (λ (m : ℕ). m + 1) before
+        ∙ sym (places true e)
+    go false e before =
+        ap (λ (m : ℕ). count_by mark (take m y.symbols)) next
+        ∙ count_by_more_no mark y.symbols n blank (omega arith) e
+        ∙ before
+        ∙ omega (arith, places false e)
 
 -- tests that agree below n select the same
 select-same : (p q : ℕ → Bool) (a n : ℕ) → ((i : ℕ) → a ≤ i → i < a + n → p i ≡ q i) → select p (up_from a n) ≡ select q (up_from a n)

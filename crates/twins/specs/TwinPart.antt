@@ -7,9 +7,7 @@ use Rattle.theory.specs.PropClauses.{Part, some_result}
 use Rattle.symmetry.specs.ConstantClauses.{constant_parts}
 use Rattle.syntax.specs.declared.signature.Signature as declared
 use Rattle.syntax.specs.Signatures.{signature_in}
-use Rattle.valuations.specs.declared.numbering.Numbering.{Numbering}
-use Rattle.stream.specs.declared.consumer.Mode.{Mode}
-use Rattle.stream.specs.Consuming.{State, Consumes, Consumed}
+use Rattle.stream.specs.Consuming.{Effect, Consumes, Consumed}
 
 -- the i-th constant, counted from 0, has the result after d only if an earlier one has d
 abbrev pub after_clause : List ℕ → ℕ → ℕ → PropClause
@@ -32,9 +30,9 @@ unfoldable pub twin_part : ℕ → Signature → List PropClause
 twin_part s g = concat_map (λ (p : Part). p.clauses) (constant_parts s g)
 
 -- at x, the constant clauses of y come next
-abbrev pub TwinsNext : Mode → declared.Signature → Numbering → ℕ → State → Type 0
-TwinsNext mode y n s x = (sheet : List ℕ) × Consumes mode n.count (twin_part s (signature_in sheet y)) x
+abbrev pub TwinsNext : {S : Type 0} → Effect S → declared.Signature → ℕ → S → Type 0
+TwinsNext effect y s x = (sheet : List ℕ) × Consumes effect (twin_part s (signature_in sheet y)) x
 
 -- from x to z, they were taken
-abbrev pub TwinsTaken : Mode → declared.Signature → Numbering → ℕ → State → State → Type 0
-TwinsTaken mode y n s x z = (sheet : List ℕ) → Consumed mode n.count (twin_part s (signature_in sheet y)) x z
+abbrev pub TwinsTaken : {S : Type 0} → Effect S → declared.Signature → ℕ → S → S → Type 0
+TwinsTaken effect y s x z = (sheet : List ℕ) → Consumed effect (twin_part s (signature_in sheet y)) x z

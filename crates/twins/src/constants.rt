@@ -1,12 +1,12 @@
 // The declared constants of a signature, in order.
-ghost use Rattle.std.specs.Prelude.{◌≡◌, cond, List, [], ◌∷◌, ◌++◌, ℕ, ◌+◌, ◌≤◌, ◌<◌, length};
+ghost use Rattle.std.specs.Prelude.{◌≡◌, cond, count_by, List, [], ◌∷◌, ◌++◌, ℕ, ◌+◌, ◌≤◌, ◌<◌, length};
 ghost use Rattle.symmetry.specs.ConstantClauses.{constant_places};
 ghost use Rattle.syntax.specs.Signatures.{max_in_all, signature_in};
 ghost use Rattle.clauses.specs.Names.{Limited};
 ghost use Rattle.twins.specs.Constants.{ConstantsOf, constant_mark, held_bases};
 
 use syntax::limits::Problem;
-use syntax::signature::Signature;
+use syntax::signature::{Signature, Symbol};
 use valuations::numbering::Numbering;
 
 // How many variables come before those of each constant.
@@ -24,12 +24,10 @@ pub fn constants_of(signature: Signature, n: Numbering) -> Constants
         first: [0; Problem::MAX_SYMBOLS],
         count: 0,
     };
-    let mut i: usize = 0;
-    while i < signature.count {
+    for i in 0..signature.count {
         let symbol = signature.symbols[i];
         let marked = is_constant(symbol.function, symbol.helper, symbol.arity);
         constants = noted(constants, marked, n.bases[i]);
-        i += 1;
     }
     constants
 }
@@ -55,37 +53,22 @@ pub fn constant_count(signature: Signature) -> usize
     ensures count { (sheet : List ℕ) → result ≡ length (constant_places (signature_in sheet signature)) }
     ensures few { result ≤ max_in_all }
 {
-    let mut count: usize = 0;
-    let mut i: usize = 0;
-    while i < signature.count {
-        let symbol = signature.symbols[i];
-        let marked = is_constant(symbol.function, symbol.helper, symbol.arity);
-        count = counted(count, marked);
-        i += 1;
-    }
-    count
+    marked_count(&signature.symbols[..signature.count])
 }
 
-// The count, and one more where the symbol is marked.
-fn counted(count: usize, marked: bool) -> usize
-    requires { count < max_in_all }
-    ensures { result ≡ count + cond marked 1 0 }
+// How many symbols are declared constants.
+fn marked_count(symbols: &[Symbol]) -> usize
+    ensures { result ≡ count_by (λ y. constant_mark y.function y.helper y.arity) symbols.now }
 {
-    if marked {
-        return count + 1;
-    }
-    count
+    symbols
+        .iter()
+        .filter(|y| is_constant(y.function, y.helper, y.arity))
+        .count()
 }
 
 // Whether a symbol is a declared constant: a function without arguments that is no helper.
 fn is_constant(function: bool, helper: bool, arity: u8) -> bool
     ensures { result ≡ constant_mark function helper arity }
 {
-    if !function {
-        return false;
-    }
-    if arity != 0 {
-        return false;
-    }
-    !helper
+    function && arity == 0 && !helper
 }

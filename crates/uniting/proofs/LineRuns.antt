@@ -1,5 +1,5 @@
 -- Laws of runs: one line after the other, what is said of a run's lines so far.
-use Prim.Native.Nat.{ℕ, suc, ◌+◌, ◌-◌, ◌≤◌, ◌<◌}
+use Prim.Native.Nat.{ℕ, zero, suc, ◌+◌, ◌-◌, ◌≤◌, ◌<◌}
 use mathlib.Core.Path.{◌≡◌, refl, sym, ap, ◌∙◌, subst}
 use mathlib.Core.Bool.{Bool, true, false, cond, not, ◌&&◌, ◌||◌}
 use mathlib.Core.Option.{Option, none, some, some-injective}
@@ -12,10 +12,12 @@ use lib.Seq.{drop-cons, drop-drop, get_or-take, get_or-drop, length-take-le, tak
 use Rattle.theory.specs.Lists.{any, all, concat_map}
 use Rattle.theory.specs.Bytes.{LF}
 use Rattle.theory.specs.Lines.{Cut, add_byte, cut_line}
+use Rattle.theory.specs.DueLines.{rest_or, from_line}
 use Rattle.theory.proofs.Tests.{ltb-true, and_left, and_right, and-join}
 use Rattle.theory.proofs.Lists.{all-at, concat_map-append}
 use Rattle.theory.proofs.Lines.{in_line, cut_line-is}
 use Rattle.text.specs.Lines.{part, LineEnd}
+use Rattle.columns.specs.Lines.{LineStart}
 use Rattle.sheet_merging.specs.Sheets.{cut_lines, ended}
 use Rattle.uniting.specs.declared.runs.Run.{Run}
 use Rattle.uniting.specs.Runs.{Lined, StartsAt, RunOf, run_lines}
@@ -31,6 +33,20 @@ lines-in_line (b ∷ bs) = go (eqb b LF) refl (cut_lines bs) (lines-in_line bs)
     go false e (w ∷ ws) h =
         and-join (all in_line (b ∷ w)) (all (all in_line) ws) (and-join (in_line b) (all in_line w) (ap not e) (and_left (all in_line w) (all (all in_line) ws) h)) (and_right (all in_line w) (all (all in_line) ws) h)
 
+-- what stands after n lines of many
+lines-after : (ls : List (List ℕ)) → all (all in_line) ls ≡ true → (n : ℕ) → n ≤ length ls → from_line n (concat_map ended ls) ≡ concat_map ended (drop n ls)
+lines-after ls h zero k = refl
+lines-after [] h (suc n) k = absurd (omega (arith, k))
+lines-after (l ∷ ls) h (suc n) k =
+    let rest : List ℕ = concat_map ended ls in
+    ap (λ (o : Option Cut). from_line n (rest_or o)) (ap cut_line (append_assoc l (LF ∷ []) rest) ∙ cut_line-is l rest (and_left (all in_line l) (all (all in_line) ls) h))
+    ∙ lines-after ls (and_right (all in_line l) (all (all in_line) ls) h) n (omega (arith, k))
+
+-- the place after n lines is where the next starts
+pub line-starts : (text : List ℕ) → Lined text → (n at : ℕ) → n ≤ length (cut_lines text) → LineStart text n at → StartsAt text n at
+line-starts text h n at k s =
+    record { within = s.within; here = sym s.here ∙ ap (from_line n) (sym h.whole) ∙ lines-after (cut_lines text) (lines-in_line text) n k }
+
 -- a text has no more lines than bytes
 pub lines-few : (t : List ℕ) → length (cut_lines t) ≤ length t
 lines-few [] = omega arith
@@ -40,13 +56,6 @@ lines-few (b ∷ bs) = go (eqb b LF) (cut_lines bs) (lines-few bs)
     go true r h = omega (arith, h)
     go false [] h = omega arith
     go false (w ∷ ws) h = omega (arith, h)
-
--- the first line starts with the text
-pub first-starts : (text : List ℕ) → Lined text → StartsAt text 0 0
-first-starts text h = record { within = omega arith; here = sym h.whole }
-
-pub place_at : (text : List ℕ) (i n at : ℕ) → StartsAt text i at → i ≡ n → StartsAt text n at
-place_at text i n at s e = subst (λ (k : ℕ). StartsAt text k at) e s
 
 -- the line from a place on ends at its LF, and the next one starts behind it
 pub record NextLine (text : List ℕ) (n at r : ℕ) : Type 0 where

@@ -27,7 +27,7 @@ module _ (X : List (List ℕ)) (l : List ℕ) where
   new_line e = ap (λ (b : Bool). cond (not b) (l ∷ []) []) e
 
   -- its count and its bytes
-  pub old-measured : any (same l) X ≡ true → (length (new_to same X (l ∷ [])) ≡ 0) × (length (new_text X (l ∷ [])) ≡ 0)
+  old-measured : any (same l) X ≡ true → (length (new_to same X (l ∷ [])) ≡ 0) × (length (new_text X (l ∷ [])) ≡ 0)
   old-measured e = (ap length (old-line e), ap (λ (ls : List (List ℕ)). length (concat_map ended ls)) (old-line e))
 
   new-text : any (same l) X ≡ false → new_text X (l ∷ []) ≡ l ++ (LF ∷ [])

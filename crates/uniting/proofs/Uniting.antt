@@ -1,32 +1,19 @@
 -- The lines of both sheets joined kind by kind: their text, its length, and how it is written.
 use Prim.Native.Nat.{ℕ, ◌+◌, ◌≤◌}
-use mathlib.Core.Path.{◌≡◌, ap, ◌∙◌}
+use mathlib.Core.Path.{◌≡◌, ◌∙◌}
 use mathlib.Core.List.{List, [], ◌++◌, append_assoc}
 use native.Mathlib.Omega.{arith}
 use lib.ListN.{length, length-append}
-use Rattle.theory.specs.Lists.{same}
 use Rattle.theory.specs.Bytes.{bytes}
 use Rattle.theory.specs.SheetText.{line}
 use Rattle.text.specs.Put.{put}
 use Rattle.sheet_text.proofs.LinesWritten.{same_text, two-written}
 use Rattle.sheet_merging.specs.Sheets.{section_text}
-use Rattle.sheet_merging.specs.Merging.{joined}
-use Rattle.uniting.specs.declared.runs.Run.{Run}
 use Rattle.uniting.specs.declared.joins.Join.{Join}
 use Rattle.uniting.specs.declared.united.United.{United}
-use Rattle.uniting.specs.Runs.{run_lines}
 use Rattle.uniting.specs.Joins.{joined_lines, JoinOf}
 use Rattle.uniting.specs.United.{JoinsOf, Small, Moderate, measured_length, united_text}
 use Rattle.uniting.proofs.Sections.{section-measured}
-
--- the lines of two runs that were joined
-pub lines-joined : (first second : List ℕ) (j : Join) (own other : Run) (xs ys : List (List ℕ)) → j.first ≡ own → j.second ≡ other → run_lines first own ≡ xs → run_lines second other ≡ ys
-    → joined_lines first second j ≡ joined same xs ys
-lines-joined first second j own other xs ys e f x y =
-    ap (λ (r : Run). joined same (run_lines first r) (run_lines second j.second)) e
-    ∙ ap (λ (r : Run). joined same (run_lines first own) (run_lines second r)) f
-    ∙ ap (λ (l : List (List ℕ)). joined same l (run_lines second other)) x
-    ∙ ap (joined same xs) y
 
 module _ (first second : List ℕ) (u : United) (h : JoinsOf first second u) where
   abbrev heading : List ℕ

@@ -54,12 +54,10 @@ fn new_lines(first: &[u8], own: Run, second: &[u8], other: Run) -> Lines
 {
     let mut lines = Lines { count: 0, bytes: 0 };
     let mut at = other.from;
-    let mut i: usize = 0;
-    while i < other.count {
+    for _i in 0..other.count {
         let end = line_end(second, at);
         lines = with_new(lines, first, own, &second[at..end]);
         at = end + 1;
-        i += 1;
     }
     lines
 }
@@ -127,12 +125,10 @@ fn put_new_lines(
 {
     let mut e = at;
     let mut from = other.from;
-    let mut i: usize = 0;
-    while i < other.count {
+    for _i in 0..other.count {
         let end = line_end(second, from);
         e = put_new(out, e, first, own, &second[from..end]);
         from = end + 1;
-        i += 1;
     }
     e
 }

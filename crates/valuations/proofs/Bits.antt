@@ -1,28 +1,48 @@
 -- Laws of the bytes of cells: one byte, one cell, one table at a time.
 use Prim.Native.Nat.{ℕ, zero, suc, ◌+◌, ◌*◌, ◌≤◌, ◌<◌}
 use mathlib.Core.Path.{◌≡◌, refl, sym, ap, ◌∙◌}
-use mathlib.Core.Bool.{Bool, true, false, cond, ◌&&◌}
-use mathlib.Core.List.{List, [], ◌∷◌, ◌++◌, map-append}
+use mathlib.Core.Bool.{not, Bool, true, false, cond, ◌&&◌}
+use mathlib.Core.List.{List, [], ◌∷◌, ◌++◌}
 use native.Mathlib.Nat.{suc-mul, zero-mul, mul-le-mul}
 use native.Mathlib.Omega.{arith}
-use borrow.Author.Tests.{eq-eqb, ne_eqb, lt-ltb, le-ltb}
+use borrow.Author.Tests.{eq-eqb, ne_eqb}
 use lib.Dec.{eqb, ltb}
-use lib.ListN.{length, get_or, set, take, drop, replicate, length-append, length-drop}
-use lib.Seq.{take-suc, drop-cons, get_or-drop, drop-drop, take-suc-set}
+use Rattle.std.specs.Prelude.{Some, None, unwrap_or}
+use Rattle.std.specs.List.{count_by, position, position_or_len}
+use Rattle.std.proofs.lemmas.List.Sums.{prefix_len-le-length}
+use Rattle.std.proofs.lemmas.List.Recursion.{is_count_by, is_position_or_len}
+use lib.ListN.{length, set, take, drop, replicate}
+use lib.Seq.{drop-drop, take-suc-set}
 use Rattle.theory.specs.Lists.{all, select}
 use Rattle.theory.specs.Syntax.{Kind, function, predicate, Signature}
 use Rattle.theory.specs.Propositional.{width, prop_count}
-use Rattle.theory.specs.Valuation.{is_valuation, has_value, first_one, value_of, all_have_values, values_of, setting_of}
-use Rattle.theory.proofs.Tests.{eqb-true, and_left, and_right}
-use Rattle.theory.proofs.Lists.{select-append}
+use Rattle.theory.specs.Valuation.{is_valuation, has_value, first_one, value_of, all_have_values, values_of}
+use Rattle.theory.proofs.Tests.{ltb-false, eqb-sym, eqb-true, and_left, and_right}
 use Rattle.valuations.specs.Cells.{bits_at, ones}
 
--- every byte is 0 or 1, of those from place i on
-pub binary-on : (σ : List ℕ) (i : ℕ) → i < length σ → get_or σ i 0 ≤ 1 → all (λ b. ltb b 2) (drop i σ) ≡ all (λ b. ltb b 2) (drop (suc i) σ)
-binary-on σ i h l = ap (all (λ b. ltb b 2)) (drop-cons σ i 0 h) ∙ ap (λ (b : Bool). b && all (λ b. ltb b 2) (drop (suc i) σ)) (lt-ltb (get_or σ i 0) 2 (omega arith))
+-- the theory's words are the library's: how many bytes are 1, and the place of the first
+pub ones-count_by : (bs : List ℕ) → ones bs ≡ count_by (λ b. eqb b 1) bs
+ones-count_by bs = is_count_by ones (λ b. eqb b 1) refl step bs
+  where
+    either : (b : Bool) (x : ℕ) (xs : List ℕ) → length (cond b (x ∷ xs) xs) ≡ cond b (1 + length xs) (length xs)
+    either true x xs = omega arith
+    either false x xs = refl
 
-pub not-binary : (σ : List ℕ) (i : ℕ) → i < length σ → 1 < get_or σ i 0 → all (λ b. ltb b 2) (drop i σ) ≡ false
-not-binary σ i h l = ap (all (λ b. ltb b 2)) (drop-cons σ i 0 h) ∙ ap (λ (b : Bool). b && all (λ b. ltb b 2) (drop (suc i) σ)) (le-ltb (get_or σ i 0) 2 l)
+    step : (x : ℕ) (xs : List ℕ) → ones (x ∷ xs) ≡ cond (eqb x 1) (1 + ones xs) (ones xs)
+    step x xs = either (eqb 1 x) x (select (eqb 1) xs) ∙ ap (λ (b : Bool). cond b (1 + ones xs) (ones xs)) (eqb-sym 1 x)
+
+pub first_one-position : (bs : List ℕ) → first_one bs ≡ unwrap_or (position (λ b. eqb b 1) bs) (length bs)
+first_one-position bs = is_position_or_len first_one is_one refl (λ x xs. ap (λ (n : ℕ). cond (eqb x 1) 0 n) (omega arith)) bs ∙ found (ltb place (length bs)) refl
+  where
+    is_one : ℕ → Bool
+    is_one b = eqb b 1
+
+    place : ℕ
+    place = position_or_len is_one bs
+
+    found : (b : Bool) → ltb place (length bs) ≡ b → place ≡ unwrap_or (cond b (Some place) None) (length bs)
+    found true e = refl
+    found false e = omega (arith, prefix_len-le-length (λ b. not (is_one b)) bs, ltb-false place (length bs) e)
 
 -- a valuation: a byte for each variable, and every byte 0 or 1
 module _ (s : ℕ) (g : Signature) (σ : List ℕ) where
@@ -41,45 +61,6 @@ module _ (s : ℕ) (g : Signature) (σ : List ℕ) where
   pub is-binary : is_valuation s g σ ≡ true → all (λ b. ltb b 2) σ ≡ true
   unfolding is_valuation
   is-binary h = and_right (eqb (length σ) (prop_count s g)) (all (λ b. ltb b 2) σ) h
-
--- the bytes from a place on: the first and the others, the last and the others
-pub bits-cons : (σ : List ℕ) (from n : ℕ) → from < length σ → bits_at σ from (suc n) ≡ get_or σ from 0 ∷ bits_at σ (suc from) n
-bits-cons σ from n h = ap (take (suc n)) (drop-cons σ from 0 h)
-
-pub bits-snoc : (σ : List ℕ) (from n : ℕ) → from + n < length σ → bits_at σ from (suc n) ≡ bits_at σ from n ++ (get_or σ (from + n) 0 ∷ [])
-bits-snoc σ from n h =
-    take-suc (drop from σ) n 0 (omega (arith, length-drop from σ)) ∙ ap (λ (x : ℕ). bits_at σ from n ++ (x ∷ [])) (get_or-drop from σ n 0)
-
--- how many bytes are 1, with one byte more
-ones-snoc : (bs : List ℕ) (x : ℕ) (b : Bool) → eqb 1 x ≡ b → ones (bs ++ (x ∷ [])) ≡ ones bs + cond b 1 0
-ones-snoc bs x b e =
-    ap length (select-append (eqb 1) bs (x ∷ []))
-    ∙ length-append (select (eqb 1) bs) (select (eqb 1) (x ∷ []))
-    ∙ ap (λ (n : ℕ). ones bs + n) (one b e)
-  where
-    one : (b : Bool) → eqb 1 x ≡ b → length (select (eqb 1) (x ∷ [])) ≡ cond b 1 0
-    one true e = rw e
-    one false e = rw e
-
-pub one_more : (σ : List ℕ) (from n : ℕ) → from + n < length σ → get_or σ (from + n) 0 ≡ 1 → ones (bits_at σ from (suc n)) ≡ ones (bits_at σ from n) + 1
-one_more σ from n h e = ap ones (bits-snoc σ from n h) ∙ ones-snoc (bits_at σ from n) (get_or σ (from + n) 0) true (eq-eqb 1 (get_or σ (from + n) 0) (sym e))
-
-pub none_more : (σ : List ℕ) (from n : ℕ) → from + n < length σ → (get_or σ (from + n) 0 ≡ 1 → ⊥) → ones (bits_at σ from (suc n)) ≡ ones (bits_at σ from n)
-none_more σ from n h e =
-    ap ones (bits-snoc σ from n h)
-    ∙ ones-snoc (bits_at σ from n) (get_or σ (from + n) 0) false (ne_eqb 1 (get_or σ (from + n) 0) (λ z. e (sym z)))
-    ∙ omega arith
-
--- the place of the first 1, of the bytes from the d-th on
-pub first-here : (σ : List ℕ) (from n : ℕ) → from < length σ → get_or σ from 0 ≡ 1 → 0 < n → first_one (bits_at σ from n) ≡ 0
-first-here σ from zero h e k = absurd (omega arith)
-first-here σ from (suc n) h e k = ap first_one (bits-cons σ from n h) ∙ ap (λ (b : Bool). cond b 0 (suc (first_one (bits_at σ (suc from) n)))) (eq-eqb (get_or σ from 0) 1 e)
-
-pub first-later : (σ : List ℕ) (from n m : ℕ) → from < length σ → (get_or σ from 0 ≡ 1 → ⊥) → n ≡ suc m → first_one (bits_at σ from n) ≡ suc (first_one (bits_at σ (suc from) m))
-first-later σ from n m h e k =
-    ap (λ (j : ℕ). first_one (bits_at σ from j)) k
-    ∙ ap first_one (bits-cons σ from m h)
-    ∙ ap (λ (b : Bool). cond b 0 (suc (first_one (bits_at σ (suc from) m)))) (ne_eqb (get_or σ from 0) 1 e)
 
 -- Cells of one kind k, one after the other.
 module _ (s : ℕ) (k : Kind) where
@@ -133,28 +114,16 @@ pub predicates-have-values : (s n : ℕ) (σ : List ℕ) → all_have_values s (
 predicates-have-values s zero σ = refl
 predicates-have-values s (suc n) σ = predicates-have-values s n (drop 1 σ)
 
--- a loop's turn: the next function cell has one result, or not
-module _ (s m n from : ℕ) (σ : List ℕ) (e : n ≡ suc m) where
-  next : all_have_values s (replicate n function) (drop from σ) ≡ (eqb (ones (bits_at σ from s)) 1 && all_have_values s (replicate m function) (drop (from + s) σ))
-  next =
-      ap (λ (j : ℕ). all_have_values s (replicate j function) (drop from σ)) e
-      ∙ ap (λ (l : List ℕ). eqb (ones (bits_at σ from s)) 1 && all_have_values s (replicate m function) l) (drop-drop s from σ)
+-- the values of a predicate's cells are their bytes
+pub predicate-values : (s n : ℕ) (σ : List ℕ) → n ≤ length σ → values_of s (replicate n predicate) σ ≡ take n σ
+predicate-values s zero σ h = refl
+predicate-values s (suc n) [] h = absurd (omega arith)
+predicate-values s (suc n) (x ∷ σ) h = ap (λ (l : List ℕ). x ∷ l) (predicate-values s n σ (omega arith))
 
-  pub one-result : ones (bits_at σ from s) ≡ 1 → all_have_values s (replicate n function) (drop from σ) ≡ all_have_values s (replicate m function) (drop (from + s) σ)
-  one-result h = next ∙ ap (λ (b : Bool). b && all_have_values s (replicate m function) (drop (from + s) σ)) (eq-eqb (ones (bits_at σ from s)) 1 h)
-
-  pub other-results : (ones (bits_at σ from s) ≡ 1 → ⊥) → all_have_values s (replicate n function) (drop from σ) ≡ false
-  other-results h = next ∙ ap (λ (b : Bool). b && all_have_values s (replicate m function) (drop (from + s) σ)) (ne_eqb (ones (bits_at σ from s)) 1 h)
+-- the next function cell has one result, and so have those behind it
+pub next-result : (s m from : ℕ) (σ : List ℕ) → all_have_values s (replicate (suc m) function) (drop from σ) ≡ (eqb (ones (bits_at σ from s)) 1 && all_have_values s (replicate m function) (drop (from + s) σ))
+next-result s m from σ = ap (λ (l : List ℕ). eqb (ones (bits_at σ from s)) 1 && all_have_values s (replicate m function) l) (drop-drop s from σ)
 
 -- the r-th of n blocks of w bytes is within them
 pub block-fits : (r n w : ℕ) → r < n → r * w + w ≤ n * w
 block-fits r n w h = omega (arith, mul-le-mul {n₁ = suc r} {m₁ = w} {n₂ = n} {m₂ = w} h (omega arith), suc-mul r w)
-
--- the bytes of a search's values, one more
-pub byte-stored : (zs σ : List ℕ) (i x : ℕ) → i < length zs → i < length σ → take i σ ≡ setting_of (take i zs) → x ≡ cond (eqb (get_or zs i 0) 1) 1 0
-    → take (suc i) (set σ i x) ≡ setting_of (take (suc i) zs)
-byte-stored zs σ i x h k e v =
-    take-suc-set σ i x k
-    ∙ ap (λ (l : List ℕ). l ++ (x ∷ [])) e
-    ∙ ap (λ (y : ℕ). setting_of (take i zs) ++ (y ∷ [])) v
-    ∙ sym (ap setting_of (take-suc zs i 0 h) ∙ map-append (λ z. cond (eqb z 1) 1 0) (take i zs) (get_or zs i 0 ∷ []))

@@ -1,7 +1,7 @@
 -- The bytes of a valuation symbol by symbol: what is left of them after the first symbols, and the table of a symbol.
 use Prim.Native.Nat.{ℕ, zero, suc, ◌+◌, ◌≤◌, ◌<◌}
 use mathlib.Core.Path.{◌≡◌, sym, ap, ◌∙◌}
-use mathlib.Core.Bool.{Bool, true, false, ◌&&◌}
+use mathlib.Core.Bool.{Bool, true, ◌&&◌}
 use mathlib.Core.List.{List, ◌++◌, map}
 use native.Mathlib.Omega.{arith}
 use lib.ListN.{length, take, drop, replicate, take-append-drop}
@@ -51,12 +51,6 @@ module _ (s : ℕ) (g : Signature) (σ : List ℕ) where
       ∙ have-values-behind s f.kind (table_size s f) (cell_kinds s (drop (suc i) g)) (drop (prop_base s g i) σ)
       ∙ ap (λ (l : List ℕ). functional_at i && all_have_values s (cell_kinds s (drop (suc i) g)) l)
       (drop-drop (block_size s f) (prop_base s g i) σ ∙ ap (λ (j : ℕ). drop j σ) (sym (prop_base-suc s g i h)))
-
-  pub functional-passes : (i : ℕ) → i < length g → functional_at i ≡ true → functional_from i ≡ functional_from (suc i)
-  functional-passes i h e = functional-from i h ∙ ap (λ (b : Bool). b && functional_from (suc i)) e
-
-  pub functional-fails : (i : ℕ) → i < length g → functional_at i ≡ false → functional_from i ≡ false
-  functional-fails i h e = functional-from i h ∙ ap (λ (b : Bool). b && functional_from (suc i)) e
 
   pub functional-to-end : functional_from (length g) ≡ true
   unfolding cell_kinds

@@ -28,13 +28,11 @@ pub fn numbering_of(signature: Signature, size: DomainSize) -> Numbering
         widths: [0; Problem::MAX_SYMBOLS],
         count: 0,
     };
-    let mut i: usize = 0;
-    while i < signature.count {
+    for i in 0..signature.count {
         let symbol = signature.symbols[i];
         n.bases[i] = n.count;
         n.widths[i] = width(symbol.function, size);
-        n.count = n.count + block_size(symbol, size);
-        i += 1;
+        n.count += block_size(symbol, size);
     }
     n
 }

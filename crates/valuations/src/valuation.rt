@@ -1,6 +1,6 @@
 // Valuations (document 01: settings): checked, and turned into the table of a symbol.
 ghost use Rattle.std.specs.Prelude.{◌≡◌, cond, List, map, ℕ, ◌+◌, ◌*◌, ◌^◌, ◌≤◌, ◌<◌, eqb, ltb, length, replicate, drop};
-ghost use Rattle.theory.specs.Lists.{all};
+ghost use Rattle.std.specs.List.{count_by, list_all};
 ghost use Rattle.theory.specs.Syntax as syntax;
 ghost use Rattle.theory.specs.Propositional.{width};
 ghost use Rattle.theory.specs.Valuation.{all_have_values, first_one, is_functional, is_valuation, setting_of};
@@ -17,16 +17,9 @@ use syntax::size::DomainSize;
 
 // Every byte is 0 or 1.
 fn is_binary(setting: &[u8]) -> bool
-    ensures { result ≡ all (λ b. ltb b 2) setting.now }
+    ensures { result ≡ list_all (λ b. ltb b 2) setting.now }
 {
-    let mut i: usize = 0;
-    while i < setting.len() {
-        if 1 < setting[i] {
-            return false;
-        }
-        i += 1;
-    }
-    true
+    setting.iter().all(|b| *b < 2)
 }
 
 // A byte for each variable, and every byte 0 or 1; otherwise refusal 13.
@@ -46,15 +39,10 @@ pub fn is_functional(setting: &[u8], signature: Signature, n: Numbering, size: D
     requires setting_len { length setting.now ≡ n.count }
     ensures { (sheet : List ℕ) → result ≡ is_functional size.0 (signature_in sheet signature) setting.now }
 {
-    let mut i: usize = 0;
-    while i < signature.count {
+    (0..signature.count).all(|i| {
         let from = n.bases[i];
-        if !all_have_values(setting, PropVar(from), signature.symbols[i], size) {
-            return false;
-        }
-        i += 1;
-    }
-    true
+        all_have_values(setting, PropVar(from), signature.symbols[i], size)
+    })
 }
 
 // Whether each cell of the symbol, whose variables start with `from`, has a value.
@@ -75,52 +63,27 @@ fn all_have_results(setting: &[u8], from: PropVar, cells: usize, size: DomainSiz
     requires size_in_bounds { from.0 + cells * size.0 ≤ length setting.now }
     ensures { result ≡ all_have_values size.0 (replicate cells syntax.function) (drop from.0 setting.now) }
 {
-    let width = size.0 as u32;
-    let mut at = from.0;
-    let mut r: usize = 0;
-    while r < cells {
-        if count_ones(setting, PropVar(at), size) != 1 {
-            return false;
-        }
-        at += width;
-        r += 1;
-    }
-    true
+    let first = from.0 as usize;
+    (0..cells).all(|r| {
+        let at = first + r * size.0;
+        count_ones(&setting[at..at + size.0]) == 1
+    })
 }
 
-// How many of the cell's bytes, which start with that of `from`, are 1.
-fn count_ones(setting: &[u8], from: PropVar, size: DomainSize) -> usize
-    requires { from.0 + size.0 ≤ length setting.now }
-    ensures { result ≡ ones (bits_at setting.now from.0 size.0) }
+// How many of a cell's bytes are 1.
+fn count_ones(cell: &[u8]) -> usize
+    ensures { result ≡ count_by (λ b. eqb b 1) cell.now }
 {
-    let first = from.0 as usize;
-    let width = size.0;
-    let mut count: usize = 0;
-    let mut d: usize = 0;
-    while d < width {
-        if setting[first + d] == 1 {
-            count += 1;
-        }
-        d += 1;
-    }
-    count
+    cell.iter().filter(|b| **b == 1).count()
 }
 
-// The result of the cell whose bytes start with that of `from`: the place of the first 1, or, where there is none, the size.
-fn first_one(setting: &[u8], from: PropVar, size: DomainSize) -> Element
-    requires { (size.0 ≤ 8) × (from.0 + size.0 ≤ length setting.now) }
-    ensures { result.0 ≡ first_one (bits_at setting.now from.0 size.0) }
+// The result of the cell with these bytes: the place of the first 1, or, where there is none, their number.
+fn first_one(cell: &[u8]) -> Element
+    requires { length cell.now ≤ 8 }
+    ensures { result.0 ≡ first_one cell.now }
 {
-    let first = from.0 as usize;
-    let width = size.0;
-    let mut d: usize = 0;
-    while d < width {
-        if setting[first + d] == 1 {
-            return Element(d as u8);
-        }
-        d += 1;
-    }
-    Element(d as u8)
+    let place = cell.iter().position(|b| *b == 1);
+    Element(place.unwrap_or(cell.len()) as u8)
 }
 
 // The values of a symbol's cells, whose variables start with `from`.
@@ -142,14 +105,11 @@ fn read_results(setting: &[u8], from: PropVar, size: DomainSize, table: &mut [u8
     requires size_in_bounds { from.0 + length table.old * size.0 ≤ length setting.now }
     ensures { table.new ≡ cell_values size.0 syntax.function (length table.old) from.0 setting.now }
 {
-    let width = size.0 as u32;
-    let mut at = from.0;
-    let mut r: usize = 0;
-    while r < table.len() {
-        let result = first_one(setting, PropVar(at), size);
+    let first = from.0 as usize;
+    for r in 0..table.len() {
+        let at = first + r * size.0;
+        let result = first_one(&setting[at..at + size.0]);
         table[r] = result.0;
-        at += width;
-        r += 1;
     }
 }
 
@@ -159,11 +119,7 @@ fn read_truths(setting: &[u8], from: PropVar, table: &mut [u8])
     ensures { (size : ℕ) → table.new ≡ cell_values size syntax.predicate (length table.old) from.0 setting.now }
 {
     let first = from.0 as usize;
-    let mut r: usize = 0;
-    while r < table.len() {
-        table[r] = setting[first + r];
-        r += 1;
-    }
+    table.copy_from_slice(&setting[first..first + table.len()]);
 }
 
 // The bytes of a search's values, 1 for yes.
@@ -171,19 +127,7 @@ pub fn read_values(values: &[u32], setting: &mut [u8])
     requires { length values.now ≡ length setting.old }
     ensures { setting.new ≡ setting_of values.now }
 {
-    let mut i: usize = 0;
-    while i < setting.len() {
-        setting[i] = byte_of(values[i]);
-        i += 1;
+    for i in 0..setting.len() {
+        setting[i] = u8::from(values[i] == 1);
     }
-}
-
-// The byte of a value of a search.
-fn byte_of(value: u32) -> u8
-    ensures { result ≡ cond (eqb value 1) 1 0 }
-{
-    if value == 1 {
-        return 1;
-    }
-    0
 }

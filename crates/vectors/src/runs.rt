@@ -1,8 +1,7 @@
 // Each operation on its stored inputs.
 use std::io;
-use vector_lines::answered::{
-    bytes, counted, explained, judged, plain, pointed, search, solved, text,
-};
+use uniting::merge::WhichSheet;
+use vector_lines::answered::{bytes, counted, explained, judged, plain, search, solved, text};
 use vector_lines::inputs::{Input, input_at};
 use vector_lines::lending::{pattern_bytes, pattern_numbers};
 use vector_lines::lines::{heading, say};
@@ -119,10 +118,22 @@ fn from_solver(
 }
 
 fn merge(rt: &impl Print, first: &[u8], second: &[u8], output: &mut [u8]) -> io::Result<()> {
-    let answer = nesskettle::merge(first, second, output);
-    let said = answer.answer;
-    pointed(rt, answer.sheet)?;
-    text(rt, said, output)
+    match nesskettle::merge(first, second, output) {
+        Ok(n) => text(rt, Ok(n), output),
+        Err(r) => {
+            pointed(rt, r.sheet)?;
+            text(rt, Err(r.refusal), output)
+        }
+    }
+}
+
+// The sheet that a refusal points into, if it points into one.
+fn pointed(rt: &impl Print, sheet: Option<WhichSheet>) -> io::Result<()> {
+    match sheet {
+        Some(WhichSheet::First) => say(rt, b" sheet 1"),
+        Some(WhichSheet::Second) => say(rt, b" sheet 2"),
+        None => Ok(()),
+    }
 }
 
 // Beside the sheet stand as many bytes of a case as low says, and behind them the list.
@@ -215,7 +226,9 @@ pub fn answer_all(
     let mut at: usize = 0;
     let mut count: u64 = 0;
     while at < stored.len() {
-        let x = input_at(stored, at);
+        let Some(x) = input_at(stored, at) else {
+            return say(rt, b"broken\n");
+        };
         let sheet = x.sheet;
         let beside = x.beside;
         let end = x.end;

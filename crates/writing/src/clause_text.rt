@@ -10,8 +10,9 @@ ghost use Rattle.writing.specs.Texts.{Writable, clauses_at, text_within};
 
 use answers::{WriteAnswer, needing};
 use encoding::all_clauses;
-use stream::consumer::{Mode, Progress};
+use stream::consumer::{Measuring, Writing};
 use stream::dimacs::{header_length, put_header};
+use syntax::faults::Fault;
 use syntax::limits::Problem;
 use syntax::size::DomainSize;
 use valuations::numbering::{Numbering, numbering_of};
@@ -25,22 +26,21 @@ pub fn write_text(sheet: &[u8], p: Problem, s: DomainSize, output: &mut [u8]) ->
     let clauses = m.count as u32;
     let needed = header_length(n.count, clauses) + m.at;
     if output.len() < needed {
-        return WriteAnswer::Refused(needing(11, needed));
+        return Err(needing(Fault::OutputLength, needed));
     }
     let at = put_header(output, 0, n.count, clauses);
-    WriteAnswer::Written(put_clauses(sheet, p, n, s, output, at))
+    Ok(put_clauses(sheet, p, n, s, output, at))
 }
 
 // The number of the clauses, and the length of their lines.
-fn measured(sheet: &[u8], p: Problem, n: Numbering, size: DomainSize) -> Progress
+fn measured(sheet: &[u8], p: Problem, n: Numbering, size: DomainSize) -> Measuring
     requires { Writable sheet.now p size.0 × NumberingOf (signature_in sheet.now p.signature) size.0 n }
     ensures count { result.count ≡ length (clauses_at p.symmetry (problem_in sheet.now p) size.0) }
     ensures length { result.at ≡ length (texts (clauses_at p.symmetry (problem_in sheet.now p) size.0)) }
 {
-    let mut out = [0u8; 1];
-    let mut work = [0u32; 1];
-    let start = Progress { at: 0, count: 0 };
-    all_clauses(Mode::Measure, sheet, p, n, size, &mut out, &mut work, start)
+    let mut lines = Measuring { at: 0, count: 0 };
+    all_clauses(sheet, p, n, size, &mut lines);
+    lines
 }
 
 // The clauses' lines from `at` on, and the place after them.
@@ -57,8 +57,11 @@ fn put_clauses(
     ensures written { output.new ≡ put output.old at (texts (clauses_at p.symmetry (problem_in sheet.now p) size.0)) }
     ensures place { result ≡ at + length (texts (clauses_at p.symmetry (problem_in sheet.now p) size.0)) }
 {
-    let mut work = [0u32; 1];
-    let start = Progress { at, count: 0 };
-    let end = all_clauses(Mode::Write, sheet, p, n, size, output, &mut work, start);
-    end.at
+    let mut lines = Writing {
+        output,
+        at,
+        count: 0,
+    };
+    all_clauses(sheet, p, n, size, &mut lines);
+    lines.at
 }

@@ -10,11 +10,11 @@ ghost use Rattle.writing.specs.Texts.{Sized, text_at};
 
 use crate::clause_text::write_text;
 use answers::{WriteAnswer, at_line};
-use columns::sheet::refusal_in;
+use columns::opened::open_sheet;
 use counts::{Counts, counts_at};
-use problem::modes::read_in;
+use syntax::faults::Fault;
 use syntax::limits::Problem;
-use syntax::size::{DomainSize, SizeCheck};
+use syntax::size::DomainSize;
 
 pub fn write_clauses(
     sheet: &[u8],
@@ -25,16 +25,12 @@ pub fn write_clauses(
 ) -> WriteAnswer
     ensures { WriteCall sheet.now size named symmetry result output.old output.new }
 {
-    let r = read_in(sheet, named);
-    if r.fault != 0 {
-        return WriteAnswer::Refused(refusal_in(sheet, named, r.fault, r.line));
-    }
-    let mut p = r.problem;
+    let mut p = open_sheet(sheet, named)?;
     p.symmetry = symmetry;
-    match DomainSize::checked(size as usize) {
-        SizeCheck::Refused => WriteAnswer::Refused(at_line(8, 0)),
-        SizeCheck::Is(s) => write_at(sheet, p, s, output),
-    }
+    let Some(s) = DomainSize::checked(size as usize) else {
+        return Err(at_line(Fault::Size, 0));
+    };
+    write_at(sheet, p, s, output)
 }
 
 // At a checked size.
@@ -44,7 +40,7 @@ fn write_at(sheet: &[u8], p: Problem, s: DomainSize, output: &mut [u8]) -> Write
 {
     let c = counts_at(sheet, p, s);
     if Counts::MAX_INSTANCES < c.instances {
-        return WriteAnswer::Refused(at_line(9, 0));
+        return Err(at_line(Fault::Instances, 0));
     }
     write_text(sheet, p, s, output)
 }

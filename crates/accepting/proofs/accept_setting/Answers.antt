@@ -7,7 +7,7 @@ use Rattle.answers.specs.Answers.{refusal_in}
 use Rattle.syntax.specs.Signatures.{signature_in}
 use Rattle.accepting.proofs.Judged.{setting-counted}
 use Rattle.accepting.proofs.Outcomes.{refuses}
-use Rattle.accepting.proofs.Stated.{not-functional, functional-setting, held-writable, no-model, no_room, case-written}
+use Rattle.accepting.proofs.Stated.{not-functional, functional-setting, writable, no-model, no_room, case-written}
 use Rattle.accepting.proofs.accept_setting.Goals as goal
 
 -- `accept_setting`: 14, 19, 11, the case.
@@ -50,12 +50,12 @@ returns-then-output-length c = let s = c in
     let told : refusal_in c.needing.result ≡ needing 11 c.case_length-length.result = c.needing.ensures in
     refuses _ (needing 11 (case_length a.size.0 (signature_in a.sheet.now a.p.signature))) c.needing.result a.output.now (no_room a.sheet.now a.p a.n a.size.0 a.setting.now s.requires (length a.output.now) functional model (omega (arith, c.if-output-length.true, l))) (told ∙ ap (needing 11) l)
 
-pub write_case-requires : goal.write_case-requires
-write_case-requires c = let s = c in
+pub write_case-written-requires : goal.write_case-written-requires
+write_case-written-requires c = let s = c in
     let a = s.args in
     let f = c.is_functional in
     let functional = sym (f.ensures a.sheet.now) ∙ c.if-not-is_functional.false in
-    let l = c.case_length-length.ensures a.sheet.now s.requires.sized.accepted.readable in record { writable_bits = held-writable a.sheet.now a.p a.n a.size.0 a.setting.now s.requires (length a.output.now) functional; signature_in_bounds = omega (arith, c.if-output-length.false, l) }
+    let l = c.case_length-length.ensures a.sheet.now s.requires.sized.accepted.readable in record { writable_bits = writable a.sheet.now a.p a.n a.size.0 a.setting.now s.requires (length a.output.now) functional; signature_in_bounds = omega (arith, c.if-output-length.false, l) }
 
 pub returns : goal.returns
 returns c = let s = c in
@@ -65,5 +65,5 @@ returns c = let s = c in
     let m = c.is_model in
     let model = sym m.ensures ∙ c.if-not-is_model.false in
     let l = c.case_length-length.ensures a.sheet.now s.requires.sized.accepted.readable in
-    let w = c.write_case in
+    let w = c.write_case-written in
     case-written a.sheet.now a.p a.n a.size.0 a.setting.now s.requires functional model a.output.now w.new.out w.result (omega (arith, c.if-output-length.false, l)) w.ensures.place w.ensures.written

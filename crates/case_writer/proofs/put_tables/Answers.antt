@@ -1,4 +1,3 @@
-use Prim.Native.Nat.{◌-◌}
 use native.Mathlib.Omega.{arith}
 use Rattle.clauses.proofs.Held.{arity-at}
 use Rattle.case_writer.proofs.Lines.{none_written, table-ends, line-room, line-written, all-written, last-place}
@@ -7,9 +6,6 @@ use Rattle.case_writer.proofs.put_tables.Goals as goal
 pub loop-i-init : goal.loop-i-init
 loop-i-init c = let a = c.args in
     none_written a.sheet.now a.signature a.size.0 a.cells.now a.out.now a.at
-
-pub bounds-signature-i : goal.bounds-signature-i
-bounds-signature-i c = omega (arith, c.loop-i-test.true, c.requires.writable.readable.limited.count)
 
 pub power-requires : goal.power-requires
 power-requires c = let s = c in
@@ -41,9 +37,6 @@ loop-i-preserved c = let s = c in
     let l = c.loop-i in
     let p = c.put_table-e in
     line-written a.sheet.now a.signature a.size.0 a.cells.now s.requires.writable l.i c.loop-i-test.true a.out.now a.at l.out l.e l.base s.requires.cells_in_bounds l.invariant c.power.result c.power.ensures p.new.out p.result p.auto.out p.ensures.written p.ensures.place
-
-pub shape_of-out : goal.shape_of-out
-shape_of-out c = c.loop-i.invariant.held
 
 pub returns : goal.returns
 returns c = let s = c in

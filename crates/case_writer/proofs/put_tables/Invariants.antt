@@ -1,4 +1,3 @@
-use Prim.Native.Nat.{◌-◌}
 use Rattle.case_writer.proofs.Lines.{Written}
 use Rattle.case_writer.proofs.put_tables.Given as goal
 
@@ -6,7 +5,3 @@ use Rattle.case_writer.proofs.put_tables.Given as goal
 abbrev pub invariant-loop-i : goal.invariant-loop-i
 invariant-loop-i l =
     Written l.sheet l.signature l.size.0 l.cells l.initial.out l.at l.out l.e l.base l.i
-
-abbrev pub decreases-loop-i : goal.decreases-loop-i
-decreases-loop-i l =
-    l.signature.count - l.i

@@ -1,4 +1,4 @@
-use Prim.Native.Nat.{◌-◌, ◌*◌, ◌^◌, ◌≤◌}
+use Prim.Native.Nat.{◌*◌, ◌^◌}
 use mathlib.Core.List.{map}
 use lib.ListN.{take}
 use Rattle.theory.specs.PropClauses.{clause_part}
@@ -10,8 +10,4 @@ use Rattle.counts.proofs.all_clause_counts.Given as goal
 -- `all_clause_counts` meets its contract: the first k clauses are counted.
 abbrev pub invariant-loop-k : goal.invariant-loop-k
 invariant-loop-k l =
-    (l.k ≤ l.p.count) × TotalOf (map (clause_part l.size.0 (signature_in l.sheet l.p.signature)) (take l.k (problem_in l.sheet l.p).clauses)) (l.k * (26 * 2 ^ 30)) l.total
-
-abbrev pub decreases-loop-k : goal.decreases-loop-k
-decreases-loop-k l =
-    l.p.count - l.k
+    TotalOf (map (clause_part l.size.0 (signature_in l.sheet l.p.signature)) (take l.k (problem_in l.sheet l.p).clauses)) (l.k * (26 * 2 ^ 30)) l.total

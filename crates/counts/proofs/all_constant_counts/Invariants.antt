@@ -1,12 +1,7 @@
-use Prim.Native.Nat.{◌-◌, ◌≤◌}
 use Rattle.counts.specs.Totals.{ConstantsTotal}
 use Rattle.counts.proofs.all_constant_counts.Given as goal
 
 -- `all_constant_counts` meets its contract: the first i constants are counted.
 abbrev pub invariant-loop-i : goal.invariant-loop-i
 invariant-loop-i l =
-    (l.i ≤ l.n) × ConstantsTotal l.size.0 l.i l.total
-
-abbrev pub decreases-loop-i : goal.decreases-loop-i
-decreases-loop-i l =
-    l.n - l.i
+    ConstantsTotal l.size.0 l.i l.total

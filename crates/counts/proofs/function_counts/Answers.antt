@@ -1,4 +1,3 @@
-use Prim.Native.Nat.{◌-◌}
 use mathlib.Core.List.{[]}
 use native.Mathlib.Omega.{arith}
 use lib.ListN.{get_or}
@@ -8,7 +7,7 @@ use Rattle.counts.proofs.Adding.{none-total, one_function, all-functions, symbol
 use Rattle.counts.proofs.function_counts.Goals as goal
 
 pub loop-i-init : goal.loop-i-init
-loop-i-init c = (omega arith, λ sheet. none-total)
+loop-i-init c = λ sheet. none-total c.default-total.result (omega arith) (omega arith)
 
 pub symbol_counts-one-requires : goal.symbol_counts-one-requires
 symbol_counts-one-requires c = let z = c in
@@ -16,7 +15,7 @@ symbol_counts-one-requires c = let z = c in
 
 pub plus-total-requires : goal.plus-total-requires
 plus-total-requires c = let z = c in
-    let t = c.loop-i.invariant.1 [] in
+    let t = c.loop-i.invariant [] in
     let e = c.symbol_counts-one.ensures in
     (omega (arith, t.few-instances, z.requires.0.count, e.small.0), omega (arith, t.few-literals, z.requires.0.count, e.small.1))
 
@@ -25,17 +24,15 @@ loop-i-preserved c = let z = c in
     let y = z.args.signature in
     let l = c.loop-i in
     let b = c.symbol_counts-one in
-    let e = b.ensures in (
-      omega arith,
-      λ sheet.
-          one_function z.args.size.0 (signature_in sheet y) l.i l.total b.result c.plus-total.result (l.invariant.1 sheet)
-          (symbol-total z.args.size.0 (signature_in sheet y) l.i sheet (get_or y.symbols l.i blank) b.result (symbol_at-signature_in y z.requires.0 sheet l.i (omega arith))
-          e.instances e.literals e.small.0 e.small.1) c.plus-total.ensures.instances c.plus-total.ensures.literals,
-    )
+    let e = b.ensures in
+    λ sheet.
+    one_function z.args.size.0 (signature_in sheet y) l.i l.total b.result c.plus-total.result (l.invariant sheet)
+    (symbol-total z.args.size.0 (signature_in sheet y) l.i sheet (get_or y.symbols l.i blank) b.result (symbol_at-signature_in y z.requires.0 sheet l.i (omega arith))
+    e.instances e.literals e.small.0 e.small.1) c.plus-total.ensures.instances c.plus-total.ensures.literals
 
 pub returns : goal.returns
 returns c = let z = c in
     let y = z.args.signature in
     let l = c.loop-i in
     λ sheet.
-    all-functions z.args.size.0 (signature_in sheet y) l.i l.total (omega (arith, count-signature_in y z.requires.0 sheet)) (omega (arith, z.requires.0.count)) (l.invariant.1 sheet)
+    all-functions z.args.size.0 (signature_in sheet y) l.i l.total (omega (arith, count-signature_in y z.requires.0 sheet)) (omega (arith, z.requires.0.count)) (l.invariant sheet)

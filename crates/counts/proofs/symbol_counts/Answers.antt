@@ -1,4 +1,3 @@
-use mathlib.Core.Path.{refl}
 use native.Mathlib.Omega.{arith}
 use borrow.Author.Tests.{not-true, not-false}
 use Rattle.counts.proofs.Adding.{square-within, le-square, function-instances, function-few, function-few-literals}
@@ -7,7 +6,7 @@ use Rattle.counts.proofs.symbol_counts.Goals as goal
 -- `symbol_counts` meets its contract.
 pub returns-then-not-symbol : goal.returns-then-not-symbol
 returns-then-not-symbol c = let a = c.args in
-    rw (not-true a.symbol.function c.if-not-symbol.true) (record { instances = refl; literals = refl; small = (omega arith, omega arith) })
+    rw (not-true a.symbol.function c.if-not-symbol.true) (record { instances = omega arith; literals = omega arith; small = (omega arith, omega arith) })
 
 pub overflow_mul-pairs : goal.overflow_mul-pairs
 overflow_mul-pairs c = let z = c in omega (arith, square-within z.args.size.0 z.requires.1)

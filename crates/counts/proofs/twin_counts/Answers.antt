@@ -14,7 +14,7 @@ use Rattle.counts.proofs.twin_counts.Goals as goal
 pub returns-then-not-p : goal.returns-then-not-p
 returns-then-not-p c = let a = c.args in
     let e : a.p.symmetry ≡ false = not-true a.p.symmetry c.if-not-p.true in
-    λ sheet. subst (λ (b : Bool). TotalOf (cond b (constant_parts a.size.0 (signature_in sheet a.p.signature)) []) (2 ^ 15) _) (sym e) (total-within [] 0 (2 ^ 15) _ (omega arith) none-total)
+    λ sheet. subst (λ (b : Bool). TotalOf (cond b (constant_parts a.size.0 (signature_in sheet a.p.signature)) []) (2 ^ 15) c.default.result) (sym e) (total-within [] 0 (2 ^ 15) c.default.result (omega arith) (none-total c.default.result (omega arith) (omega arith)))
 
 pub returns : goal.returns
 returns c = let a = c.args in

@@ -1,14 +1,8 @@
-use mathlib.Core.Path.{◌≡◌}
-use Prim.Native.Nat.{◌+◌, ◌-◌, ◌*◌, ◌≤◌}
-use lib.ListN.{length}
+use Prim.Native.Nat.{◌+◌, ◌*◌}
 use Rattle.loading.proofs.Bounding.{Bounding}
 use Rattle.loading.proofs.bounds.Given as goal
 
 -- `bounds` meets its contract. The invariant of its loop: the literals before this one have their blocks, the rest is as it was.
 abbrev pub invariant-loop-literal : goal.invariant-loop-literal
 invariant-loop-literal l =
-    (7 * l.v ≤ length l.work) × (length l.work ≡ length l.initial.work) × Bounding l.v (7 * l.v + l.m) l.initial.work l.work l.start l.literal
-
-abbrev pub decreases-loop-literal : goal.decreases-loop-literal
-decreases-loop-literal l =
-    2 * l.v - l.literal
+    Bounding l.v (7 * l.v + l.m) l.initial.work l.work l.start l.literal

@@ -1,7 +1,7 @@
 use mathlib.Core.Path.{◌≡◌}
 use mathlib.Core.Bool.{Bool}
 use mathlib.Core.List.{List}
-use Prim.Native.Nat.{ℕ, ◌-◌, ◌*◌, ◌≤◌}
+use Prim.Native.Nat.{ℕ}
 use lib.ListN.{length}
 use Rattle.theory.specs.Propositional.{PropClause}
 use Rattle.propagation.specs.Clauses.{coded}
@@ -12,8 +12,4 @@ use Rattle.search.proofs.begin.Given as goal
 -- `begin` meets its contract. The invariant of its loop: the clauses below the address are quiet, and what is on the trail is forced.
 abbrev pub invariant-loop-address : goal.invariant-loop-address
 invariant-loop-address l =
-    ((cs : List PropClause) (first : ℕ → Bool) → Loaded l.v cs first l.initial.work → length cs ≡ l.m → Beginning l.v (coded cs) l.initial.work l.address l.entries l.work) × (length l.work ≡ length l.initial.work) × (7 * l.v ≤ l.address)
-
-abbrev pub decreases-loop-address : goal.decreases-loop-address
-decreases-loop-address l =
-    l.to - l.address
+    (cs : List PropClause) (first : ℕ → Bool) → Loaded l.v cs first l.initial.work → length cs ≡ l.m → Beginning l.v (coded cs) l.initial.work l.address l.entries l.work

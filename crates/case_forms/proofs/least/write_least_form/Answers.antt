@@ -1,51 +1,31 @@
 -- `write_least_form` meets its contract: the sheet's refusals, the case's, then what is left of its cells.
 use borrow.Author.Rules.{rules}
 use mathlib.Core.Path.{refl}
-use native.Mathlib.Omega.{arith}
 use lib.ListN.{length}
-use Rattle.answers.specs.Answers.{refusal_in}
+use Rattle.std.proofs.lemmas.Result.{err_from_is_err_and}
 use Rattle.answers.proofs.Answering.{refuses, answers-as}
-use Rattle.problem.proofs.SheetRead.{sheet-refused}
-use Rattle.case_forms.proofs.Answered.{sheet-refusal-least, case-refusal-least, case-unread, case-held, cells-left-least}
+use Rattle.case_forms.proofs.Answered.{sheet-refusal-least, case-refusal-least, case-held, cells-left-least}
 use Rattle.case_forms.proofs.least.write_least_form.Goals as goal
 
-pub sheet_refusal-requires : goal.sheet_refusal-requires
-sheet_refusal-requires c = let r = c.read_problem-r in sheet-refused _ r.result r.ensures.read c.if-r-ne0.true
+pub returns-in_err-p : goal.returns-in_err-p
+returns-in_err-p c = let a = c.args in
+    let p = err_from_is_err_and c.from_residual.result c.from_residual.ensures.1 in
+    rw (p.1, p.2) (refuses _ _ _ a.output.now (sheet-refusal-least a.sheet.now a.case.now (length a.output.now) _ c.in_err-p.ensures.refused) refl)
 
-pub returns-then-r-ne0 : goal.returns-then-r-ne0
-returns-then-r-ne0 c = let a = c.args in
-    let q = c.sheet_refusal.result in
-    refuses _ (refusal_in q) q a.output.now (sheet-refusal-least a.sheet.now a.case.now (length a.output.now) (refusal_in q) c.sheet_refusal.ensures) refl
-
-pub read_case-requires : goal.read_case-requires
-read_case-requires c = ((c.read_problem-r.ensures.accepted c.if-r-ne0.false).readable, omega arith)
-
-pub case_refusal-requires : goal.case_refusal-requires
-case_refusal-requires c = let a = c.args in
-    let r = c.read_problem-r in
-    let k = c.read_case in
-    let ok = c.if-r-ne0.false in
-    ((r.ensures.accepted ok).readable, case-unread _ _ (length a.output.now) r.result r.ensures.read ok _ k.result k.ensures _ c.in-Refused.is)
+pub returns-in_err-size : goal.returns-in_err-size
+returns-in_err-size c = let a = c.args in
+    let k = c.in_ok-p in
+    let p = err_from_is_err_and c.from_residual-in_err-size.result c.from_residual-in_err-size.ensures.1 in
+    rw (p.1, p.2) (refuses _ _ _ a.output.now (case-refusal-least a.sheet.now a.case.now (length a.output.now) k.p k.ensures.read _ c.in_err-size.ensures.refused) refl)
 
 pub write_least-requires : goal.write_least-requires
 write_least-requires c = let a = c.args in
-    let r = c.read_problem-r in
-    let k = c.read_case in
-    let ok = c.if-r-ne0.false in
-    case-held _ _ (length a.output.now) r.result r.ensures.read ok _ k.result k.ensures _ c.in-Read.is (r.ensures.accepted ok).readable (search rules)
+    let k = c.in_ok-p in
+    case-held a.sheet.now a.case.now (length a.output.now) k.p k.ensures.read _ c.open_case.new.cells c.in_ok-size.ensures.read k.ensures.accepted.readable (search rules)
 
-pub returns-in-Refused : goal.returns-in-Refused
-returns-in-Refused c = let a = c.args in
-    let r = c.read_problem-r in
-    let ok = c.if-r-ne0.false in
-    let q = c.case_refusal.result in
-    refuses _ (refusal_in q) q a.output.now (case-refusal-least a.sheet.now a.case.now (length a.output.now) r.result r.ensures.read ok (refusal_in q) c.case_refusal.ensures) refl
-
-pub returns-in-Read : goal.returns-in-Read
-returns-in-Read c = let a = c.args in
-    let r = c.read_problem-r in
-    let k = c.read_case in
-    let ok = c.if-r-ne0.false in
+pub returns : goal.returns
+returns c = let a = c.args in
+    let k = c.in_ok-p in
     answers-as _ _ _ _ _
-    (cells-left-least a.sheet.now a.case.now (length a.output.now) r.result r.ensures.read ok _ k.result k.ensures _ c.in-Read.is)
+    (cells-left-least a.sheet.now a.case.now (length a.output.now) k.p k.ensures.read _ c.open_case.new.cells c.in_ok-size.ensures.read)
     c.write_least.ensures

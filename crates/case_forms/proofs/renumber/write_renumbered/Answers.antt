@@ -1,5 +1,4 @@
 -- `write_renumbered` meets its contract: 25, 11, or the renumbered case.
-use borrow.Author.Tests.{not-true, not-false}
 use Prim.Native.Nat.{ℕ, ◌-◌}
 use mathlib.Core.Path.{◌≡◌, sym, ap, ◌∙◌}
 use mathlib.Core.Bool.{true}
@@ -17,15 +16,18 @@ use Rattle.syntax.specs.Signatures.{signature_in}
 use Rattle.case_forms.specs.Cells.{first_cells}
 use Rattle.case_forms.proofs.Answered.{no-list, no_room, case-said}
 use Rattle.case_forms.proofs.Held.{part-zeros, listed-rearranges, few, first-end, length_part, first-writable, written-renumbered, length-renumbered-case}
+use Rattle.std.specs.Prelude.{is_some}
+use Rattle.std.specs.Prelude as rust
+use Rattle.rearranging.specs.declared.rearrangement.Rearrangement.{Rearrangement}
 use Rattle.case_forms.proofs.renumber.write_renumbered.Goals as goal
 
-pub returns-then-not-l : goal.returns-then-not-l
-returns-then-not-l c = let s = c in
+pub returns-in_default : goal.returns-in_default
+returns-in_default c = let s = c in
     let a = s.args in
     let g = signature_in a.sheet.now a.signature in
-    let l = c.read_list-l in
+    let l = c.read_list in
     refuses _ (unplaced 25) c.at_line.result a.output.now
-    (no-list a.size.0 g a.cells.now (length a.output.now) a.list.now (sym l.ensures.taken ∙ not-true l.result.taken c.if-not-l.true)) c.at_line.ensures
+    (no-list a.size.0 g a.cells.now (length a.output.now) a.list.now (sym l.ensures.taken ∙ ap (λ (o : rust.Option Rearrangement). is_some o) c.in_default.is)) c.at_line.ensures
 
 pub case_length-length-requires : goal.case_length-length-requires
 case_length-length-requires c = let s = c in
@@ -35,11 +37,11 @@ pub returns-then-output-length : goal.returns-then-output-length
 returns-then-output-length c = let s = c in
     let a = s.args in
     let g = signature_in a.sheet.now a.signature in
-    let l = c.read_list-l in
+    let l = c.read_list in
     let m = c.case_length-length in
     let case : m.result ≡ case_length a.size.0 g = m.ensures a.sheet.now s.requires.readable in
     refuses _ (needing 11 (case_length a.size.0 g)) c.needing.result a.output.now
-    (no_room a.size.0 g a.cells.now (length a.output.now) a.list.now (sym l.ensures.taken ∙ not-false l.result.taken c.if-not-l.false) (omega (arith, case, c.if-output-length.true)))
+    (no_room a.size.0 g a.cells.now (length a.output.now) a.list.now (sym l.ensures.taken ∙ ap (λ (o : rust.Option Rearrangement). is_some o) c.in-Some.is) (omega (arith, case, c.if-output-length.true)))
     (c.needing.ensures ∙ ap (needing 11) case)
 
 pub slice_bounds-put_renumbered-end : goal.slice_bounds-put_renumbered-end
@@ -63,12 +65,13 @@ put_renumbered-requires c = let s = c in
     let e = (k.ensures a.sheet.now).cells in
     let m = c.case_length-length in
     let case : m.result ≡ case_length a.size.0 g = m.ensures a.sheet.now s.requires.readable in
-    let l = c.read_list-l in
-    let taken = not-false l.result.taken c.if-not-l.false in record {
+    let l = c.read_list in
+    let taken = ap (λ (o : rust.Option Rearrangement). is_some o) c.in-Some.is in
+    let read = c.in-Some.ensures.entries in record {
       writable = (
         first-writable a.sheet.now a.signature a.size.0 a.cells.now s.requires n e,
         (
-          listed-rearranges a.size.0 a.list.now l.result.entries (l.ensures.entries taken).0 (l.ensures.entries taken).1 (sym l.ensures.taken ∙ taken),
+          listed-rearranges a.size.0 a.list.now c.in-Some.entries read.0 read.1 (sym l.ensures.taken ∙ taken),
           part-zeros 12320 n (few a.sheet.now a.signature a.size.0 a.cells.now s.requires n e) ∙ sym (length_part a.sheet.now a.signature a.size.0 a.cells.now s.requires n e),
         ),
       );
@@ -84,8 +87,9 @@ returns c = let s = c in
     let e = (k.ensures a.sheet.now).cells in
     let m = c.case_length-length in
     let case : m.result ≡ case_length a.size.0 g = m.ensures a.sheet.now s.requires.readable in
-    let l = c.read_list-l in
-    let taken = not-false l.result.taken c.if-not-l.false in
+    let l = c.read_list in
+    let taken = ap (λ (o : rust.Option Rearrangement). is_some o) c.in-Some.is in
+    let read = c.in-Some.ensures.entries in
     let listed : is_listed a.size.0 a.list.now ≡ true = sym l.ensures.taken ∙ taken in
     let p = entries_of a.list.now in
     let v = c.put_renumbered in
@@ -94,4 +98,4 @@ returns c = let s = c in
     (case-said a.size.0 g a.cells.now (length a.output.now) a.list.now listed (omega (arith, case, c.if-output-length.false)))
     (v.ensures.place ∙ sym (length-renumbered-case a.sheet.now a.signature a.size.0 a.cells.now s.requires p (rearranges a.size.0 a.list.now listed)))
     (written-renumbered a.sheet.now a.signature a.size.0 a.cells.now s.requires n e p a.output.now v.new.output
-    (v.ensures.written ∙ ap (λ (q : List ℕ). over (text (renumbered a.size.0 g q (take (n - 0) a.cells.now))) a.output.now) (l.ensures.entries taken).1))
+    (v.ensures.written ∙ ap (λ (q : List ℕ). over (text (renumbered a.size.0 g q (take (n - 0) a.cells.now))) a.output.now) read.1))

@@ -1,12 +1,14 @@
-use Prim.Native.Nat.{◌-◌, ◌<◌}
-use mathlib.Core.Path.{refl, ◌∙◌}
+use Prim.Native.Nat.{ℕ, ◌+◌, ◌<◌}
+use mathlib.Core.Path.{◌≡◌, refl, sym, ap, ◌∙◌}
 use native.Mathlib.Omega.{arith}
 use lib.ListN.{get_or}
+use Rattle.theory.specs.Refusals.{refused, at_line}
 use Rattle.syntax.specs.Signatures.{symbol_in, signature_in}
 use Rattle.clauses.proofs.Held.{blank, arity-at, count-signature_in, symbol_at-signature_in, name-within}
 use Rattle.interpretation.proofs.Ranks.{power-within}
 use Rattle.interpretation.proofs.Tabling.{base-within, limited-small, table-limited}
 use Rattle.cases.proofs.TablesRead.{none_read, table-fault, table-read, bytes_after, case-ends}
+use Rattle.clauses.proofs.Refused.{first_refused}
 use Rattle.cases.proofs.reading.read_tables.Goals as goal
 
 pub loop-i-init : goal.loop-i-init
@@ -40,18 +42,17 @@ read_table-requires c = let s = c in
     }
 
 pub overflow_add-result : goal.overflow_add-result
-overflow_add-result c = omega (arith, c.requires.1.0.limited.count, c.loop-i-test.true)
+overflow_add-result c = omega (arith, c.requires.1.0.limited.count)
 
-pub shape_of-cells-in_default : goal.shape_of-cells-in_default
-shape_of-cells-in_default c = c.read_table.auto.cells ∙ c.loop-i.invariant.1
-
-pub returns-in_default : goal.returns-in_default
-returns-in_default c = let s = c in
+pub returns-in_err-next : goal.returns-in_err-next
+returns-in_err-next c = let s = c in
     let a = s.args in
     let l = c.loop-i in
     let r = s.requires.1.0 in
     let here : l.i < a.signature.count = c.loop-i-test.true in
-    table-fault l.invariant.0 (omega (arith, count-signature_in a.signature r.limited a.sheet.now)) _ (symbol_at-signature_in a.signature r.limited a.sheet.now l.i here) (rw c.in_default.is at c.read_table.ensures)
+    rw (first_refused _ _ _ c.in_err-next.ensures.ok_part c.ok_or.ensures.value c.in_err-next.was c.from_residual.ensures.1)
+    (table-fault l.invariant.0 (omega (arith, count-signature_in a.signature r.limited a.sheet.now)) _ (symbol_at-signature_in a.signature r.limited a.sheet.now l.i here)
+    (rw c.in_err-next.ensures.ok_part at c.read_table.ensures))
 
 pub overflow_cast-symbol : goal.overflow_cast-symbol
 overflow_cast-symbol c = omega (arith, arity-at c.args.signature c.requires.1.0.limited c.loop-i.i c.loop-i-test.true)
@@ -74,12 +75,6 @@ overflow_add-base c = let s = c in
       power-within s.args.size.0 (get_or s.args.signature.symbols l.i blank).arity s.requires.1.1.1.0 (omega (arith, arity-at s.args.signature r.limited l.i here)),
     )
 
-pub overflow_add-i : goal.overflow_add-i
-overflow_add-i c = omega (arith, c.requires.1.0.limited.count, c.loop-i-test.true)
-
-pub loop-i-smaller : goal.loop-i-smaller
-loop-i-smaller c = omega (arith, c.loop-i-test.true)
-
 pub loop-i-preserved : goal.loop-i-preserved
 loop-i-preserved c = let s = c in
     let a = s.args in
@@ -88,22 +83,20 @@ loop-i-preserved c = let s = c in
     let here : l.i < a.signature.count = c.loop-i-test.true in (
       rw c.power-base.ensures
           (table-read l.invariant.0 (omega (arith, count-signature_in a.signature r.limited a.sheet.now)) (symbol_in a.sheet.now (get_or a.signature.symbols l.i blank)) (symbol_at-signature_in a.signature r.limited a.sheet.now l.i here)
-          c.in-Next.after (rw c.in-Next.is at c.read_table.ensures)),
+          c.in_ok-next.next (rw c.in_ok-next.ensures.ok_part at c.read_table.ensures)),
       c.read_table.auto.cells ∙ l.invariant.1,
     )
-
-pub overflow_add-result-then-next-case : goal.overflow_add-result-then-next-case
-overflow_add-result-then-next-case c = omega (arith, c.loop-i.invariant.0.counted, count-signature_in c.args.signature c.requires.1.0.limited c.args.sheet.now, c.requires.1.0.limited.count)
 
 pub shape_of-cells-then-next-case : goal.shape_of-cells-then-next-case
 shape_of-cells-then-next-case c = c.loop-i.invariant.1
 
 pub returns-then-next-case : goal.returns-then-next-case
 returns-then-next-case c = let s = c in
-    let l = c.loop-i in
-    bytes_after l.invariant.0 (omega (arith, l.invariant.0.counted, count-signature_in s.args.signature s.requires.1.0.limited s.args.sheet.now, c.loop-i-test.false)) c.if-next-case.true
+    let e : c.loop-i.i ≡ s.args.signature.count = omega arith in
+    ap (λ (n : ℕ). refused (at_line 12 (3 + n))) (sym e)
+    ∙ bytes_after c.loop-i.invariant.0 (omega (arith, count-signature_in s.args.signature s.requires.1.0.limited s.args.sheet.now)) c.if-next-case.true
 
 pub returns : goal.returns
 returns c = let s = c in
     let l = c.loop-i in
-    case-ends l.invariant.0 (omega (arith, l.invariant.0.counted, count-signature_in s.args.signature s.requires.1.0.limited s.args.sheet.now, c.loop-i-test.false)) c.if-next-case.false
+    case-ends l.invariant.0 (omega (arith, count-signature_in s.args.signature s.requires.1.0.limited s.args.sheet.now)) c.if-next-case.false

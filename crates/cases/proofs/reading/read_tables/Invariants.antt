@@ -1,4 +1,3 @@
-use Prim.Native.Nat.{◌-◌}
 use mathlib.Core.Path.{◌≡◌}
 use lib.ListN.{length}
 use Rattle.syntax.specs.Signatures.{signature_in}
@@ -9,7 +8,3 @@ use Rattle.cases.proofs.reading.read_tables.Given as goal
 abbrev pub invariant-loop-i : goal.invariant-loop-i
 invariant-loop-i l =
     TablesRead l.size.0 (signature_in l.sheet l.signature) l.case l.at l.next l.base l.cells l.i × (length l.cells ≡ length l.initial.cells)
-
-abbrev pub decreases-loop-i : goal.decreases-loop-i
-decreases-loop-i l =
-    l.signature.count - l.i

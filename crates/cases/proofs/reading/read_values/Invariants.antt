@@ -1,4 +1,4 @@
-use Prim.Native.Nat.{ℕ, ◌-◌}
+use Prim.Native.Nat.{ℕ}
 use mathlib.Core.Path.{◌≡◌}
 use Rattle.theory.specs.Cells.{value_count}
 use Rattle.theory.specs.CaseText.{least_byte}
@@ -11,7 +11,3 @@ abbrev pub invariant-loop-i : goal.invariant-loop-i
 invariant-loop-i l =
     ((s : ℕ) → l.most ≡ value_count s (kind_of l.function) → Stored s (kind_of l.function) l.count l.bytes l.from l.initial.cells l.cells l.i)
     × (l.least ≡ least_byte (kind_of l.function))
-
-abbrev pub decreases-loop-i : goal.decreases-loop-i
-decreases-loop-i l =
-    l.count - l.i

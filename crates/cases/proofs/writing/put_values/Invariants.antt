@@ -1,5 +1,3 @@
-use Prim.Native.Nat.{◌-◌}
-use lib.ListN.{length}
 use Rattle.cases.proofs.Pairs.{Written}
 use Rattle.cases.proofs.writing.put_values.Given as goal
 
@@ -7,7 +5,3 @@ use Rattle.cases.proofs.writing.put_values.Given as goal
 abbrev pub invariant-loop-i : goal.invariant-loop-i
 invariant-loop-i l =
     Written l.initial.out l.at l.least l.table l.out l.e l.i
-
-abbrev pub decreases-loop-i : goal.decreases-loop-i
-decreases-loop-i l =
-    length l.table - l.i

@@ -10,7 +10,7 @@ use Rattle.clauses.proofs.clause.read_words.Goals as goal
 pub returns-then-value-eq0 : goal.returns-then-value-eq0
 returns-then-value-eq0 c = let a = c.args in
     let g = signature_in a.sheet.now a.signature in
-    subst (WordsRead g _) (sym c.no_words.ensures) (nothing g a.value.now c.if-value-eq0.true)
+    rw c.no_words.ensures (nothing g a.value.now c.if-value-eq0.true)
 
 pub returns : goal.returns
 returns c = let a = c.args in

@@ -1,4 +1,4 @@
-use Prim.Native.Nat.{ℕ, ◌≤◌, ◌-◌}
+use Prim.Native.Nat.{ℕ}
 use Rattle.syntax.specs.Signatures.{signature_in}
 use Rattle.clauses.proofs.Naming.{NameFrom}
 use Rattle.clauses.proofs.names.find_name.Given as goal
@@ -6,8 +6,4 @@ use Rattle.clauses.proofs.names.find_name.Given as goal
 -- `find_name` finds the name: its place from i on is its place.
 abbrev pub invariant-loop-i : goal.invariant-loop-i
 invariant-loop-i l =
-    (l.i ≤ l.signature.count) × ((r : ℕ) → NameFrom l.name (signature_in l.sheet l.signature) l.i r → NameFrom l.name (signature_in l.sheet l.signature) 0 r)
-
-abbrev pub decreases-loop-i : goal.decreases-loop-i
-decreases-loop-i l =
-    l.signature.count - l.i
+    (r : ℕ) → NameFrom l.name (signature_in l.sheet l.signature) l.i r → NameFrom l.name (signature_in l.sheet l.signature) 0 r

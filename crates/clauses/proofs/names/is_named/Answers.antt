@@ -2,11 +2,11 @@
 use Prim.Native.Nat.{ℕ, ◌+◌, ◌-◌}
 use mathlib.Core.Path.{◌≡◌, ap, ◌∙◌}
 use native.Mathlib.Omega.{arith}
-use lib.ListN.{length, take, drop}
+use lib.ListN.{take, drop}
 use Rattle.theory.specs.Lists.{same}
 use Rattle.clauses.proofs.names.is_named.Goals as goal
 
 pub returns : goal.returns
 returns c = let a = c.args in
     let e : a.symbol.name + a.symbol.length - a.symbol.name ≡ a.symbol.length = omega arith in
-    c.same.ensures ∙ ap (λ (n : ℕ). same a.name.now (take n (drop a.symbol.name a.sheet.now))) e
+    c.eq.ensures ∙ ap (λ (n : ℕ). same a.name.now (take n (drop a.symbol.name a.sheet.now))) e

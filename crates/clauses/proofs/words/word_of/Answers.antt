@@ -16,8 +16,13 @@ overflow_add-result c = omega (arith, fixed-below c.args.word.now (sym c.is_fixe
 pub returns-then-is_fixed_word : goal.returns-then-is_fixed_word
 returns-then-is_fixed_word c = let z = c in let g = signature_in z.args.sheet.now z.args.signature in let w = z.args.word.now in word-fixed g w (sym c.is_fixed_word.ensures ∙ c.if-is_fixed_word.true)
 
-pub returns-then-i-signature : goal.returns-then-i-signature
-returns-then-i-signature c = let z = c in let g = signature_in z.args.sheet.now z.args.signature in let w = z.args.word.now in word-named g w z.args.signature.count c.find_name-i.result (count-signature_in _ z.requires.limited _) c.if-word-eq0.false (sym c.is_fixed_word.ensures ∙ c.if-is_fixed_word.false) c.find_name-i.ensures z.requires.limited.count c.if-i-signature.true
+pub returns-in_err-i : goal.returns-in_err-i
+returns-in_err-i c = let z = c in
+    let g = signature_in z.args.sheet.now z.args.signature in
+    rw c.from_residual.ensures (word-unknown g z.args.word.now c.if-word-eq0.false (sym c.is_fixed_word.ensures ∙ c.if-is_fixed_word.false) c.in_err-i.ensures.place)
 
 pub returns : goal.returns
-returns c = let z = c in let g = signature_in z.args.sheet.now z.args.signature in let w = z.args.word.now in word-unknown g w z.args.signature.count c.find_name-i.result (count-signature_in _ z.requires.limited _) c.if-word-eq0.false (sym c.is_fixed_word.ensures ∙ c.if-is_fixed_word.false) c.find_name-i.ensures c.if-i-signature.false
+returns c = let z = c in
+    let g = signature_in z.args.sheet.now z.args.signature in
+    let n = count-signature_in z.args.signature z.requires.limited z.args.sheet.now in
+    word-named g z.args.word.now c.if-word-eq0.false (sym c.is_fixed_word.ensures ∙ c.if-is_fixed_word.false) c.in_ok-i.i c.in_ok-i.ensures.place (omega (arith, c.in_ok-i.ensures.within)) (omega (arith, z.requires.limited.count))

@@ -3,14 +3,8 @@ use Prim.Native.Nat.{◌-◌}
 use native.Mathlib.Omega.{arith}
 use Rattle.syntax.specs.Signatures.{signature_in}
 use Rattle.clauses.proofs.Held.{arity-at, count-signature_in, symbol_at-signature_in, name-within}
-use Rattle.columns.proofs.CaseLines.{first-due, second-due, none-due, table-due}
+use Rattle.columns.proofs.CaseLines.{none-due, table-due}
 use Rattle.columns.proofs.case.good_in_case.Goals as goal
-
-pub returns-then-l-eq0 : goal.returns-then-l-eq0
-returns-then-l-eq0 c = let a = c.args in first-due a.size.0 (signature_in a.sheet.now a.signature) a.l a.line.now c.good_key.result c.if-l-eq0.true c.good_key.ensures
-
-pub returns-then-l-eq1 : goal.returns-then-l-eq1
-returns-then-l-eq1 c = let a = c.args in second-due a.size.0 (signature_in a.sheet.now a.signature) a.l a.line.now c.good_size.result c.if-l-eq1.true c.good_size.ensures
 
 pub returns-then-signature-l : goal.returns-then-signature-l
 returns-then-signature-l c = let z = c in let a = z.args in

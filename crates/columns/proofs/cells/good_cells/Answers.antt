@@ -1,5 +1,5 @@
-use Prim.Native.Nat.{◌-◌}
-use mathlib.Core.Path.{sym, ◌∙◌}
+use Prim.Native.Nat.{ℕ, ◌*◌}
+use mathlib.Core.Path.{◌≡◌, sym, ap, ◌∙◌}
 use native.Mathlib.Omega.{arith}
 use Rattle.syntax.specs.Signatures.{kind_of}
 use Rattle.columns.proofs.CellBytes.{value-test, none-gone, all-gone, value-missing, value-bad, last-value, space-missing, no-space, value_gone}
@@ -40,4 +40,6 @@ loop-i-preserved c = let a = c.args in let l = c.loop-i in (
 )
 
 pub returns : goal.returns
-returns c = let a = c.args in let l = c.loop-i in all-gone a.size.0 _ _ _ l.i (l.invariant.0 _ c.value_count-most.ensures) (omega arith)
+returns c = let a = c.args in let l = c.loop-i in
+    let e : a.count ≡ l.i = omega arith in
+    ap (λ (n : ℕ). 2 * n) e ∙ all-gone a.size.0 _ _ _ l.i (l.invariant.0 _ c.value_count-most.ensures) (omega arith)

@@ -1,4 +1,4 @@
-use Prim.Native.Nat.{ℕ, ◌*◌, ◌≤◌, ◌-◌}
+use Prim.Native.Nat.{ℕ, ◌*◌, ◌≤◌}
 use mathlib.Core.Path.{◌≡◌}
 use lib.ListN.{length}
 use Rattle.theory.specs.Cells.{value_count}
@@ -11,7 +11,3 @@ use Rattle.columns.proofs.cells.good_cells.Given as goal
 abbrev pub invariant-loop-i : goal.invariant-loop-i
 invariant-loop-i l =
     ((s : ℕ) → l.most ≡ value_count s (kind_of l.function) → CellsGone s (kind_of l.function) l.count l.bytes l.i) × ((2 * l.i ≤ length l.bytes) × (l.least ≡ least_byte (kind_of l.function)))
-
-abbrev pub decreases-loop-i : goal.decreases-loop-i
-decreases-loop-i l =
-    l.count - l.i

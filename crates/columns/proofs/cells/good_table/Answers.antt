@@ -8,20 +8,10 @@ use Rattle.theory.proofs.LineTexts.{good-within}
 use Rattle.text.specs.Lines.{part}
 use Rattle.text.proofs.Part.{length_part}
 use Rattle.syntax.specs.Signatures.{kind_of}
-use Rattle.columns.proofs.TableBytes.{name-short, name-whole}
 use Rattle.columns.proofs.cells.good_table.Goals as goal
-
-pub returns-then-n-symbol : goal.returns-then-n-symbol
-returns-then-n-symbol c = let z = c in let a = z.args in
-    name-short a.sheet.now a.line.now a.symbol a.size.0 c.key_bytes-n.result z.requires.0 c.key_bytes-n.ensures c.if-n-symbol.true
 
 pub overflow_add-result : goal.overflow_add-result
 overflow_add-result c = let a = c.args in
     let b = a.line.now in
     let k = c.key_bytes-n in
     omega (arith, good-within (keyed (equals_sign ∷ []) (cell_values a.size.0 (kind_of a.symbol.function) c.power-count.result)) (part b k.result (length b)), c.good_values.ensures, length_part b k.result (length b) k.ensures.within (omega arith), k.ensures.within)
-
-pub returns : goal.returns
-returns c = let z = c in let a = z.args in
-    let k = c.key_bytes-n in
-    name-whole a.sheet.now a.line.now a.symbol a.size.0 k.result z.requires.0 k.ensures c.good_values.result c.power-count.result (omega arith) c.power-count.ensures c.good_values.ensures

@@ -5,12 +5,9 @@ use mathlib.Core.Bool.{true, false}
 use native.Mathlib.Omega.{arith}
 use Rattle.theory.specs.Bytes.{bytes}
 use Rattle.theory.specs.LineForms.{size_digit}
-use Rattle.columns.proofs.KeyBytes.{key-short, key-whole}
+use Rattle.columns.proofs.KeyBytes.{key-whole}
 use Rattle.columns.proofs.ValueBytes.{no_size, size-byte}
 use Rattle.columns.proofs.good.good_size.Goals as goal
-
-pub returns-then-n-lt5 : goal.returns-then-n-lt5
-returns-then-n-lt5 c = key-short c.args.line.now (bytes "size=") c.key_bytes-n.result c.key_bytes-n.ensures c.if-n-lt5.true size_digit
 
 pub returns-then-line-n : goal.returns-then-line-n
 returns-then-line-n c = let b = c.args.line.now in

@@ -1,31 +1,28 @@
--- `byte_column` goes by the number.
-use mathlib.Core.Path.{sym, ◌∙◌}
+-- `byte_column` goes by the fault.
+use mathlib.Core.Path.{sym, ap, ◌∙◌}
 use native.Mathlib.Omega.{arith}
 use Rattle.theory.proofs.LineTexts.{good-within}
+use Rattle.syntax.specs.declared.faults.Fault.{Fault}
+use Rattle.syntax.specs.declared.faults.Fault.TheVariants as fault
+use Rattle.syntax.specs.Faults.{number_of}
+use Rattle.theory.specs.Columns.{line_column}
 use Rattle.columns.specs.Due.{form_of}
-use Rattle.columns.proofs.LineColumns.{key-small, name-column, arity-column, count-column, other-column}
+use Rattle.columns.proofs.FaultNumbers.{same-number}
+use Rattle.columns.proofs.LineColumns.{name-column, other-column}
 use Rattle.columns.proofs.sheet.byte_column.Goals as goal
 
-pub overflow_add-result : goal.overflow_add-result
-overflow_add-result c = omega (arith, key-small c.args.due, c.key_length.ensures)
+pub number_column-requires : goal.number_column-requires
+number_column-requires c = rw (← ap number_of c.in-CountOrArity.is) c.requires
 
-pub returns-then-number-eq4 : goal.returns-then-number-eq4
-returns-then-number-eq4 c = λ g. name-column g (form_of c.args.due) c.args.line.now _ c.key_length.result c.if-number-eq4.true c.key_length.ensures
+pub returns-in-CountOrArity : goal.returns-in-CountOrArity
+returns-in-CountOrArity c = λ g. c.number_column.ensures g ∙ ap (λ (f : Fault). line_column g (form_of c.args.due) c.args.line.now (number_of f)) (sym c.in-CountOrArity.is)
 
-pub overflow_add-result-then-number-ne3 : goal.overflow_add-result-then-number-ne3
-overflow_add-result-then-number-ne3 c = omega (arith, good-within (form_of c.args.due) c.args.line.now, c.good_bytes.ensures)
+pub returns-in-Name : goal.returns-in-Name
+returns-in-Name c = λ g. name-column g (form_of c.args.due) c.args.line.now _ c.key_length.result (ap number_of c.in-Name.is) c.key_length.ensures
 
-pub returns-then-number-ne3 : goal.returns-then-number-ne3
-returns-then-number-ne3 c = λ g. other-column g (form_of c.args.due) c.args.line.now _ c.good_bytes.result c.requires.most c.if-number-ne3.true c.if-number-eq4.false c.good_bytes.ensures
+pub overflow_add-result-in_default : goal.overflow_add-result-in_default
+overflow_add-result-in_default c = omega (arith, good-within (form_of c.args.due) c.args.line.now, c.good_bytes.ensures)
 
-pub arity_column-requires : goal.arity_column-requires
-arity_column-requires c = c.requires.arity c.if-number-ne3.false (sym c.is_declaration.ensures ∙ c.if-is_declaration.true)
-
-pub returns-then-is_declaration : goal.returns-then-is_declaration
-returns-then-is_declaration c = λ g. c.arity_column.ensures ∙ arity-column g (form_of c.args.due) c.args.line.now _ c.if-number-ne3.false (sym c.is_declaration.ensures ∙ c.if-is_declaration.true)
-
-pub overflow_add-result-2 : goal.overflow_add-result-2
-overflow_add-result-2 c = omega (arith, key-small c.args.due, c.key_length-2.ensures)
-
-pub returns : goal.returns
-returns c = λ g. count-column g (form_of c.args.due) c.args.line.now _ c.key_length-2.result c.if-number-ne3.false (sym c.is_declaration.ensures ∙ c.if-is_declaration.false) c.key_length-2.ensures
+pub returns-in_default : goal.returns-in_default
+returns-in_default c = λ g.
+    other-column g (form_of c.args.due) c.args.line.now _ c.good_bytes.result c.requires.most (λ e. c.in_default.not-CountOrArity (same-number c.args.fault fault.CountOrArity e)) (λ e. c.in_default.not-Name (same-number c.args.fault fault.Name e)) c.good_bytes.ensures

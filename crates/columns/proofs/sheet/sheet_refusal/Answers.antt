@@ -1,13 +1,15 @@
 use mathlib.Core.Path.{sym, ap, ◌∙◌}
-use mathlib.Core.Bool.{false, false≢true}
+use mathlib.Core.Bool.{Bool}
 use Rattle.theory.specs.Refusals.{refused}
-use Rattle.columns.proofs.SheetRefused.{refused-placed}
+use Rattle.naming.specs.NamedOperations.{placed_in, read_problem_in}
+use Rattle.syntax.specs.Faults.{number_of}
+use Rattle.columns.proofs.SheetRefused.{named-placed}
 use Rattle.columns.proofs.sheet.sheet_refusal.Goals as goal
 
--- `sheet_refusal` puts the column to the refusal.
-pub sheet_column-requires : goal.sheet_column-requires
-sheet_column-requires c = record { named = false; refusal = c.requires; other = λ e. absurd (false≢true e) }
-
-pub returns : goal.returns
-returns c = let z = c in let a = z.args in
-    refused-placed a.sheet.now a.number a.line c.sheet_column.result z.requires c.sheet_column.ensures ∙ sym (ap refused c.at_place.ensures)
+pub returns-then-named : goal.returns-then-named
+returns-then-named c = let z = c in
+    let a = z.args in
+    let named = c.if-named.true in
+    ap (λ (b : Bool). placed_in b a.sheet.now) named
+    ∙ named-placed a.sheet.now (number_of a.f.fault) a.f.line c.named_column.result (ap (λ (b : Bool). read_problem_in b a.sheet.now) (sym named) ∙ z.requires) c.named_column.ensures
+    ∙ sym (ap refused c.at_place.ensures)

@@ -1,28 +1,28 @@
-use Prim.Native.Nat.{◌-◌}
-use mathlib.Core.Path.{sym, ◌∙◌}
-use native.Mathlib.Omega.{arith}
-use borrow.Author.Count.{below_more}
-use borrow.Author.Rules.{rules}
-use Rattle.declaring.proofs.Lettering.{letter-within, found_at, found_nowhere}
+use Prim.Native.Nat.{◌+◌, ◌≤◌}
+use mathlib.Core.Path.{◌≡◌, ap, ◌∙◌}
+use mathlib.Core.List.{List}
+use lib.ListN.{length, take}
+use Rattle.std.proofs.Common.{rules, tests}
+use Rattle.std.specs.List.{position}
+use Rattle.std.proofs.lemmas.Iterator.{YieldsList-from_slice}
+use Rattle.std.proofs.lemmas.Iterator.Adapters.{serves_from_places}
+use Rattle.std.proofs.lemmas.Iterator.Search.{position_from_yields_List}
+use Rattle.theory.specs.Lists.{same}
+use Rattle.theory.specs.Options.{told}
+use Rattle.text.proofs.Positions.{told-position, place-mapped}
+use Rattle.declaring.specs.declared.letters.Letter.{Letter}
+use Rattle.declaring.specs.Letters.{letter_in}
+use Rattle.declaring.proofs.Lettering.{letter-within}
 use Rattle.declaring.proofs.letters.find_letter.Goals as goal
 
-pub loop-i-init : goal.loop-i-init
-loop-i-init c = (omega arith, λ k l. absurd (omega arith))
-
-pub is_named-requires : goal.is_named-requires
-is_named-requires c = let z = c in
-    letter-within z.args.text.now z.args.letters z.requires c.loop-i.i c.loop-i-test.true
-
-pub returns-then-is_named : goal.returns-then-is_named
-returns-then-is_named c = let z = c in
-    let l = c.loop-i in
-    found_at z.args.text.now z.args.letters z.requires z.args.name.now l.i c.loop-i-test.true l.invariant.1 (sym c.is_named.ensures ∙ c.if-is_named.true)
-
-pub loop-i-preserved : goal.loop-i-preserved
-loop-i-preserved c = let l = c.loop-i in
-    (search rules, below_more _ _ l.invariant.1 (sym c.is_named.ensures ∙ c.if-is_named.false))
+-- `find_letter` is the first place at which a variable has the name.
+pub position-requires-clause-callable : goal.position-requires-clause-callable
+position-requires-clause-callable c = let a = c.args in
+    serves_from_places (YieldsList-from_slice (take a.letters.count a.letters.names) (cc)) (λ y q k. search (rules, tests)) (λ y i l e. let h : y.now.name + y.now.length ≤ length a.text.now = letter-within a.text.now a.letters c.requires y.now i l e in search rules)
 
 pub returns : goal.returns
-returns c = let z = c in
-    let l = c.loop-i in
-    found_nowhere z.args.text.now z.args.letters z.requires z.args.name.now l.i (omega arith) l.invariant.1
+returns c = let a = c.args in
+    let names : List Letter = take a.letters.count a.letters.names in
+    let found : c.position.result ≡ position (λ (y : Letter). same a.name.now (letter_in a.text.now y)) names =
+    position_from_yields_List (λ (y : Letter). same a.name.now (letter_in a.text.now y)) _ _ _ c.position.ensures.ran (YieldsList-from_slice names (cc)) (λ x b q k. search (rules, tests)) in
+    ap told found ∙ told-position (λ (y : Letter). same a.name.now (letter_in a.text.now y)) names ∙ place-mapped (same a.name.now) (letter_in a.text.now) names

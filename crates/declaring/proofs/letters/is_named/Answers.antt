@@ -9,4 +9,4 @@ use Rattle.declaring.proofs.letters.is_named.Goals as goal
 pub returns : goal.returns
 returns c = let a = c.args in
     let e : a.letter.name + a.letter.length - a.letter.name ≡ a.letter.length = omega arith in
-    c.same.ensures ∙ ap (λ (n : ℕ). same a.name.now (take n (drop a.letter.name a.text.now))) e
+    c.eq.ensures ∙ ap (λ (n : ℕ). same a.name.now (take n (drop a.letter.name a.text.now))) e

@@ -1,27 +1,21 @@
-use Prim.Native.Nat.{◌-◌}
-use mathlib.Core.Path.{refl, sym, ◌∙◌}
+use Prim.Native.Nat.{◌+◌}
+use mathlib.Core.Path.{◌≡◌, ap, ◌∙◌}
+use mathlib.Core.List.{List}
+use Rattle.syntax.specs.declared.signature.Symbol.{Symbol}
 use native.Mathlib.Omega.{arith}
-use lib.ListN.{length-set, length-take}
+use lib.ListN.{length, take, set}
 use borrow.Author.Rules.{rules}
 use Rattle.clauses.proofs.Held.{blank}
-use Rattle.declaring.specs.Tables.{held_in}
-use Rattle.declaring.proofs.Inserting.{insert-moves, insert-last}
+use Rattle.declaring.proofs.Inserting.{moved-up}
 use Rattle.declaring.proofs.symbols.insert.Goals as goal
 
-pub loop-i-init : goal.loop-i-init
-loop-i-init c = (search rules, refl, c.well_formed.0.1.1.0.1.0.1, refl)
-
-pub loop-i-preserved : goal.loop-i-preserved
-loop-i-preserved c = let l = c.loop-i in (
-  omega arith,
-  l.invariant.1,
-  simp length-set l.invariant.2,
-  insert-moves l.signature.symbols l.signature.count l.i l.moved blank (omega arith) c.loop-i-test.true ∙ l.invariant.3,
-)
-
+-- `insert` moves up what stands from the place on.
 pub returns : goal.returns
-returns c = let l = c.loop-i in
+returns c =
+    let a = c.args in
+    let s = a.signature in
+    let long : length s.symbols ≡ 56 = search rules in
     record {
       count = omega arith;
-      symbols = c.with.ensures.symbols ∙ sym (insert-last (held_in l.signature) l.i l.moved (omega (arith, length-take l.signature.count l.signature.symbols))) ∙ l.invariant.3;
+      symbols = ap (λ (l : List Symbol). take (s.count + 1) (set l a.at a.symbol)) c.copy_within.ensures.after ∙ moved-up s.symbols a.at s.count a.symbol blank c.requires.0 (omega arith);
     }

@@ -1,5 +1,5 @@
-use Prim.Native.Nat.{ℕ, ◌-◌, ◌<◌}
-use mathlib.Core.Path.{◌≡◌, refl, ◌∙◌, subst}
+use Prim.Native.Nat.{ℕ, ◌<◌}
+use mathlib.Core.Path.{◌≡◌, subst}
 use native.Mathlib.Numerals.{add-one}
 use native.Mathlib.Omega.{arith}
 use Rattle.theory.specs.Walk.{yes_first}
@@ -10,39 +10,39 @@ use Rattle.finding.proofs.FirstValues.{base-zero, base_more, base-room, base-end
 use Rattle.finding.proofs.first_values.prefer_all.Goals as goal
 
 pub loop-i-init : goal.loop-i-init
-loop-i-init c = let s = c in
-    (omega arith, refl, base-zero s.args.signature s.requires.limited.0 s.args.size.0 s.args.v s.requires.by_index, λ cs es h. h, λ sheet x l. absurd (omega arith))
+loop-i-init c =
+    (base-zero c.args.signature c.requires.limited.0 c.args.size.0 c.args.v c.requires.by_index, λ cs es h. h, λ sheet x l. absurd (omega arith))
 
 pub block_size-requires : goal.block_size-requires
-block_size-requires c = let s = c in
-    (arity-at s.args.signature s.requires.limited.0 c.loop-i.i (omega arith), s.requires.limited.1)
+block_size-requires c = (arity-at c.args.signature c.requires.limited.0 c.loop-i.i (omega arith), c.requires.limited.1)
 
 pub overflow_add-end : goal.overflow_add-end
-overflow_add-end c = let s = c in
+overflow_add-end c =
     let l = c.loop-i in
-    omega (arith, base-room s.args.signature s.requires.limited.0 s.args.size.0 s.args.v s.requires.by_index l.i l.from.0 c.block_size.result (omega arith) l.invariant.2 c.block_size.ensures, s.requires.regions.small)
+    omega (arith, base-room c.args.signature c.requires.limited.0 c.args.size.0 c.args.v c.requires.by_index l.i l.from.0 c.block_size.result (omega arith) l.invariant.0 c.block_size.ensures, c.requires.regions.small)
 
-pub prefer-requires : goal.prefer-requires
-prefer-requires c = let s = c in
+pub prefer-requires-clause-to_le_v : goal.prefer-requires-clause-to_le_v
+prefer-requires-clause-to_le_v c =
     let l = c.loop-i in
-    let b = c.block_size in record { regions = record { small = s.requires.regions.small; room = omega (arith, l.invariant.1, s.requires.regions.room) }; from_le_to = omega arith; to_le_v = base-room s.args.signature s.requires.limited.0 s.args.size.0 s.args.v s.requires.by_index l.i l.from.0 b.result (omega arith) l.invariant.2 b.ensures }
+    base-room c.args.signature c.requires.limited.0 c.args.size.0 c.args.v c.requires.by_index l.i l.from.0 c.block_size.result (omega arith) l.invariant.0 c.block_size.ensures
 
 pub loop-i-preserved : goal.loop-i-preserved
-loop-i-preserved c = let s = c in
+loop-i-preserved c =
+    let s = c in
     let l = c.loop-i in
     let b = c.block_size in
     let p = c.prefer in
     let lt : l.i < s.args.signature.count = omega arith in (
-      omega arith,
-      p.auto.work ∙ l.invariant.1,
-      rw add-one (base_more s.args.signature s.requires.limited.0 s.args.size.0 s.args.v s.requires.by_index l.i l.from.0 b.result lt l.invariant.2 b.ensures),
-      λ cs es h. p.ensures.clauses cs es (l.invariant.3 cs es h),
+      rw add-one (base_more s.args.signature s.requires.limited.0 s.args.size.0 s.args.v s.requires.by_index l.i l.from.0 b.result lt l.invariant.0 b.ensures),
+      λ cs es h. p.ensures.clauses cs es (l.invariant.1 cs es h),
       λ sheet.
-          p.ensures.values (yes_first s.args.size.0 (signature_in sheet s.args.signature)) (l.invariant.4 sheet)
-          (block-first s.args.signature s.requires.limited.0 s.args.size.0 s.args.v s.requires.by_index l.i l.from.0 b.result lt l.invariant.2 b.ensures sheet),
+          p.ensures.values (yes_first s.args.size.0 (signature_in sheet s.args.signature)) (l.invariant.2 sheet)
+          (block-first s.args.signature s.requires.limited.0 s.args.size.0 s.args.v s.requires.by_index l.i l.from.0 b.result lt l.invariant.0 b.ensures sheet),
     )
 
-pub returns : goal.returns
-returns c = let s = c in
+pub returns-clause-values : goal.returns-clause-values
+returns-clause-values c sheet =
     let l = c.loop-i in
-    let e : l.from.0 ≡ s.args.v = base-end s.args.signature s.requires.limited.0 s.args.size.0 s.args.v s.requires.by_index l.i l.from.0 (omega arith) l.invariant.2 in record { clauses = l.invariant.3; values = λ sheet. subst (λ (n : ℕ). Prefers s.args.v n (yes_first s.args.size.0 (signature_in sheet s.args.signature)) l.work) e (l.invariant.4 sheet) }
+    let a = c.args in
+    let e : l.from.0 ≡ a.v = base-end a.signature c.requires.limited.0 a.size.0 a.v c.requires.by_index l.i l.from.0 (omega arith) l.invariant.0 in
+    subst (λ (n : ℕ). Prefers a.v n (yes_first a.size.0 (signature_in sheet a.signature)) l.work) e (l.invariant.2 sheet)

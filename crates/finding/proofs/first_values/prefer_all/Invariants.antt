@@ -1,7 +1,6 @@
-use Prim.Native.Nat.{ℕ, ◌-◌, ◌≤◌}
+use Prim.Native.Nat.{ℕ}
 use mathlib.Core.Path.{◌≡◌}
 use mathlib.Core.List.{List}
-use lib.ListN.{length}
 use Rattle.theory.specs.Propositional.{prop_base}
 use Rattle.theory.specs.Walk.{yes_first}
 use Rattle.propagation.specs.WorkArea.{Prefers}
@@ -12,12 +11,6 @@ use Rattle.finding.proofs.first_values.prefer_all.Given as goal
 -- `prefer_all` meets its contract: the first values of the symbols before i are told.
 abbrev pub invariant-loop-i : goal.invariant-loop-i
 invariant-loop-i l =
-    (l.i ≤ l.signature.count)
-    × (length l.work ≡ length l.initial.work)
-    × ((sheet : List ℕ) → l.from.0 ≡ prop_base l.size.0 (signature_in sheet l.signature) l.i)
+    ((sheet : List ℕ) → l.from.0 ≡ prop_base l.size.0 (signature_in sheet l.signature) l.i)
     × KeepsClauses l.v l.initial.work l.work
     × ((sheet : List ℕ) → Prefers l.v l.from.0 (yes_first l.size.0 (signature_in sheet l.signature)) l.work)
-
-abbrev pub decreases-loop-i : goal.decreases-loop-i
-decreases-loop-i l =
-    l.signature.count - l.i

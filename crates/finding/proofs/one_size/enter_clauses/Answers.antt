@@ -1,6 +1,6 @@
 -- `enter_clauses` meets its contract.
 use mathlib.Core.Path.{refl, ◌∙◌}
-use mathlib.Core.List.{[], ◌∷◌}
+use Rattle.std.proofs.Common.{rules}
 use lib.ListN.{length, length-map}
 use Rattle.propagation.specs.Clauses.{codes}
 use Rattle.stream.specs.Literals.{all_codes}
@@ -17,12 +17,14 @@ pub all_clauses-requires : goal.all_clauses-requires
 all_clauses-requires c = let s = c in
     let a = s.args in
     let b = c.bounds in
-    let cs = sheet_clauses a.size.0 a.sheet.now a.p in record { accepted = (s.requires.searchable.accepted, s.requires.searchable.positive, s.requires.searchable.within); numbering_of = s.requires.numbering_of; all_next = enter-begins a.sheet.now a.p a.size.0 (length a.work.now) a.n.count s.requires.searchable s.requires.numbering_of.count (0 ∷ []) b.new.work (b.ensures (all_codes cs) s.requires.tallied (length-map cs codes ∙ s.requires.p_len)) }
+    let cs = sheet_clauses a.size.0 a.sheet.now a.p in record { accepted = (s.requires.searchable.accepted, s.requires.searchable.positive, s.requires.searchable.within); numbering_of = s.requires.numbering_of; all_next = enter-begins a.sheet.now a.p a.size.0 (length a.work.now) a.n.count s.requires.searchable s.requires.numbering_of.count _ refl refl (b.ensures (all_codes cs) s.requires.tallied (length-map cs codes ∙ s.requires.p_len)) }
 
 pub returns : goal.returns
 returns c = let s = c in
     let a = s.args in
     let b = c.bounds in
-    let t = c.all_clauses in
     let cs = sheet_clauses a.size.0 a.sheet.now a.p in
-    enter-ends a.sheet.now a.p a.size.0 (length a.work.now) a.n.count s.requires.searchable s.requires.numbering_of.count (0 ∷ []) b.new.work (b.ensures (all_codes cs) s.requires.tallied (length-map cs codes ∙ s.requires.p_len)) t.result t.new.out t.new.work t.ensures
+    let e = enter-ends a.sheet.now a.p a.size.0 (length a.work.now) a.n.count s.requires.searchable s.requires.numbering_of.count _ refl refl (b.ensures (all_codes cs) s.requires.tallied (length-map cs codes ∙ s.requires.p_len)) _ c.all_clauses.ensures in
+    let same = e.same_reference in
+    let entered = e.work in
+    search rules

@@ -13,9 +13,9 @@ pub numbering_of-n-requires : goal.numbering_of-n-requires
 numbering_of-n-requires c = let s = c in
     (limited-shown s.args.sheet.now s.args.p c.declared-shown.result s.requires.searchable.accepted.readable c.declared-shown.ensures, s.requires.searchable.within)
 
-pub slice_bounds-write_case-end-2 : goal.slice_bounds-write_case-end-2
+pub slice_bounds-write_case-end : goal.slice_bounds-write_case-end
 unfolding problem_in
-slice_bounds-write_case-end-2 c = let s = c in
+slice_bounds-write_case-end c = let s = c in
     let a = s.args in
     let y = c.declared-shown in
     let n = c.numbering_of-n in
@@ -25,9 +25,9 @@ slice_bounds-write_case-end-2 c = let s = c in
       area-room a.sheet.now a.p a.size.0 (length a.work.now) _ s.requires.searchable refl,
     )
 
-pub slice_bounds-write_case-end-3 : goal.slice_bounds-write_case-end-3
+pub slice_bounds-write_case-end-2 : goal.slice_bounds-write_case-end-2
 unfolding problem_in
-slice_bounds-write_case-end-3 c = let s = c in
+slice_bounds-write_case-end-2 c = let s = c in
     let a = s.args in
     let y = c.declared-shown in
     let n = c.numbering_of-n in

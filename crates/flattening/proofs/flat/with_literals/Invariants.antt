@@ -1,12 +1,7 @@
-use Prim.Native.Nat.{◌≤◌, ◌-◌}
 use Rattle.flattening.specs.Assembled.{LiteralsPut, shallow_at}
 use Rattle.flattening.proofs.flat.with_literals.Given as goal
 
 -- `with_literals` meets its contract: the first j are put.
 abbrev pub invariant-loop-j : goal.invariant-loop-j
 invariant-loop-j l =
-    (l.j ≤ l.l.count) × LiteralsPut l.initial.flat l.at l.j (shallow_at l.l) l.l.arguments l.flat
-
-abbrev pub decreases-loop-j : goal.decreases-loop-j
-decreases-loop-j l =
-    l.l.count - l.j
+    LiteralsPut l.initial.flat l.at l.j (shallow_at l.fn.l) l.flat

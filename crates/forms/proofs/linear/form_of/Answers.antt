@@ -1,25 +1,13 @@
 -- `form_of` meets its contract.
 use mathlib.Core.Path.{refl}
 use native.Mathlib.Omega.{arith}
-use Rattle.forms.proofs.Meaning.{predicate-over, function-over, predicate-means, function-means, equality-means, predicate-safe, function-safe, equality-safe}
+use Rattle.forms.proofs.Meaning.{predicate-over, function-over, predicate-means, function-means, predicate-safe, function-safe}
 use Rattle.forms.proofs.linear.form_of.Goals as goal
-
-pub bounds-n-i : goal.bounds-n-i
-bounds-n-i c = (predicate-over c.requires _ c.in-Predicate.is).held
-
-pub bounds-arities-i : goal.bounds-arities-i
-bounds-arities-i c = (predicate-over c.requires _ c.in-Predicate.is).listed
 
 pub linear_form-requires : goal.linear_form-requires
 linear_form-requires c = let o = c.requires in
     let q = predicate-over o _ c.in-Predicate.is in
     (q.small, (omega arith, (q.few, o.size)))
-
-pub bounds-n-i-in-FunctionResult : goal.bounds-n-i-in-FunctionResult
-bounds-n-i-in-FunctionResult c = (function-over c.requires _ _ c.in-FunctionResult.is).held
-
-pub bounds-arities-i-in-FunctionResult : goal.bounds-arities-i-in-FunctionResult
-bounds-arities-i-in-FunctionResult c = (function-over c.requires _ _ c.in-FunctionResult.is).listed
 
 pub linear_form-requires-in-FunctionResult : goal.linear_form-requires-in-FunctionResult
 linear_form-requires-in-FunctionResult c = let o = c.requires in
@@ -33,7 +21,3 @@ returns-in-Predicate c = let e = c.in-Predicate.is in
 pub returns-in-FunctionResult : goal.returns-in-FunctionResult
 returns-in-FunctionResult c = let e = c.in-FunctionResult.is in
     rw c.linear_form-in-FunctionResult.ensures (record { safe = (function-safe c.requires _ _ e, refl {a = 10}); means = λ o. function-means o _ _ e })
-
-pub returns-in-VariableEquality : goal.returns-in-VariableEquality
-returns-in-VariableEquality c = let e = c.in-VariableEquality.is in
-    rw c.equality_form.ensures (record { safe = (equality-safe c.requires _ _ e, refl {a = 10}); means = λ o. equality-means o _ _ e })

@@ -1,4 +1,3 @@
-use Prim.Native.Nat.{◌-◌}
 use Rattle.forms.proofs.Gathering.{Gathered}
 use Rattle.forms.proofs.linear.forms_of.Given as goal
 
@@ -6,7 +5,3 @@ use Rattle.forms.proofs.linear.forms_of.Given as goal
 abbrev pub invariant-loop-i : goal.invariant-loop-i
 invariant-loop-i l =
     Gathered l.arities l.flat l.n l.size.0 l.i l.forms
-
-abbrev pub decreases-loop-i : goal.decreases-loop-i
-decreases-loop-i l =
-    l.flat.count - l.i

@@ -1,4 +1,4 @@
-use Prim.Native.Nat.{◌+◌, ◌-◌, ◌≤◌}
+use Prim.Native.Nat.{◌+◌}
 use mathlib.Core.Path.{◌≡◌}
 use lib.ListN.{length, take}
 use Rattle.theory.specs.PropClauses.{some_result}
@@ -8,8 +8,4 @@ use Rattle.grounding.proofs.cell_clauses.some_result.Given as goal
 -- `some_result` meets its contract: the first d literals are written.
 abbrev pub invariant-loop-d : goal.invariant-loop-d
 invariant-loop-d l =
-    (l.d ≤ l.size.0) × (length l.some ≡ 8) × (prop_clause_of (take l.d l.some) ≡ some_result l.d (1 + l.x.0))
-
-abbrev pub decreases-loop-d : goal.decreases-loop-d
-decreases-loop-d l =
-    l.size.0 - l.d
+    (length l.some ≡ 8) × (prop_clause_of (take l.d l.some) ≡ some_result l.d (1 + l.x.0))

@@ -1,36 +1,27 @@
-use Prim.Native.Nat.{◌-◌}
-use mathlib.Core.Path.{sym, ◌∙◌}
-use native.Mathlib.Omega.{arith}
+-- `note_statement` notes one token after the other, up to the first fault.
+use Rattle.std.proofs.Common.{rules}
+use mathlib.Core.Path.{◌≡◌}
+use Rattle.std.proofs.lemmas.Result.{err_from_is_err_and}
 use Rattle.argument_lists.proofs.ToldLists.{nothing-held, told-behind}
-use Rattle.importing.proofs.NotingLoop.{reached-starts, reached-stop, reached-fault, reached-on}
+use Rattle.importing.proofs.Mapped.{mapped-err, mapped-ok}
+use Rattle.importing.proofs.NotingLoop.{reached-starts, reached-fault, reached-on}
 use Rattle.importing.proofs.noting.note_statement.Goals as goal
 
-pub loop-entries-init : goal.loop-entries-init
-loop-entries-init c = let z = c in let a = z.args in (reached-starts a.text.now a.before a.at _ z.requires.1.0 z.requires.0 (c.none-letters.ensures.lettered a.text.now) (c.none-letters.ensures.empty a.text.now), (rw c.nothing_told-told.ensures (nothing-held _ _), z.requires.1.1))
-
-pub take_token-requires : goal.take_token-requires
-take_token-requires c = c.loop-entries.invariant.0.rest
-
-pub returns-in-Stop : goal.returns-in-Stop
-returns-in-Stop c = let a = c.args in let l = c.loop-entries in reached-stop a.text.now a.before a.at l.i _ _ _ l.invariant.0 (rw c.in-Stop.is at c.take_token.ensures)
+pub loop-taken-init : goal.loop-taken-init
+loop-taken-init c = let z = c in let a = z.args in (reached-starts a.text.now a.before a.at _ z.requires.1 z.requires.0 (c.none.ensures.lettered a.text.now) (c.none.ensures.empty a.text.now), rw c.nothing_told-told.ensures (nothing-held _ _))
 
 pub arity_of-arity-requires : goal.arity_of-arity-requires
-arity_of-arity-requires c = let l = c.loop-entries in let t = (rw c.in-Token.is at c.take_token.ensures) in (t.rest.within, (l.invariant.1.1, rw c.told_after.ensures (told-behind c.args.text.now l.i c.in-Token.end t.kind _ _ _ _ t.items t.opening l.invariant.1.0)))
+arity_of-arity-requires c = let l = c.loop-taken in let t = c.in-Some.ensures in (t.rest.within, rw c.told_after.ensures (told-behind c.args.text.now l.i c.in-Some.taken.end t.kind _ _ _ _ t.items t.opening l.invariant.1))
 
-pub note_named-noted-requires : goal.note_named-noted-requires
-note_named-noted-requires c = let l = c.loop-entries in let t = (rw c.in-Token.is at c.take_token.ensures) in (l.invariant.0.limited, (l.invariant.0.lettered, (t.long, t.rest.within)))
+pub returns-in_err-noted : goal.returns-in_err-noted
+returns-in_err-noted c = let l = c.loop-taken in let a = c.args in
+    let p = err_from_is_err_and c.from_residual.result c.from_residual.ensures.1 in
+    let m = mapped-err _ c.note_named.result c.map_err.result c.in_err-noted.field-0.0 c.map_err.ensures.cases c.in_err-noted.was in
+    let h = m.1.1 in
+    let e : c.in_err-noted.field-0.0 ≡ record { fault = m.0; place = c.in-Some.taken.start } = search rules in
+    rw (p.1, p.2, e) (reached-fault a.text.now a.before a.at l.i _ _ _ l.invariant.0 _ c.in-Some.ensures _ _ c.arity_of-arity.ensures _ (rw m.1.0 at c.note_named.ensures))
 
-pub shape_of-counts-then-noted-ne0 : goal.shape_of-counts-then-noted-ne0
-shape_of-counts-then-noted-ne0 c = let r = c.arity_of-arity in r.auto.counts ∙ c.loop-entries.invariant.1.1.counts-long ∙ sym c.requires.1.1.counts-long
-
-pub shape_of-links-then-noted-ne0 : goal.shape_of-links-then-noted-ne0
-shape_of-links-then-noted-ne0 c = let r = c.arity_of-arity in r.auto.links ∙ c.loop-entries.invariant.1.1.links-long ∙ sym c.requires.1.1.links-long
-
-pub returns-then-noted-ne0 : goal.returns-then-noted-ne0
-returns-then-noted-ne0 c = let l = c.loop-entries in let t = (rw c.in-Token.is at c.take_token.ensures) in let a = c.args in reached-fault a.text.now a.before a.at l.i _ _ _ l.invariant.0 _ _ _ _ _ t _ _ c.arity_of-arity.ensures _ c.note_named-noted.ensures c.if-noted-ne0.true
-
-pub loop-entries-smaller : goal.loop-entries-smaller
-loop-entries-smaller c = let l = c.loop-entries in let t = (rw c.in-Token.is at c.take_token.ensures) in omega (arith, t.past, t.rest.within)
-
-pub loop-entries-preserved : goal.loop-entries-preserved
-loop-entries-preserved c = let l = c.loop-entries in let t = (rw c.in-Token.is at c.take_token.ensures) in let a = c.args in let r = c.arity_of-arity in (reached-on a.text.now a.before a.at l.i _ _ _ l.invariant.0 _ _ _ _ _ t _ _ r.ensures _ c.note_named-noted.ensures c.if-noted-ne0.false, (r.ensures.told, record { counts-long = r.auto.counts ∙ l.invariant.1.1.counts-long; links-long = r.auto.links ∙ l.invariant.1.1.links-long }))
+pub loop-taken-preserved : goal.loop-taken-preserved
+loop-taken-preserved c = let l = c.loop-taken in let a = c.args in let r = c.arity_of-arity in
+    let m = mapped-ok _ c.note_named.result c.map_err.result c.in_ok-noted.noted c.map_err.ensures.cases c.in_ok-noted.was in
+    (reached-on a.text.now a.before a.at l.i _ _ _ l.invariant.0 _ c.in-Some.ensures _ _ r.ensures _ (rw m at c.note_named.ensures), r.ensures.told)

@@ -1,27 +1,23 @@
-use Prim.Native.Nat.{◌-◌}
+-- `words_of` takes one token after the other, up to the first word too many.
 use native.Mathlib.Omega.{arith}
 use Rattle.syntax.specs.Signatures.{signature_in}
 use Rattle.clauses.proofs.Going.{passed_none}
 use Rattle.importing.proofs.CodingLoop.{reached-starts, reached-long, reached-stop, reached-ready, reached-on}
+use Rattle.importing.proofs.words.words_of.Goals.{in-Some+then-c-gt-MAX_WORDS, in_default}
 use Rattle.importing.proofs.words.words_of.Goals as goal
 
-pub loop-c-init : goal.loop-c-init
-loop-c-init c = let z = c in let a = z.args in reached-starts a.text.now a.signature a.at _ z.requires.1.0 (record { passed = rw c.no_words.ensures (passed_none (signature_in a.text.now a.signature)); letters = c.none.ensures.empty a.text.now; lettered = c.none.ensures.lettered a.text.now }) z.requires.1.1
-
-pub returns-then-c-gt-MAX_WORDS : goal.returns-then-c-gt-MAX_WORDS
-returns-then-c-gt-MAX_WORDS c = let z = c in let a = z.args in let l = c.loop-c in reached-long a.text.now a.signature a.at l.i _ _ l.invariant c.if-c-gt-MAX_WORDS.true
-
-pub take_token-requires : goal.take_token-requires
-take_token-requires c = let l = c.loop-c in l.invariant.rest
-
-pub returns-in-Stop : goal.returns-in-Stop
-returns-in-Stop c = let z = c in let a = z.args in let l = c.loop-c in reached-stop a.text.now a.signature a.at l.i _ _ l.invariant c.if-c-gt-MAX_WORDS.false (rw c.in-Stop.is at c.take_token.ensures)
+pub loop-taken-init : goal.loop-taken-init
+loop-taken-init c = let z = c in let a = z.args in (reached-starts a.text.now a.signature a.at _ z.requires.1.0 (record { passed = rw c.no_words.ensures (passed_none (signature_in a.text.now a.signature)); letters = c.none.ensures.empty a.text.now; lettered = c.none.ensures.lettered a.text.now }) z.requires.1.1, rw c.no_words.ensures (omega arith))
 
 pub with_entries-c-requires : goal.with_entries-c-requires
-with_entries-c-requires c = let z = c in let a = z.args in let l = c.loop-c in let t = (rw c.in-Token.is at c.take_token.ensures) in ((_, reached-ready a.text.now a.signature a.at l.i _ _ l.invariant _ _ _ _ _ t z.requires.0 c.if-c-gt-MAX_WORDS.false), (t.long, t.rest.within))
+with_entries-c-requires c = let z = c in let a = z.args in let l = c.loop-taken in let t = c.in-Some.ensures in ((_, reached-ready a.text.now a.signature a.at l.i _ _ l.invariant.0 _ t z.requires.0 l.invariant.1), (t.long, t.rest.within))
 
-pub loop-c-smaller : goal.loop-c-smaller
-loop-c-smaller c = let l = c.loop-c in let t = (rw c.in-Token.is at c.take_token.ensures) in omega (arith, t.past, t.rest.within)
+pub loop-taken-preserved : goal.loop-taken-preserved
+loop-taken-preserved c = let a = c.args in let l = c.loop-taken in (reached-on a.text.now a.signature a.at l.i _ _ l.invariant.0 _ c.in-Some.ensures _ (c.with_entries-c.ensures _), c.if-c-gt-MAX_WORDS.false)
 
-pub loop-c-preserved : goal.loop-c-preserved
-loop-c-preserved c = let z = c in let a = z.args in let l = c.loop-c in let t = (rw c.in-Token.is at c.take_token.ensures) in reached-on a.text.now a.signature a.at l.i _ _ l.invariant _ _ _ _ _ t _ (c.with_entries-c.ensures _)
+pub returns : goal.returns
+returns c = let a = c.args in let l = c.loop-taken in
+    elim c.match-take_token.branch [
+      | in-Some+then-c-gt-MAX_WORDS w ↦ rw w.c-is (reached-long a.text.now a.signature a.at _ _ _ (reached-on a.text.now a.signature a.at l.i _ _ l.invariant.0 _ w.in-Some.ensures _ (w.with_entries-c.ensures _)) w.if-c-gt-MAX_WORDS.true)
+      | in_default w ↦ rw w.c-is (reached-stop a.text.now a.signature a.at l.i _ _ l.invariant.0 l.invariant.1 w.in_default.ensures)
+    ]

@@ -1,5 +1,3 @@
-use Prim.Native.Nat.{◌-◌}
-use lib.ListN.{length}
 use Rattle.input_lines.proofs.CaseStarts.{Unstarted}
 use Rattle.input_lines.proofs.case_starts.case_start.Given as goal
 
@@ -7,7 +5,3 @@ use Rattle.input_lines.proofs.case_starts.case_start.Given as goal
 abbrev pub invariant-loop-i : goal.invariant-loop-i
 invariant-loop-i l =
     Unstarted l.input l.i l.fresh
-
-abbrev pub decreases-loop-i : goal.decreases-loop-i
-decreases-loop-i l =
-    length l.input - l.i

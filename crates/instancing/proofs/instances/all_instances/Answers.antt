@@ -1,32 +1,21 @@
-use Prim.Native.Nat.{◌-◌}
-use mathlib.Core.Path.{refl, ◌∙◌}
 use native.Mathlib.Omega.{arith}
-use Rattle.stream.specs.Consuming.{state}
-use Rattle.instancing.proofs.Walking.{no-clause, clause-consumes, clause-consumed, all-clauses}
+use Rattle.instancing.proofs.Walking.{clause-consumes, clause-consumed, all-clauses}
 use Rattle.instancing.proofs.instances.all_instances.Goals as goal
 
-pub loop-k-init : goal.loop-k-init
-loop-k-init c = let a = c.args in
-    (omega arith, refl, refl, no-clause a.mode a.n.count (state a.start a.out.now a.work.now) a.size.0 a.sheet.now a.p)
-
-pub one_clause-reached-requires : goal.one_clause-reached-requires
-one_clause-reached-requires c = let s = c in
+pub one_clause-requires : goal.one_clause-requires
+one_clause-requires g c = let s = c in
     let a = s.args in
-    let l = c.loop-k in record { accepted = (s.requires.accepted.0, omega arith, s.requires.accepted.1); numbering_of = s.requires.numbering_of; clause_next = clause-consumes a.mode a.n.count (state a.start a.out.now a.work.now) a.size.0 a.sheet.now a.p s.requires.accepted.0 l.k (state l.reached l.out l.work) (omega arith) s.requires.instances_next l.invariant.3 }
+    let l = c.loop-k in record { accepted = (s.requires.accepted.0, omega arith, s.requires.accepted.1); numbering_of = s.requires.numbering_of; clause_next = clause-consumes g.C.ClauseConsumer.effect a.consumer.now a.size.0 a.sheet.now a.p s.requires.accepted.0 l.k l.consumer (omega arith) s.requires.instances_next l.invariant }
 
 pub loop-k-preserved : goal.loop-k-preserved
-loop-k-preserved c = let a = c.args in
+loop-k-preserved g c = let a = c.args in
     let l = c.loop-k in
-    let t = c.one_clause-reached in (
-      omega arith,
-      t.auto.out ∙ l.invariant.1,
-      t.auto.work ∙ l.invariant.2,
-      clause-consumed a.mode a.n.count (state a.start a.out.now a.work.now) a.size.0 a.sheet.now a.p l.k (state l.reached l.out l.work)
-          (state t.result t.new.out t.new.work) l.invariant.3 t.ensures,
-    )
+    let t = c.one_clause in
+    clause-consumed g.C.ClauseConsumer.effect a.consumer.now a.size.0 a.sheet.now a.p l.k l.consumer
+    t.new.consumer l.invariant t.ensures
 
 pub returns : goal.returns
-returns c = let s = c in
+returns g c = let s = c in
     let a = s.args in
     let l = c.loop-k in
-    all-clauses a.mode a.n.count (state a.start a.out.now a.work.now) a.size.0 a.sheet.now a.p s.requires.accepted.0 l.k (state l.reached l.out l.work) (omega arith) l.invariant.3
+    all-clauses g.C.ClauseConsumer.effect a.consumer.now a.size.0 a.sheet.now a.p s.requires.accepted.0 l.k l.consumer (omega arith) l.invariant

@@ -1,7 +1,3 @@
-use Prim.Native.Nat.{◌-◌, ◌^◌, ◌≤◌}
-use mathlib.Core.Path.{◌≡◌}
-use lib.ListN.{length}
-use Rattle.stream.specs.Consuming.{state}
 use Rattle.instancing.specs.Choices.{ChoiceAt}
 use Rattle.instancing.specs.ClauseForms.{FormsOf}
 use Rattle.instancing.proofs.Walking.{ChoicesTaken}
@@ -9,9 +5,5 @@ use Rattle.instancing.proofs.instances.clause_instances.Given as goal
 
 -- `clause_instances` meets its contract: the instances under the choices before i are taken.
 abbrev pub invariant-loop-i : goal.invariant-loop-i
-invariant-loop-i l =
-    (l.i ≤ l.choices) × (l.choices ≡ l.elements ^ l.variables) × (length l.out ≡ length l.initial.out) × (length l.work ≡ length l.initial.work) × ChoiceAt l.elements l.variables l.values l.i × ((o : FormsOf l.elements l.variables l.count l.forms) → ChoicesTaken l.mode l.v (state l.initial.p l.initial.out l.initial.work) o l.i (state l.p l.out l.work))
-
-abbrev pub decreases-loop-i : goal.decreases-loop-i
-decreases-loop-i l =
-    l.choices - l.i
+invariant-loop-i g l =
+    ChoiceAt l.fn.size.0 l.fn.variables l.values l._i × ((o : FormsOf l.fn.size.0 l.fn.variables l.count l.forms) → ChoicesTaken g.C.ClauseConsumer.effect l.initial.consumer o l._i l.consumer)

@@ -1,12 +1,7 @@
 use borrow.Author.Rules.{rules}
-use mathlib.Core.Path.{sym, ◌∙◌}
 use native.Mathlib.Omega.{arith}
-use Rattle.instancing.proofs.Counting.{choice-vector, next-choice, last-choice}
+use Rattle.instancing.proofs.Counting.{choice-vector, next-choice}
 use Rattle.instancing.proofs.instances.next_choice.Goals as goal
-
--- `next_choice` meets its contract.
-pub returns-then-values-eq0 : goal.returns-then-values-eq0
-returns-then-values-eq0 c s n i h x = last-choice s n c.args.values i x h (sym x.size ∙ c.if-values-eq0.true)
 
 pub step-requires : goal.step-requires
 step-requires c = let z = c in

@@ -1,4 +1,4 @@
-use Prim.Native.Nat.{ℕ, ◌-◌, ◌≤◌}
+use Prim.Native.Nat.{ℕ}
 use mathlib.Core.List.{List}
 use Rattle.syntax.specs.Signatures.{signature_in}
 use Rattle.interpretation.proofs.Tabling.{Tabled}
@@ -7,8 +7,4 @@ use Rattle.interpretation.proofs.tables.tables_of.Given as goal
 -- `tables_of` meets its contract: the tables of the symbols before i are written.
 abbrev pub invariant-loop-i : goal.invariant-loop-i
 invariant-loop-i l =
-    (l.i ≤ l.signature.count) × ((sheet : List ℕ) → Tabled (signature_in sheet l.signature) l.size.0 l.t l.i)
-
-abbrev pub decreases-loop-i : goal.decreases-loop-i
-decreases-loop-i l =
-    l.signature.count - l.i
+    (sheet : List ℕ) → Tabled (signature_in sheet l.signature) l.size.0 l.t l.i

@@ -1,37 +1,38 @@
 -- `explain_case` meets its contract: the sheet's refusals, the case's, the reason.
 use borrow.Author.Rules.{rules}
-use native.Mathlib.Omega.{arith}
+use Rattle.std.proofs.lemmas.Result.{err_from_is_err_and}
 use Rattle.answers.proofs.Reasons.{refuses-reason}
-use Rattle.problem.proofs.SheetRead.{sheet-refused}
-use Rattle.judging.proofs.CasesRead.{explain-sheet-refused, explain-case-refused, case-unread, case-explained, cells-lent}
+use Rattle.judging.proofs.CasesRead.{explain-sheet-refused, explain-case-refused, case-explained, cells-lent}
+use Rattle.judging.proofs.ReasonsGiven.{failure-held, reasoned}
 use Rattle.judging.proofs.explain.explain_case.Goals as goal
 
-pub sheet_refusal-requires : goal.sheet_refusal-requires
-sheet_refusal-requires c = let r = c.read_problem-r in sheet-refused _ r.result r.ensures.read c.if-r-ne0.true
+pub returns-in_err-p : goal.returns-in_err-p
+returns-in_err-p c = let a = c.args in
+    let p = err_from_is_err_and c.from_residual.result c.from_residual.ensures.1 in
+    rw (p.1, p.2) (refuses-reason _ _ (explain-sheet-refused a.sheet.now a.case.now _ c.in_err-p.ensures.refused))
 
-pub returns-then-r-ne0 : goal.returns-then-r-ne0
-returns-then-r-ne0 c = refuses-reason _ _ c.without_reason.result (explain-sheet-refused _ _ _ c.sheet_refusal.ensures) c.without_reason.ensures
+pub returns-in_err-size : goal.returns-in_err-size
+returns-in_err-size c = let a = c.args in
+    let p = err_from_is_err_and c.from_residual-in_err-size.result c.from_residual-in_err-size.ensures.1 in
+    rw (p.1, p.2) (refuses-reason _ _ (explain-case-refused a.sheet.now a.case.now c.in_ok-p.p c.in_ok-p.ensures.read _ c.in_err-size.ensures.refused))
 
-pub read_case-requires : goal.read_case-requires
-read_case-requires c = ((c.read_problem-r.ensures.accepted c.if-r-ne0.false).readable, omega arith)
+pub case_failure-requires : goal.case_failure-requires
+case_failure-requires c = let a = c.args in
+    cells-lent a.sheet.now a.case.now c.in_ok-p.p c.in_ok-p.ensures.read _ c.open_case.new.cells c.in_ok-size.ensures.read c.in_ok-p.ensures.accepted (search rules)
 
-pub case_refusal-requires : goal.case_refusal-requires
-case_refusal-requires c = let r = c.read_problem-r in
-    let k = c.read_case in
-    let ok = c.if-r-ne0.false in
-    ((r.ensures.accepted ok).readable, case-unread _ _ r.result r.ensures.read ok _ k.result k.ensures _ c.in-Refused.is)
+pub map-requires : goal.map-requires
+map-requires c = let a = c.args in
+    let k = c.in_ok-p in
+    let f = c.case_failure in
+    let lent = cells-lent a.sheet.now a.case.now k.p k.ensures.read _ c.open_case.new.cells c.in_ok-size.ensures.read k.ensures.accepted (search rules) in
+    λ x t.
+    let held = failure-held _ _ _ _ f.result f.ensures lent x t in
+    search (rules, held)
 
-pub explain_cells-requires : goal.explain_cells-requires
-explain_cells-requires c = let r = c.read_problem-r in
-    let k = c.read_case in
-    let ok = c.if-r-ne0.false in
-    cells-lent _ _ r.result r.ensures.read ok _ k.result k.ensures _ c.in-Read.is (r.ensures.accepted ok) (search rules)
-
-pub returns-in-Refused : goal.returns-in-Refused
-returns-in-Refused c = let r = c.read_problem-r in
-    refuses-reason _ _ c.without_reason-in-Refused.result (explain-case-refused _ _ r.result r.ensures.read c.if-r-ne0.false _ c.case_refusal.ensures) c.without_reason-in-Refused.ensures
-
-pub returns-in-Read : goal.returns-in-Read
-returns-in-Read c = let r = c.read_problem-r in
-    let k = c.read_case in
-    rw (case-explained _ _ r.result r.ensures.read c.if-r-ne0.false _ k.result k.ensures _ c.in-Read.is) c.explain_cells.ensures
+pub returns : goal.returns
+returns c = let a = c.args in
+    let k = c.in_ok-p in
+    let f = c.case_failure in
+    let lent = cells-lent a.sheet.now a.case.now k.p k.ensures.read _ c.open_case.new.cells c.in_ok-size.ensures.read k.ensures.accepted (search rules) in
+    rw (case-explained a.sheet.now a.case.now k.p k.ensures.read _ c.open_case.new.cells c.in_ok-size.ensures.read)
+    (reasoned _ _ _ _ f.result f.ensures lent _ (λ x q h. search rules) c.map.result c.map.ensures.cases)

@@ -1,18 +1,16 @@
 use borrow.Author.Rules.{rules}
-use Prim.Native.Nat.{◌-◌}
 use mathlib.Core.Path.{◌≡◌, refl}
-use mathlib.Core.Bool.{false}
 use native.Mathlib.Omega.{arith}
-use lib.ListN.{length, length-map}
+use lib.ListN.{length}
 use Rattle.judging.proofs.ClausesLent.{codes-below, few-own, clause-held}
-use Rattle.judging.proofs.Unfailed.{none-failed, unfailed, all-passed, none_passed, choice-lent, choice-fails, choice-passes, clause-passes}
+use Rattle.judging.proofs.Unfailed.{none-failed, all-passed, none_passed, choice-lent, choice-fails, choice-passes, clause-passes}
 use Rattle.judging.proofs.failures.first_failure.Goals as goal
 
 pub walk-init : goal.walk-init
 walk-init c = (refl, none-failed _ _ _ _)
 
 pub clause_words-c-requires : goal.clause_words-c-requires
-clause_words-c-requires c = (c.requires.accepted, c.walk-test.true)
+clause_words-c-requires c = (c.requires.accepted, (omega arith))
 
 pub variables_of-variables-requires : goal.variables_of-variables-requires
 variables_of-variables-requires c = let z = c in
@@ -31,7 +29,7 @@ loop-i-init c = let z = c in
     let w = c.clause_words-c in
     let v = c.variables_of-variables in
     let h = clause-held _ _ z.requires.accepted _ w.result w.ensures (search rules) v.result v.ensures (search rules) z.requires _ c.power-choices.ensures in
-    (l.invariant.0, h, none_passed _ _ _ _ z.requires.accepted _ l.invariant.1 h c.walk-test.true z.requires.positive z.requires.size c.first-values-in-walk.result c.first-values-in-walk.ensures)
+    (l.invariant.0, h, none_passed _ _ _ _ z.requires.accepted _ l.invariant.1 h (omega arith) z.requires.positive z.requires.size c.first-values.result c.first-values.ensures)
 
 pub slice_bounds-clause_value-end : goal.slice_bounds-clause_value-end
 slice_bounds-clause_value-end c = omega (arith, c.loop-i.invariant.1.within)
@@ -47,23 +45,19 @@ step-values-requires c = c.loop-i.invariant.2.reached.vector
 
 pub loop-i-preserved : goal.loop-i-preserved
 loop-i-preserved c = let l = c.loop-i in
-    let long : length c.step-values.result.digits ≡ 10 = c.step-values.type_inv.1.1.0.1.0.1 in (
+    let long : length c.step-values.result.digits ≡ 10 = search rules in (
       l.invariant.0,
       l.invariant.1,
       choice-passes _ _ _ _ l.invariant.1 l.invariant.2 c.loop-i-test.true _ c.clause_value.ensures c.if-not-clause_value.false c.step-values.result long c.step-values.ensures,
     )
 
-pub overflow_add-k : goal.overflow_add-k
-overflow_add-k c = omega (arith, c.walk-test.true, c.requires.accepted.count)
-
 pub walk-preserved : goal.walk-preserved
-walk-preserved c = let l = c.loop-i in
-    (l.invariant.0, clause-passes _ _ _ _ l.invariant.1 l.invariant.2 c.walk-test.true c.loop-i-test.false)
+walk-preserved c = let l = c.loop-i in (l.invariant.0, clause-passes _ _ _ _ l.invariant.1 l.invariant.2 (omega arith) (omega arith))
 
 pub returns-after-walk : goal.returns-after-walk
 returns-after-walk c = let z = c in
     let l = c.walk in
-    unfailed _ _ _ _ (record { fails = l.fails; clause = l.k; values = l.values }) l.invariant.0 (all-passed _ _ _ _ z.requires.accepted _ l.invariant.1 c.walk-test.false)
+    rw l.invariant.0 (all-passed _ _ _ _ z.requires.accepted _ l.invariant.1 (omega arith))
 
 pub returns-then-not-clause_value : goal.returns-then-not-clause_value
 returns-then-not-clause_value c = let l = c.loop-i in

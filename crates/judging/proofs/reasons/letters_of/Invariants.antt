@@ -1,4 +1,3 @@
-use Prim.Native.Nat.{◌-◌, ◌≤◌}
 use mathlib.Core.Path.{◌≡◌}
 use lib.ListN.{length}
 use Rattle.judging.proofs.LettersShown.{Filled}
@@ -7,8 +6,4 @@ use Rattle.judging.proofs.reasons.letters_of.Given as goal
 -- `letters_of` meets its contract: the letters below x stand at their places.
 abbrev pub invariant-loop-x : goal.invariant-loop-x
 invariant-loop-x l =
-    (l.x ≤ 8) × (length l.letters ≡ 8) × Filled l.variables l.x l.letters
-
-abbrev pub decreases-loop-x : goal.decreases-loop-x
-decreases-loop-x l =
-    8 - l.x
+    (length l.letters ≡ 8) × Filled l.variables l.x l.letters

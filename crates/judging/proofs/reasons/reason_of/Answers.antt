@@ -15,7 +15,7 @@ pub values_of-requires : goal.values_of-requires
 values_of-requires c = let z = c in
     let w = c.clause_words in
     let v = c.variables_of-variables in
-    let long : length z.args.f.values.digits ≡ 10 = z.well_formed.1.1.0.1.1.1.1.0.1.1.0.1.0.1 in
+    let long : length z.args.f.values.digits ≡ 10 = search rules in
     (few-values _ _ z.args.f z.requires w.result w.ensures (search rules) v.result v.ensures long, z.requires.below)
 
 pub returns : goal.returns

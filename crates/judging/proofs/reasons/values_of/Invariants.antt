@@ -1,4 +1,3 @@
-use Prim.Native.Nat.{◌-◌, ◌≤◌}
 use mathlib.Core.Path.{◌≡◌}
 use lib.ListN.{length}
 use Rattle.judging.proofs.ValuesShown.{Shown}
@@ -7,8 +6,4 @@ use Rattle.judging.proofs.reasons.values_of.Given as goal
 -- `values_of` meets its contract: the first i values stand at their places.
 abbrev pub invariant-loop-i : goal.invariant-loop-i
 invariant-loop-i l =
-    (l.i ≤ l.values.count) × (length l.shown ≡ 8) × Shown l.values l.i l.shown
-
-abbrev pub decreases-loop-i : goal.decreases-loop-i
-decreases-loop-i l =
-    l.values.count - l.i
+    (length l.shown ≡ 8) × Shown l.values l.i l.shown

@@ -1,37 +1,28 @@
 -- `judge_case` meets its contract: the sheet's refusals, the case's, the verdict.
 use borrow.Author.Rules.{rules}
-use mathlib.Core.Path.{sym, ◌∙◌}
-use native.Mathlib.Omega.{arith}
-use Rattle.problem.proofs.SheetRead.{sheet-refused}
-use Rattle.judging.proofs.CasesRead.{judge-sheet-refused, judge-case-refused, case-unread, case-judged, cells-lent}
+use mathlib.Core.Path.{sym, ap, ◌∙◌}
+use Rattle.std.proofs.lemmas.Result.{err_from_is_err_and}
+use Rattle.theory.specs.Refusals.{answer}
+use Rattle.judging.proofs.Verdicts.{model-told}
+use Rattle.judging.proofs.CasesRead.{judge-sheet-refused, judge-case-refused, case-judged, cells-lent}
 use Rattle.judging.proofs.verdict.judge_case.Goals as goal
 
-pub sheet_refusal-requires : goal.sheet_refusal-requires
-sheet_refusal-requires c = let r = c.read_problem-r in sheet-refused _ r.result r.ensures.read c.if-r-ne0.true
+pub returns-in_err-p : goal.returns-in_err-p
+returns-in_err-p c = let a = c.args in
+    let p = err_from_is_err_and c.from_residual.result c.from_residual.ensures.1 in
+    rw (p.1, p.2) (sym (judge-sheet-refused a.sheet.now a.case.now _ c.in_err-p.ensures.refused))
 
-pub returns-then-r-ne0 : goal.returns-then-r-ne0
-returns-then-r-ne0 c = sym (judge-sheet-refused _ _ _ c.sheet_refusal.ensures)
+pub returns-in_err-size : goal.returns-in_err-size
+returns-in_err-size c = let a = c.args in
+    let p = err_from_is_err_and c.from_residual-in_err-size.result c.from_residual-in_err-size.ensures.1 in
+    rw (p.1, p.2) (sym (judge-case-refused a.sheet.now a.case.now c.in_ok-p.p c.in_ok-p.ensures.read _ c.in_err-size.ensures.refused))
 
-pub read_case-requires : goal.read_case-requires
-read_case-requires c = ((c.read_problem-r.ensures.accepted c.if-r-ne0.false).readable, omega arith)
+pub case_failure-requires : goal.case_failure-requires
+case_failure-requires c = let a = c.args in
+    cells-lent a.sheet.now a.case.now c.in_ok-p.p c.in_ok-p.ensures.read _ c.open_case.new.cells c.in_ok-size.ensures.read c.in_ok-p.ensures.accepted (search rules)
 
-pub case_refusal-requires : goal.case_refusal-requires
-case_refusal-requires c = let r = c.read_problem-r in
-    let k = c.read_case in
-    let ok = c.if-r-ne0.false in
-    ((r.ensures.accepted ok).readable, case-unread _ _ r.result r.ensures.read ok _ k.result k.ensures _ c.in-Refused.is)
-
-pub judge_cells-requires : goal.judge_cells-requires
-judge_cells-requires c = let r = c.read_problem-r in
-    let k = c.read_case in
-    let ok = c.if-r-ne0.false in
-    cells-lent _ _ r.result r.ensures.read ok _ k.result k.ensures _ c.in-Read.is (r.ensures.accepted ok) (search rules)
-
-pub returns-in-Refused : goal.returns-in-Refused
-returns-in-Refused c = let r = c.read_problem-r in
-    sym (judge-case-refused _ _ r.result r.ensures.read c.if-r-ne0.false _ c.case_refusal.ensures)
-
-pub returns-in-Read : goal.returns-in-Read
-returns-in-Read c = let r = c.read_problem-r in
-    let k = c.read_case in
-    c.judge_cells.ensures ∙ sym (case-judged _ _ r.result r.ensures.read c.if-r-ne0.false _ k.result k.ensures _ c.in-Read.is)
+pub returns : goal.returns
+returns c = let a = c.args in
+    let f = c.case_failure in
+    ap answer (model-told _ _ _ _ f.result f.ensures c.is_none.result c.is_none.ensures)
+    ∙ sym (case-judged a.sheet.now a.case.now c.in_ok-p.p c.in_ok-p.ensures.read _ c.open_case.new.cells c.in_ok-size.ensures.read)

@@ -1,4 +1,4 @@
-use Prim.Native.Nat.{ℕ, ◌-◌, ◌≤◌}
+use Prim.Native.Nat.{ℕ}
 use mathlib.Core.List.{List}
 use Rattle.syntax.specs.Signatures.{signature_in}
 use Rattle.plain.proofs.Choosing.{Chosen}
@@ -7,8 +7,4 @@ use Rattle.plain.proofs.cells.choices_of.Given as goal
 -- `choices_of` meets its contract: the cells of the symbols before i have their choices.
 abbrev pub invariant-loop-i : goal.invariant-loop-i
 invariant-loop-i l =
-    (l.i ≤ l.signature.count) × ((sheet : List ℕ) → Chosen l.size.0 (signature_in sheet l.signature) l.choices l.i)
-
-abbrev pub decreases-loop-i : goal.decreases-loop-i
-decreases-loop-i l =
-    l.signature.count - l.i
+    (sheet : List ℕ) → Chosen l.size.0 (signature_in sheet l.signature) l.choices l.i

@@ -1,4 +1,4 @@
-use Prim.Native.Nat.{◌≤◌, ◌-◌}
+use Prim.Native.Nat.{◌-◌}
 use mathlib.Core.Path.{◌≡◌}
 use lib.ListN.{length}
 use Rattle.theory.specs.Lists.{up_from}
@@ -13,11 +13,6 @@ decreases-fill l = length l.choices.now - l.at
 -- `fill` meets its contract: the values that are still to be tried give what it answers.
 abbrev pub invariant-loop-d : goal.invariant-loop-d
 invariant-loop-d l =
-    (l.d ≤ l.count)
-    × (l.cells ≡ l.initial.cells)
+    (l.cells ≡ l.initial.cells)
     × (length l.cells.values ≡ 64)
     × (filled_from l.sheet l.p l.size.0 l.choices l.initial.cells.values l.at ≡ first_of (after l.sheet l.p l.size.0 l.choices l.initial.cells.values l.at) (up_from l.d (l.count - l.d)))
-
-abbrev pub decreases-loop-d : goal.decreases-loop-d
-decreases-loop-d l =
-    l.count - l.d

@@ -23,4 +23,4 @@ pub returns : goal.returns
 returns c = let s = c in
     let a = s.args in
     let k = c.choices_of-choices in
-    least-filled a.sheet.now a.p a.size.0 s.requires _ (choices-lent k.result.values _ k.result.count (k.ensures.values a.sheet.now)) _ refl c.fill.result c.fill.ensures
+    rw c.ok.ensures.value (least-filled a.sheet.now a.p a.size.0 s.requires _ (choices-lent k.result.values _ k.result.count (k.ensures.values a.sheet.now)) _ refl c.fill.result c.fill.ensures)

@@ -1,4 +1,3 @@
-use Prim.Native.Nat.{◌-◌, ◌≤◌}
 use mathlib.Core.Path.{◌≡◌}
 use mathlib.Core.Bool.{false}
 use lib.ListN.{length}
@@ -8,14 +7,8 @@ use Rattle.plain.proofs.SizeBySize.{remaining}
 use Rattle.plain.proofs.sizes.search_sizes.Given as goal
 
 -- `search_sizes` meets its contract: no size before this one has a model.
-abbrev pub invariant-loop-low : goal.invariant-loop-low
-invariant-loop-low l =
-    (l.low.0 ≤ l.size.0)
-    × (l.size.0 ≤ l.high.0)
-    × (l.output ≡ l.initial.output)
+abbrev pub invariant-loop-s : goal.invariant-loop-s
+invariant-loop-s l =
+    (l.output ≡ l.initial.output)
     × (length l.output ≡ length l.initial.output)
-    × (smallest_model (problem_in l.sheet l.p) l.low.0 l.high.0 ≡ remaining false (problem_in l.sheet l.p) l.high.0 l.size.0)
-
-abbrev pub decreases-loop-low : goal.decreases-loop-low
-decreases-loop-low l =
-    l.high.0 - l.size.0
+    × (smallest_model (problem_in l.sheet l.p) l.low.0 l.high.0 ≡ remaining false (problem_in l.sheet l.p) l.high.0 l.s)

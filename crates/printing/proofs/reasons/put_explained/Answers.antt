@@ -1,28 +1,17 @@
--- `put_explained` meets its contract: what the verdict stands for is printed.
-use native.Mathlib.Omega.{arith}
-use Rattle.printing.proofs.Explained.{yes-responds, no-printable, no-responds, place-small, refused-responds}
+use Rattle.printing.proofs.Explained.{no-printable, no-responds, refused-responds}
 use Rattle.printing.proofs.reasons.put_explained.Goals as goal
 
 pub put_reason-requires : goal.put_reason-requires
-put_reason-requires c = let z = c in
-    (z.requires.room, (no-printable z.args.answer z.args.out.now z.requires c.in-No.is).0)
+put_reason-requires c = let a = c.in-Ok-Some in
+    let is = rw a.is at a.field-0-is in
+    (c.requires.room, (no-printable c.args.answer c.args.out.now c.requires a.reason (rw is at a.is)).0)
 
-pub put_refusal-requires : goal.put_refusal-requires
-put_refusal-requires c = let z = c in
-    (omega (arith, z.requires.room), place-small z.args.answer z.args.out.now z.requires c.in-Refused.r c.in-Refused.is)
+pub returns-in-Ok-Some : goal.returns-in-Ok-Some
+returns-in-Ok-Some c s = let a = c.in-Ok-Some in
+    let is = rw a.is at a.field-0-is in
+    let p = no-printable c.args.answer c.args.out.now s a.reason (rw is at a.is) in
+    no-responds c.args.answer c.args.out.now s p.0.reason _ _ p.1 (c.put_reason.ensures p.0)
 
-pub returns-in-Yes : goal.returns-in-Yes
-returns-in-Yes c s = let z = c in
-    let w = c.put_yes in
-    yes-responds z.args.answer z.args.out.now s w.result w.new.out c.in-Yes.is w.ensures
-
-pub returns-in-No : goal.returns-in-No
-returns-in-No c s = let z = c in
-    let w = c.put_reason in
-    let p = no-printable z.args.answer z.args.out.now s c.in-No.is in
-    no-responds z.args.answer z.args.out.now s p.0.reason w.result w.new.out p.1 (w.ensures p.0)
-
-pub returns-in-Refused : goal.returns-in-Refused
-returns-in-Refused c s = let z = c in
-    let w = c.put_refusal in
-    refused-responds z.args.answer z.args.out.now s c.in-Refused.r w.result w.new.out c.in-Refused.is w.ensures
+pub returns-in-Err : goal.returns-in-Err
+returns-in-Err c s =
+    refused-responds c.args.answer c.args.out.now s c.in-Err.r _ _ c.in-Err.is (rw c.number.ensures at c.put_refusal.ensures)

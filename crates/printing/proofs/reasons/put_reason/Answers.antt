@@ -1,13 +1,8 @@
 -- `put_reason` meets its contract: the clause, then the letters.
-use mathlib.Core.Path.{◌∙◌}
 use native.Mathlib.Omega.{arith}
 use lib.ListN.{length-set}
-use Rattle.printing.proofs.ReasonLines.{clause-small, heading-short, reason-responds}
+use Rattle.printing.proofs.ReasonLines.{heading-short, reason-responds}
 use Rattle.printing.proofs.reasons.put_reason.Goals as goal
-
-pub overflow_cast-reason : goal.overflow_cast-reason
-overflow_cast-reason c = let z = c in
-    omega (arith, clause-small z.args.reason z.requires.1)
 
 pub bounds-out-at : goal.bounds-out-at
 bounds-out-at c = let z = c in
@@ -22,10 +17,6 @@ pub put_letters-requires : goal.put_letters-requires
 put_letters-requires c = let z = c in
     let a = c.put_field-at in
     (omega (arith, z.requires.0, a.ensures.place, a.auto.out, length-set a.new.out a.result 10, heading-short z.args.reason z.requires.1), z.requires.1)
-
-pub shape_of-out : goal.shape_of-out
-shape_of-out c = let a = c.put_field-at in
-    c.put_letters.auto.out ∙ length-set a.new.out a.result 10 ∙ a.auto.out
 
 pub returns : goal.returns
 returns c p = let z = c in

@@ -1,6 +1,6 @@
-use Prim.Native.Nat.{◌-◌, ◌<◌}
+use Prim.Native.Nat.{◌<◌}
 use mathlib.Core.Path.{sym, ap, ◌∙◌, subst}
-use mathlib.Core.Bool.{true}
+use Rattle.std.specs.Prelude.{true, Some, None}
 use native.Mathlib.Omega.{arith}
 use lib.ListN.{length, get_or}
 use Rattle.theory.specs.Syntax.{Clause}
@@ -29,22 +29,22 @@ loop-k-init c = let z = c in
     begins g (signature_in sheet c.with_helpers-all.result) sheet (handed_in sheet p).clauses c.none-terms.result c.none-terms.ensures.count (none-there g sheet c.none-terms.result c.none-terms.ensures.count c.none-terms.ensures.held)
 
 pub offset_bounds-p-k : goal.offset_bounds-p-k
-offset_bounds-p-k c = let z = c in omega (arith, z.requires.count, c.loop-k-test.true)
+offset_bounds-p-k c = let z = c in omega (arith, z.requires.count)
 
 pub bounds-p-k : goal.bounds-p-k
-bounds-p-k c = let z = c in omega (arith, z.requires.count, c.loop-k-test.true)
+bounds-p-k c = let z = c in omega (arith, z.requires.count)
 
 pub line_end-end-requires : goal.line_end-end-requires
-line_end-end-requires c = let z = c in (z.requires.clauses c.loop-k.k c.loop-k-test.true).within
+line_end-end-requires c = let z = c in (z.requires.clauses c.loop-k.k (omega arith)).within
 
-pub shorten-line-requires : goal.shorten-line-requires
-shorten-line-requires c = let z = c in
+pub shorten-requires : goal.shorten-requires
+shorten-requires c = let z = c in
     let a = z.args in
     let sheet = a.sheet.now in
     let p = a.p in
     let g = signature_in sheet p.signature in
     let l = c.loop-k in
-    let k = c.loop-k-test.true in
+    let k : c.loop-k.k < c.args.p.count = omega arith in
     let all⁺ = c.with_helpers-all in
     let e = c.line_end-end in
     let t = line-there true sheet g (get_or p.clauses l.k 0) (z.requires.clauses l.k k) in
@@ -57,27 +57,23 @@ shorten-line-requires c = let z = c in
       room = λ d i le room. omega (arith, n, all⁺.ensures.count);
     }
 
-pub returns-then-line : goal.returns-then-line
-returns-then-line c = let z = c in
+pub returns-in_err-line : goal.returns-in_err-line
+returns-in_err-line c = let z = c in
     let a = z.args in
     let sheet = a.sheet.now in
     let p = a.p in
     let g = signature_in sheet p.signature in
     let l = c.loop-k in
-    let k = c.loop-k-test.true in
+    let k : c.loop-k.k < c.args.p.count = omega arith in
     let all⁺ = c.with_helpers-all in
     let e = c.line_end-end in
     let t = line-there true sheet g (get_or p.clauses l.k 0) (z.requires.clauses l.k k) in
     let line = line_of sheet g (get_or p.clauses l.k 0) t e.result e.ensures (between g sheet (get_or p.clauses l.k 0) e.result) in
     let cs = (handed_in sheet p).clauses in
     let same = handed-at true sheet p z.requires l.k k in
-    let r = c.shorten-line in
-    let short = subst (λ (d : Clause). Shortened g (signature_in sheet all⁺.result) sheet l.terms d r.result) (sym same) (r.ensures line) in
+    let short = subst (λ (d : Clause). Shortened g (signature_in sheet all⁺.result) sheet l.terms d None) (sym same) (c.in_err-line.ensures line) in
     let below : l.k < length cs = omega (arith, handed-count true sheet p z.requires) in
-    too_many g (signature_in sheet all⁺.result) sheet cs l.terms (overflows g (signature_in sheet all⁺.result) sheet cs l.terms l.k l.invariant below r.result short c.if-line.true)
-
-pub overflow_add-k : goal.overflow_add-k
-overflow_add-k c = let z = c in omega (arith, z.requires.count, c.loop-k-test.true)
+    rw c.from_residual.ensures (too_many g (signature_in sheet all⁺.result) sheet cs (overflows g (signature_in sheet all⁺.result) sheet cs l.terms l.k l.invariant below short))
 
 pub loop-k-preserved : goal.loop-k-preserved
 loop-k-preserved c = let z = c in
@@ -86,17 +82,16 @@ loop-k-preserved c = let z = c in
     let p = a.p in
     let g = signature_in sheet p.signature in
     let l = c.loop-k in
-    let k = c.loop-k-test.true in
+    let k : c.loop-k.k < c.args.p.count = omega arith in
     let all⁺ = c.with_helpers-all in
     let e = c.line_end-end in
     let t = line-there true sheet g (get_or p.clauses l.k 0) (z.requires.clauses l.k k) in
     let line = line_of sheet g (get_or p.clauses l.k 0) t e.result e.ensures (between g sheet (get_or p.clauses l.k 0) e.result) in
     let cs = (handed_in sheet p).clauses in
     let same = handed-at true sheet p z.requires l.k k in
-    let r = c.shorten-line in
-    let short = subst (λ (d : Clause). Shortened g (signature_in sheet all⁺.result) sheet l.terms d r.result) (sym same) (r.ensures line) in
+    let short = subst (λ (d : Clause). Shortened g (signature_in sheet all⁺.result) sheet l.terms d (Some c.in_ok-line.line)) (sym same) (c.in_ok-line.ensures line) in
     let below : l.k < length cs = omega (arith, handed-count true sheet p z.requires) in
-    goes_on g (signature_in sheet all⁺.result) sheet cs l.terms l.k l.invariant below r.result short c.if-line.false
+    goes_on g (signature_in sheet all⁺.result) sheet cs l.terms l.k l.invariant below c.in_ok-line.line short
     (ap (is_within_named (length g)) same ∙ named-within sheet g (get_or p.clauses l.k 0) (z.requires.clauses l.k k))
 
 pub returns : goal.returns
@@ -106,5 +101,4 @@ returns c = let z = c in
     let p = a.p in
     let g = signature_in sheet p.signature in
     let l = c.loop-k in
-    let k = c.loop-k-test.false in
     all_named g (signature_in sheet c.with_helpers-all.result) sheet (handed_in sheet p).clauses l.terms l.k l.invariant (omega (arith, handed-count true sheet p z.requires))

@@ -1,4 +1,3 @@
-use Prim.Native.Nat.{◌-◌}
 use Rattle.syntax.specs.Signatures.{signature_in}
 use Rattle.problem.specs.Problems.{handed_in}
 use Rattle.problem.proofs.NamedWalk.{TermsTo}
@@ -8,7 +7,3 @@ use Rattle.problem.proofs.named_lines.named_terms.Given as goal
 abbrev pub invariant-loop-k : goal.invariant-loop-k
 invariant-loop-k l =
     TermsTo (signature_in l.sheet l.p.signature) (signature_in l.sheet l.all) l.sheet (handed_in l.sheet l.p).clauses l.terms l.k
-
-abbrev pub decreases-loop-k : goal.decreases-loop-k
-decreases-loop-k l =
-    l.p.count - l.k

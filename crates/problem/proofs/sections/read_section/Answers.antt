@@ -2,7 +2,7 @@
 use native.Mathlib.Omega.{arith}
 use lib.ListN.{length}
 use Rattle.syntax.specs.Signatures.{kind_of}
-use Rattle.problem.specs.declared.lines.CountLine.TheVariants.{Read}
+use Rattle.std.specs.Prelude.{Ok}
 use Rattle.problem.specs.Lines.{CountWithin}
 use Rattle.problem.proofs.SectionLines.{uncounted, counted}
 use Rattle.problem.proofs.sections.read_section.Goals as goal
@@ -10,14 +10,14 @@ use Rattle.problem.proofs.sections.read_section.Goals as goal
 pub symbol_lines-requires : goal.symbol_lines-requires
 symbol_lines-requires c = let z = c in
     let a = z.args in
-    let h : CountWithin (length a.sheet.now) 12 (Read _ _) = rw c.in-Read.is at c.count_line.ensures.within in (h.1, (z.requires.1.0, (omega (arith, z.requires.1.1.0, h.0), omega (arith, z.requires.1.1.1, h.0))))
+    let h : CountWithin (length a.sheet.now) 12 (Ok (_, _)) = rw c.in-Ok.is at c.count_line.ensures.within in (h.1, (z.requires.1.0, (omega (arith, z.requires.1.1.0, h.0), omega (arith, z.requires.1.1.1, h.0))))
 
-pub returns-in-Fault : goal.returns-in-Fault
-returns-in-Fault c = let z = c in
+pub returns-in-Err : goal.returns-in-Err
+returns-in-Err c = let z = c in
     let a = z.args in
-    uncounted a.sheet.now a.at a.line a.counting.now a.key.now (kind_of a.function) a.before _ (rw c.in-Fault.is at c.count_line.ensures) z.requires.1.0 z.requires.0
+    uncounted a.sheet.now a.at a.line a.counting.now a.key.now (kind_of a.function) a.before _ (rw c.in-Err.is at c.count_line.ensures)
 
-pub returns-in-Read : goal.returns-in-Read
-returns-in-Read c = let z = c in
+pub returns-in-Ok : goal.returns-in-Ok
+returns-in-Ok c = let z = c in
     let a = z.args in
-    counted a.sheet.now a.at a.line a.counting.now a.key.now (kind_of a.function) a.before _ _ c.symbol_lines.result (rw c.in-Read.is at c.count_line.ensures) c.symbol_lines.ensures
+    counted a.sheet.now a.at a.line a.counting.now a.key.now (kind_of a.function) a.before _ _ (rw c.in-Ok.is at c.count_line.ensures) c.symbol_lines.result c.symbol_lines.ensures

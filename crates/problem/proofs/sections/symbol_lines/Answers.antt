@@ -1,4 +1,3 @@
-use Prim.Native.Nat.{◌-◌}
 use native.Mathlib.Omega.{arith}
 use Rattle.syntax.specs.Signatures.{kind_of}
 use Rattle.problem.proofs.SectionLines.{begins, turn, faults, ends}
@@ -15,23 +14,20 @@ symbol_line-requires c = (c.loop-i.invariant.inside, c.loop-i.invariant.readable
 pub overflow_add-result : goal.overflow_add-result
 overflow_add-result c = omega (arith, c.requires.1.1.1, c.loop-i.invariant.within)
 
-pub returns-in-Fault : goal.returns-in-Fault
-returns-in-Fault c = let z = c in
+pub returns-in-Err : goal.returns-in-Err
+returns-in-Err c = let z = c in
     let a = z.args in
     let l = c.loop-i in
-    faults a.sheet.now a.at a.line a.key.now (kind_of a.function) a.n a.before l.signature l.next l.i l.invariant c.loop-i-test.true _ (rw c.in-Fault.is at c.symbol_line.ensures)
+    faults a.sheet.now a.at a.line a.key.now (kind_of a.function) a.n a.before l.signature l.next l.i l.invariant (omega arith) _ (rw c.in-Err.is at c.symbol_line.ensures)
 
 pub with-signature-requires : goal.with-signature-requires
-with-signature-requires c = omega (arith, c.requires.1.1.0, c.loop-i.invariant.count, c.loop-i-test.true)
-
-pub overflow_add-i : goal.overflow_add-i
-overflow_add-i c = omega (arith, c.requires.1.1.0, c.loop-i-test.true)
+with-signature-requires c = omega (arith, c.requires.1.1.0, c.loop-i.invariant.count)
 
 pub loop-i-preserved : goal.loop-i-preserved
 loop-i-preserved c = let z = c in
     let a = z.args in
     let l = c.loop-i in
-    turn a.sheet.now a.at a.line a.key.now (kind_of a.function) a.n a.before l.signature l.next l.i l.invariant c.loop-i-test.true c.with-signature.result _ _ (rw c.in-Read.is at c.symbol_line.ensures) z.requires.1.1.0 c.with-signature.ensures.count c.with-signature.ensures.symbols
+    turn a.sheet.now a.at a.line a.key.now (kind_of a.function) a.n a.before l.signature l.next l.i l.invariant (omega arith) c.with-signature.result _ _ (rw c.in-Ok.is at c.symbol_line.ensures) z.requires.1.1.0 c.with-signature.ensures.count c.with-signature.ensures.symbols
 
 pub overflow_add-result-2 : goal.overflow_add-result-2
 overflow_add-result-2 c = omega (arith, c.requires.1.1.1)
@@ -40,4 +36,4 @@ pub returns : goal.returns
 returns c = let z = c in
     let a = z.args in
     let l = c.loop-i in
-    ends a.sheet.now a.at a.line a.key.now (kind_of a.function) a.n a.before l.signature l.next l.i l.invariant c.loop-i-test.false
+    ends a.sheet.now a.at a.line a.key.now (kind_of a.function) a.n a.before l.signature l.next l.i l.invariant (omega arith)

@@ -1,4 +1,3 @@
-use Prim.Native.Nat.{◌-◌}
 use Rattle.syntax.specs.Signatures.{kind_of}
 use Rattle.problem.proofs.SectionLines.{Reached}
 use Rattle.problem.proofs.sections.symbol_lines.Given as goal
@@ -7,7 +6,3 @@ use Rattle.problem.proofs.sections.symbol_lines.Given as goal
 abbrev pub invariant-loop-i : goal.invariant-loop-i
 invariant-loop-i l =
     Reached l.sheet l.at l.line l.key (kind_of l.function) l.n l.initial.signature l.signature l.next l.i
-
-abbrev pub decreases-loop-i : goal.decreases-loop-i
-decreases-loop-i l =
-    l.n - l.i

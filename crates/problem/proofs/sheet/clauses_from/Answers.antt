@@ -2,7 +2,7 @@
 use native.Mathlib.Omega.{arith}
 use lib.ListN.{length}
 use Rattle.syntax.specs.Signatures.{signature_in}
-use Rattle.problem.specs.declared.lines.CountLine.TheVariants.{Read}
+use Rattle.std.specs.Prelude.{Ok}
 use Rattle.problem.specs.Lines.{CountWithin}
 use Rattle.problem.proofs.Stages.{clauses-uncounted, clauses-counted}
 use Rattle.problem.proofs.sheet.clauses_from.Goals as goal
@@ -17,16 +17,16 @@ pub lines_from-requires : goal.lines_from-requires
 lines_from-requires c = let z = c in
     let a = z.args in
     let g = signature_in a.sheet.now a.signature in
-    let h : CountWithin (length a.sheet.now) 64 (Read _ _) = rw c.in-Read.is at c.count_line.ensures.within in (record { within = h.1; readable = z.requires.readable; few = z.requires.few; line = omega (arith, z.requires.line); counted = z.requires.counted }, h.0)
+    let h : CountWithin (length a.sheet.now) 64 (Ok (_, _)) = rw c.in-Ok.is at c.count_line.ensures.within in (record { within = h.1; readable = z.requires.readable; few = z.requires.few; line = omega (arith, z.requires.line); counted = z.requires.counted }, h.0)
 
-pub returns-in-Fault : goal.returns-in-Fault
-returns-in-Fault c = let z = c in
+pub returns-in-Err : goal.returns-in-Err
+returns-in-Err c = let z = c in
     let a = z.args in
     let g = signature_in a.sheet.now a.signature in
-    clauses-uncounted a.named a.sheet.now a.at a.line g c.refused.result _ (rw c.in-Fault.is at c.count_line.ensures) c.refused.ensures.fault c.refused.ensures.line
+    clauses-uncounted a.named a.sheet.now a.at a.line g _ (rw c.in-Err.is at c.count_line.ensures)
 
-pub returns-in-Read : goal.returns-in-Read
-returns-in-Read c = let z = c in
+pub returns-in-Ok : goal.returns-in-Ok
+returns-in-Ok c = let z = c in
     let a = z.args in
     let g = signature_in a.sheet.now a.signature in
-    clauses-counted a.named a.sheet.now a.at a.line g c.lines_from.result _ _ (rw c.in-Read.is at c.count_line.ensures) c.lines_from.ensures
+    clauses-counted a.named a.sheet.now a.at a.line g c.lines_from.result _ _ (rw c.in-Ok.is at c.count_line.ensures) c.lines_from.ensures

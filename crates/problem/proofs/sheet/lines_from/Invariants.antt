@@ -1,4 +1,3 @@
-use Prim.Native.Nat.{◌-◌}
 use Rattle.syntax.specs.Signatures.{signature_in}
 use Rattle.problem.proofs.ClauseTaking.{Taken}
 use Rattle.problem.proofs.sheet.lines_from.Given as goal
@@ -7,7 +6,3 @@ use Rattle.problem.proofs.sheet.lines_from.Given as goal
 abbrev pub invariant-loop-i : goal.invariant-loop-i
 invariant-loop-i l =
     Taken l.named l.sheet l.at l.line l.n (signature_in l.sheet l.signature) l.starts l.next l.i
-
-abbrev pub decreases-loop-i : goal.decreases-loop-i
-decreases-loop-i l =
-    l.n - l.i

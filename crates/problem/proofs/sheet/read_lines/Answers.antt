@@ -10,29 +10,29 @@ use Rattle.problem.proofs.sheet.read_lines.Goals as goal
 
 pub returns-then-sheet-gt-MAX_BYTES : goal.returns-then-sheet-gt-MAX_BYTES
 returns-then-sheet-gt-MAX_BYTES c = let z = c in
-    reading-refused z.args.named z.args.sheet.now _ c.refused.result 1 0 (λ e. omega arith) c.refused.ensures.fault c.refused.ensures.line (sheet-long z.args.named z.args.sheet.now c.if-sheet-gt-MAX_BYTES.true)
+    rw c.whole.ensures (reading-refused z.args.named z.args.sheet.now _ _ (sheet-long z.args.named z.args.sheet.now c.if-sheet-gt-MAX_BYTES.true))
 
 pub returns-then-from-end : goal.returns-then-from-end
 returns-then-from-end c = let z = c in
-    let k : KeyRead z.args.sheet.now 0 (bytes "sheet=1") _ = rw c.in-Value.is at c.key_line.ensures in
-    reading-refused z.args.named z.args.sheet.now _ c.refused-then-from-end.result 2 1 (λ e. omega arith) c.refused-then-from-end.ensures.fault c.refused-then-from-end.ensures.line (sheet-longer z.args.named z.args.sheet.now c.if-sheet-gt-MAX_BYTES.false _ _ (sym (k.read 1)) (omega (arith, length_part z.args.sheet.now _ _ k.within.0.from k.within.0.within, c.if-from-end.true)))
+    let k : KeyRead z.args.sheet.now 0 (bytes "sheet=1") _ = rw c.in-Some.is at c.key_line.ensures in
+    reading-refused z.args.named z.args.sheet.now _ _ (sheet-longer z.args.named z.args.sheet.now c.if-sheet-gt-MAX_BYTES.false _ _ (sym (k.read 1)) (omega (arith, length_part z.args.sheet.now _ _ k.within.0.from k.within.0.within, c.if-from-end.true)))
 
 pub overflow_add-end : goal.overflow_add-end
 overflow_add-end c = let z = c in
-    let k : KeyRead z.args.sheet.now 0 (bytes "sheet=1") _ = rw c.in-Value.is at c.key_line.ensures in
+    let k : KeyRead z.args.sheet.now 0 (bytes "sheet=1") _ = rw c.in-Some.is at c.key_line.ensures in
     omega (arith, k.within.1, z.well_formed)
 
 pub functions_from-requires : goal.functions_from-requires
 functions_from-requires c = let z = c in
-    let k : KeyRead z.args.sheet.now 0 (bytes "sheet=1") _ = rw c.in-Value.is at c.key_line.ensures in
+    let k : KeyRead z.args.sheet.now 0 (bytes "sheet=1") _ = rw c.in-Some.is at c.key_line.ensures in
     omega (arith, k.within.1)
 
-pub returns-in-Fault : goal.returns-in-Fault
-returns-in-Fault c = let z = c in
-    let k : KeyRead z.args.sheet.now 0 (bytes "sheet=1") _ = rw c.in-Fault.is at c.key_line.ensures in
-    reading-refused z.args.named z.args.sheet.now _ c.refused-in-Fault.result 2 1 (λ e. omega arith) c.refused-in-Fault.ensures.fault c.refused-in-Fault.ensures.line (sheet-unkeyed z.args.named z.args.sheet.now c.if-sheet-gt-MAX_BYTES.false (sym (k.read 1)))
+pub returns-in_default : goal.returns-in_default
+returns-in_default c = let z = c in
+    let k : KeyRead z.args.sheet.now 0 (bytes "sheet=1") _ = c.in_default.ensures in
+    reading-refused z.args.named z.args.sheet.now _ _ (sheet-unkeyed z.args.named z.args.sheet.now c.if-sheet-gt-MAX_BYTES.false (sym (k.read 1)))
 
-pub returns-else-from-end : goal.returns-else-from-end
-returns-else-from-end c = let z = c in
-    let k : KeyRead z.args.sheet.now 0 (bytes "sheet=1") _ = rw c.in-Value.is at c.key_line.ensures in
-    begun z.args.named z.args.sheet.now _ c.in-Value.end c.functions_from.result (sheet-begun z.args.named z.args.sheet.now c.if-sheet-gt-MAX_BYTES.false _ _ (sym (k.read 1)) (omega (arith, length_part z.args.sheet.now _ _ k.within.0.from k.within.0.within, c.if-from-end.false))) c.functions_from.ensures
+pub returns : goal.returns
+returns c = let z = c in
+    let k : KeyRead z.args.sheet.now 0 (bytes "sheet=1") _ = rw c.in-Some.is at c.key_line.ensures in
+    begun z.args.named z.args.sheet.now _ _ c.functions_from.result (sheet-begun z.args.named z.args.sheet.now c.if-sheet-gt-MAX_BYTES.false _ _ (sym (k.read 1)) (omega (arith, length_part z.args.sheet.now _ _ k.within.0.from k.within.0.within, c.if-from-end.false))) c.functions_from.ensures

@@ -1,6 +1,5 @@
-use Prim.Native.Nat.{◌≤◌, ◌-◌}
 use mathlib.Core.Path.{◌≡◌}
-use lib.ListN.{length, drop}
+use lib.ListN.{drop}
 use Rattle.theory.specs.Lists.{all}
 use Rattle.theory.specs.Problem.{is_name_byte, is_name}
 use Rattle.problem.proofs.symbols.is_name.Given as goal
@@ -8,8 +7,4 @@ use Rattle.problem.proofs.symbols.is_name.Given as goal
 -- `is_name` looks at one byte after the other.
 abbrev pub invariant-loop-i : goal.invariant-loop-i
 invariant-loop-i l =
-    (l.i ≤ length l.name) × (is_name l.name ≡ all is_name_byte (drop l.i l.name))
-
-abbrev pub decreases-loop-i : goal.decreases-loop-i
-decreases-loop-i l =
-    length l.name - l.i
+    is_name l.name ≡ all is_name_byte (drop l.i l.name)

@@ -41,12 +41,12 @@ returns-then-not-is_name c = let z = c in
     let a = z.args in
     name-bad a.sheet.now a.from a.end a.function (signature_in a.sheet.now a.before) z.requires.0 z.requires.1.0 c.if-end-from-lt2.false c.if-sheet-slash-ne47.false (sym c.is_digit.ensures ∙ c.if-not-is_digit.false) c.if-arity-gt-MAX_ARITY.false (sym c.is_name.ensures ∙ c.if-not-is_name.true)
 
-pub returns-then-find_name-before : goal.returns-then-find_name-before
-returns-then-find_name-before c = let z = c in
+pub returns-then-is_some : goal.returns-then-is_some
+returns-then-is_some c = let z = c in
     let a = z.args in
-    name-repeated a.sheet.now a.from a.end a.function (signature_in a.sheet.now a.before) z.requires.0 z.requires.1.0 c.if-end-from-lt2.false c.if-sheet-slash-ne47.false (sym c.is_digit.ensures ∙ c.if-not-is_digit.false) c.if-arity-gt-MAX_ARITY.false (sym c.is_name.ensures ∙ c.if-not-is_name.false) (name-found (part a.sheet.now a.from (a.end - 2)) (signature_in a.sheet.now a.before) _ _ c.find_name.ensures c.if-find_name-before.true)
+    name-repeated a.sheet.now a.from a.end a.function (signature_in a.sheet.now a.before) z.requires.0 z.requires.1.0 c.if-end-from-lt2.false c.if-sheet-slash-ne47.false (sym c.is_digit.ensures ∙ c.if-not-is_digit.false) c.if-arity-gt-MAX_ARITY.false (sym c.is_name.ensures ∙ c.if-not-is_name.false) (name-found (part a.sheet.now a.from (a.end - 2)) (signature_in a.sheet.now a.before) _ c.find_name.ensures.place (sym c.is_some.ensures ∙ c.if-is_some.true))
 
 pub returns : goal.returns
 returns c = let z = c in
     let a = z.args in
-    symbol-declared a.sheet.now a.from a.end a.function (signature_in a.sheet.now a.before) z.requires.0 z.requires.1.0 c.if-end-from-lt2.false c.if-sheet-slash-ne47.false (sym c.is_digit.ensures ∙ c.if-not-is_digit.false) c.if-arity-gt-MAX_ARITY.false (sym c.is_name.ensures ∙ c.if-not-is_name.false) (name-not-found (part a.sheet.now a.from (a.end - 2)) (signature_in a.sheet.now a.before) _ _ c.find_name.ensures c.if-find_name-before.false)
+    symbol-declared a.sheet.now a.from a.end a.function (signature_in a.sheet.now a.before) z.requires.0 z.requires.1.0 c.if-end-from-lt2.false c.if-sheet-slash-ne47.false (sym c.is_digit.ensures ∙ c.if-not-is_digit.false) c.if-arity-gt-MAX_ARITY.false (sym c.is_name.ensures ∙ c.if-not-is_name.false) (name-not-found (part a.sheet.now a.from (a.end - 2)) (signature_in a.sheet.now a.before) _ c.find_name.ensures.place (sym c.is_some.ensures ∙ c.if-is_some.false))

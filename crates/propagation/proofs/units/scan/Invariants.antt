@@ -1,4 +1,3 @@
-use Prim.Native.Nat.{◌-◌}
 use Rattle.propagation.proofs.Scans.{Scanning}
 use Rattle.propagation.proofs.units.scan.Given as goal
 
@@ -6,7 +5,3 @@ use Rattle.propagation.proofs.units.scan.Given as goal
 abbrev pub invariant-loop-place : goal.invariant-loop-place
 invariant-loop-place l =
     Scanning l.initial.work l.v l.from l.to l.len l.work l.entries l.place
-
-abbrev pub decreases-loop-place : goal.decreases-loop-place
-decreases-loop-place l =
-    l.to - l.place

@@ -1,4 +1,4 @@
-use Prim.Native.Nat.{ℕ, ◌-◌, ◌≤◌}
+use Prim.Native.Nat.{ℕ}
 use mathlib.Core.Path.{◌≡◌}
 use mathlib.Core.List.{List}
 use Rattle.syntax.specs.Signatures.{signature_in}
@@ -8,8 +8,4 @@ use Rattle.ranges.proofs.settled.all_constants.Given as goal
 -- `all_constants` meets its contract: the functions before i are constants.
 abbrev pub invariant-loop-i : goal.invariant-loop-i
 invariant-loop-i l =
-    (l.i ≤ l.signature.count) × ((sheet : List ℕ) → constants_from (signature_in sheet l.signature) 0 ≡ constants_from (signature_in sheet l.signature) l.i)
-
-abbrev pub decreases-loop-i : goal.decreases-loop-i
-decreases-loop-i l =
-    l.signature.count - l.i
+    (sheet : List ℕ) → constants_from (signature_in sheet l.signature) 0 ≡ constants_from (signature_in sheet l.signature) l.i

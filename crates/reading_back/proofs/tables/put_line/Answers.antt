@@ -8,7 +8,6 @@ use Rattle.theory.specs.Vectors.{AllBelow}
 use Rattle.theory.specs.Propositional.{width}
 use Rattle.theory.specs.CaseText.{table_text}
 use Rattle.syntax.specs.Signatures.{kind_of, symbol_in}
-use Rattle.text.specs.Put.{put}
 use Rattle.valuations.specs.Cells.{cell_values}
 use Rattle.valuations.proofs.Numbered.{block_within}
 use Rattle.reading_back.specs.Bits.{bits_held, table_in}
@@ -27,7 +26,7 @@ put_table-requires c = let s = c in
     let a = s.args in
     let h = s.requires.table_lent in
     let t = c.table_held in
-    let bits = bits_held a.setting.now a.values.now in
+    let bits = bits_held a.bits in
     let e : t.new.table ≡ table_in a.size.0 a.symbol a.from.0 bits =
     t.ensures ∙ ap (λ (n : ℕ). cell_values a.size.0 (kind_of a.symbol.function) n a.from.0 bits) s.requires.in_bounds.1 in
     record {
@@ -36,12 +35,3 @@ put_table-requires c = let s = c in
       below = subst (AllBelow 8) (sym e) h.below;
       room = subst (λ (l : List ℕ). a.at + length (table_text (symbol_in a.sheet.now a.symbol) l) ≤ length a.out.now) (sym e) s.requires.values_in_bounds;
     }
-
-pub returns : goal.returns
-returns c = let s = c in
-    let a = s.args in
-    let t = c.table_held in
-    let p = c.put_table in
-    let bits = bits_held a.setting.now a.values.now in
-    let e : t.new.table ≡ table_in a.size.0 a.symbol a.from.0 bits =
-    t.ensures ∙ ap (λ (n : ℕ). cell_values a.size.0 (kind_of a.symbol.function) n a.from.0 bits) s.requires.in_bounds.1 in record { written = p.ensures.written ∙ ap (λ (l : List ℕ). put a.out.now a.at (table_text (symbol_in a.sheet.now a.symbol) l)) e; place = p.ensures.place ∙ ap (λ (l : List ℕ). a.at + length (table_text (symbol_in a.sheet.now a.symbol) l)) e }

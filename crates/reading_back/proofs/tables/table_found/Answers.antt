@@ -2,60 +2,12 @@
 use Prim.Native.Nat.{ℕ, ◌+◌, ◌*◌, ◌-◌}
 use mathlib.Core.Path.{◌≡◌, ap, ◌∙◌}
 use native.Mathlib.Omega.{arith}
-use lib.ListN.{length, drop, replicate, length-append}
+use lib.ListN.{length, drop, replicate}
 use Rattle.theory.specs.Propositional.{width}
 use Rattle.theory.specs.Valuation.{values_of}
 use Rattle.syntax.specs.Signatures.{kind_of}
 use Rattle.reading_back.proofs.Bits.{part-kept, front-again, values-of-part}
 use Rattle.reading_back.proofs.tables.table_found.Goals as goal
-
-pub overflow_mul-count : goal.overflow_mul-count
-overflow_mul-count c = let s = c in
-    let a = s.args in
-    let w = c.width in
-    let e : length a.table.now * w.result ≡ length a.table.now * width a.size.0 (kind_of a.function) = ap (λ (n : ℕ). length a.table.now * n) w.ensures in
-    omega (arith, s.requires.size_bound.1, s.well_formed)
-
-pub overflow_add-end : goal.overflow_add-end
-overflow_add-end c = let s = c in
-    let a = s.args in
-    let w = c.width in
-    let e : length a.table.now * w.result ≡ length a.table.now * width a.size.0 (kind_of a.function) = ap (λ (n : ℕ). length a.table.now * n) w.ensures in
-    omega (arith, s.requires.function_in_bounds, s.well_formed)
-
-pub slice_bounds-read_values-end : goal.slice_bounds-read_values-end
-slice_bounds-read_values-end c = let s = c in
-    let a = s.args in
-    let w = c.width in
-    let e : length a.table.now * w.result ≡ length a.table.now * width a.size.0 (kind_of a.function) = ap (λ (n : ℕ). length a.table.now * n) w.ensures in
-    omega (arith, s.requires.function_in_bounds)
-
-pub slice_bounds-read_values-end-2 : goal.slice_bounds-read_values-end-2
-slice_bounds-read_values-end-2 c = let s = c in
-    let a = s.args in
-    let w = c.width in
-    let e : length a.table.now * w.result ≡ length a.table.now * width a.size.0 (kind_of a.function) = ap (λ (n : ℕ). length a.table.now * n) w.ensures in
-    omega (arith, s.requires.size_bound.1)
-
-pub slice_bounds-read_table-end : goal.slice_bounds-read_table-end
-slice_bounds-read_table-end c = let s = c in
-    let a = s.args in
-    let w = c.width in
-    let e : length a.table.now * w.result ≡ length a.table.now * width a.size.0 (kind_of a.function) = ap (λ (n : ℕ). length a.table.now * n) w.ensures in
-    let r = c.read_values in
-    let n : ℕ = length a.table.now * w.result in
-    let kept : length r.new.setting ≡ n = part-kept n a.bits.now r.new.setting (omega (arith, s.requires.size_bound.1)) r.auto.setting in
-    omega (arith, length-append r.new.setting (drop (n - 0) a.bits.now))
-
-pub read_table-requires : goal.read_table-requires
-read_table-requires c = let s = c in
-    let a = s.args in
-    let w = c.width in
-    let e : length a.table.now * w.result ≡ length a.table.now * width a.size.0 (kind_of a.function) = ap (λ (n : ℕ). length a.table.now * n) w.ensures in
-    let r = c.read_values in
-    let n : ℕ = length a.table.now * w.result in
-    let kept : length r.new.setting ≡ n = part-kept n a.bits.now r.new.setting (omega (arith, s.requires.size_bound.1)) r.auto.setting in
-    let front = ap length (front-again n r.new.setting (drop (n - 0) a.bits.now) kept) in record { size_bound = (s.requires.size_bound.0, omega (arith, front, s.requires.function_in_bounds)); function_in_bounds = omega (arith, front) }
 
 pub returns : goal.returns
 returns c = let s = c in
@@ -64,8 +16,8 @@ returns c = let s = c in
     let e : length a.table.now * w.result ≡ length a.table.now * width a.size.0 (kind_of a.function) = ap (λ (n : ℕ). length a.table.now * n) w.ensures in
     let r = c.read_values in
     let n : ℕ = length a.table.now * w.result in
-    let kept : length r.new.setting ≡ n = part-kept n a.bits.now r.new.setting (omega (arith, s.requires.size_bound.1)) r.auto.setting in
+    let kept : length r.new.setting ≡ n = part-kept n a.room.now r.new.setting (omega (arith, s.requires.size_bound.1)) r.auto.setting in
     let k = kind_of a.function in
     c.read_table.ensures
-    ∙ ap (values_of a.size.0 (replicate (length a.table.now) k)) (front-again n r.new.setting (drop (n - 0) a.bits.now) kept ∙ r.ensures)
+    ∙ ap (values_of a.size.0 (replicate (length a.table.now) k)) (front-again n r.new.setting (drop (n - 0) a.room.now) kept ∙ r.ensures)
     ∙ values-of-part a.size.0 k (length a.table.now) a.from.0 (a.from.0 + n) a.values.now (omega arith) (omega (arith, s.requires.function_in_bounds))

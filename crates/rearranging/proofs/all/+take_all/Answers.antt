@@ -77,4 +77,4 @@ returns t c = let z = c in
     let l = c.loop-d in
     λ sheet.
     all-continued a.size.0 a.begun z.requires.1 c.if-size-begun.false (λ p. renumbered a.size.0 (signature_in sheet a.signature) p a.cells.now) a.held.now l.held
-    (all-walked (λ p. renumbered a.size.0 (signature_in sheet a.signature) p a.cells.now) a.size.0 (a.size.0 - (a.begun.count + 1)) (rearrangement_in a.begun) a.held.now l.held l.d (l.invariant sheet) c.loop-d-test.false)
+    (all-walked (λ p. renumbered a.size.0 (signature_in sheet a.signature) p a.cells.now) a.size.0 (a.size.0 - (a.begun.count + 1)) (rearrangement_in a.begun) a.held.now l.held l.d (l.invariant sheet) (omega arith))

@@ -13,7 +13,3 @@ decreases-take_all l = l.size.0 - l.begun.count
 abbrev pub invariant-loop-d : goal.invariant-loop-d
 invariant-loop-d l =
     (sheet : List ℕ) → Walked (λ p. renumbered l.size.0 (signature_in sheet l.signature) p l.cells) l.size.0 (l.size.0 - (l.begun.count + 1)) (rearrangement_in l.begun) l.initial.held l.held l.d
-
-abbrev pub decreases-loop-d : goal.decreases-loop-d
-decreases-loop-d l =
-    l.size.0 - l.d

@@ -1,23 +1,25 @@
-use mathlib.Core.Path.{◌≡◌, sym, ◌∙◌, subst}
+use mathlib.Core.Path.{◌≡◌, sym, subst}
 use native.Mathlib.Omega.{arith}
 use Rattle.rearranging.specs.declared.standing.Standing.{Standing}
 use Rattle.rearranging.specs.declared.standing.Standing.TheVariants.{After}
+use borrow.Author.Rules.{rules}
+use denote.Enum.Bare.{same_true}
+use Rattle.rearranging.specs.contracts.standing.Standing.{the_type}
 use Rattle.rearranging.specs.Keeping.{CandidateTaken}
 use Rattle.rearranging.specs.Candidates.{part_of}
-use Rattle.rearranging.proofs.Keeping.{after-only, after-taken}
+use Rattle.rearranging.proofs.Keeping.{after-taken}
 use Prim.Native.Nat.{◌-◌}
 use Rattle.syntax.specs.Signatures.{kind_of}
 use Rattle.rearranging.specs.Entries.{rearrangement_in}
 use Rattle.rearranging.proofs.Parts.{length_part, none-parts, one_cell, source-last, target-last, value-below, source_fits, next-room, next-lent, next-taken, all-next}
 use Rattle.rearranging.proofs.candidates.+take_part.Goals as goal
 
-pub returns-then-is_after : goal.returns-then-is_after
-returns-then-is_after t c = let z = c in
+pub returns-then-eq : goal.returns-then-eq
+returns-then-eq t c = let z = c in
     let a = z.args in
     let h = z.requires in
-    let k = c.is_after in
     let us = part_of a.size.0 (kind_of a.function) (rearrangement_in a.r) a.cells.now a.left a.from.0 in
-    let e : a.standing ≡ After = after-only a.standing (sym k.ensures ∙ c.if-is_after.true) in
+    let e : a.standing ≡ After = same_true the_type (search rules) _ _ (sym c.if-eq.ensures) in
     subst (λ (q : Standing). CandidateTaken us a.at.0 a.held.now a.held.now q After) (sym e)
     (after-taken us a.at.0 a.held.now (omega (arith, h.target, length_part a.size.0 (kind_of a.function) (rearrangement_in a.r) a.cells.now a.left a.from.0)))
 
@@ -98,4 +100,4 @@ pub returns : goal.returns
 returns t c = let z = c in
     let a = z.args in
     let l = c.loop-d in
-    all-next a.size.0 a.r a.left a.from.0 a.at.0 a.cells.now a.held.now z.requires c.if-left-eq0.false (kind_of a.function) l.held a.standing l.stands l.to l.d l.invariant c.loop-d-test.false
+    all-next a.size.0 a.r a.left a.from.0 a.at.0 a.cells.now a.held.now z.requires c.if-left-eq0.false (kind_of a.function) l.held a.standing l.stands l.to l.d l.invariant (omega arith)

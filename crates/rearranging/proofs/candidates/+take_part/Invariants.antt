@@ -11,7 +11,3 @@ decreases-take_part l = l.left
 abbrev pub invariant-loop-d : goal.invariant-loop-d
 invariant-loop-d l =
     PartsTaken l.size.0 (kind_of l.function) (rearrangement_in l.r) l.cells (l.left - 1) l.first l.initial.to l.initial.held l.held l.initial.stands l.stands l.to l.d
-
-abbrev pub decreases-loop-d : goal.decreases-loop-d
-decreases-loop-d l =
-    l.size.0 - l.d

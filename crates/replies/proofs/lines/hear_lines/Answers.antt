@@ -1,5 +1,4 @@
 use borrow.Author.Rules.{rules}
-use Prim.Native.Nat.{◌-◌}
 use mathlib.Core.Path.{refl}
 use Rattle.replies.proofs.LinesHeard.{begins, unended, one_more, ends}
 use Rattle.replies.proofs.lines.hear_lines.Goals as goal

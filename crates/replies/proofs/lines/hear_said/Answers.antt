@@ -1,4 +1,5 @@
 -- `hear_said`: an s line is due first, then v lines.
+use mathlib.Core.Logic.{⊎_elim}
 use mathlib.Core.Path.{◌∙◌}
 use Rattle.solver.specs.OnePass.{on_said}
 use Rattle.replies.proofs.StageMatches.{on-unanswered, on-refuted, on-listing, on-complete, on-fault}
@@ -14,7 +15,5 @@ pub returns-in-Refuted : goal.returns-in-Refuted
 returns-in-Refuted c = let a = c.args in on-refuted a.stage a.marks.now (on_said a.line.now) c.in-Refuted.is
 
 pub returns-in-Complete : goal.returns-in-Complete
-returns-in-Complete c = let a = c.args in on-complete a.stage a.marks.now (on_said a.line.now) c.in-Complete.is
-
-pub returns-in-Fault : goal.returns-in-Fault
-returns-in-Fault c = let a = c.args in on-fault a.stage a.marks.now (on_said a.line.now) c.in-Fault.is
+returns-in-Complete c = let k = on_said c.args.line.now in
+    ⊎_elim (on-complete c.args.stage c.args.marks.now k) (on-fault c.args.stage c.args.marks.now k) c.in-Complete.is

@@ -2,7 +2,9 @@
 use mathlib.Core.Path.{◌∙◌}
 use Rattle.replies.proofs.Marks.{set_before, set-now}
 use Prim.Native.Nat.{ℕ}
-use mathlib.Core.Path.{ap}
+use mathlib.Core.Path.{◌≡◌, ap}
+use mathlib.Core.Bool.{cond}
+use Rattle.std.proofs.Common.{rules}
 use mathlib.Core.Option.{some}
 use lib.ListN.{set}
 use Rattle.solver.specs.OnePass.{listing, heard}
@@ -14,5 +16,6 @@ returns-then-marks-i-lt-UNSET c = let a = c.args in set_before a.marks.now a.var
 
 pub returns : goal.returns
 returns c = let a = c.args in
-    ap (λ (m : ℕ). some (heard listing (values_in (set a.marks.now a.variable.0 m)))) c.mark_of.ensures
+    let mark-is : c.from.result ≡ cond a.yes 1 0 = search rules in
+    ap (λ (m : ℕ). some (heard listing (values_in (set a.marks.now a.variable.0 m)))) mark-is
     ∙ set-now a.marks.now a.variable.0 a.yes c.requires c.if-marks-i-lt-UNSET.false

@@ -1,4 +1,3 @@
-use Prim.Native.Nat.{◌-◌}
 use mathlib.Core.List.{[]}
 use native.Mathlib.Omega.{arith}
 use Rattle.clauses.proofs.Held.{arity-at}
@@ -7,9 +6,6 @@ use Rattle.settings.proofs.bits.put_valuation.Goals as goal
 
 pub loop-i-init : goal.loop-i-init
 loop-i-init c = let a = c.args in λ sheet. none-put sheet a.signature a.size.0 a.cells.now a.out.now
-
-pub bounds-signature-i : goal.bounds-signature-i
-bounds-signature-i c = omega (arith, c.loop-i-test.true, c.requires.limited.0.count)
 
 pub power-requires : goal.power-requires
 power-requires c = let s = c in
@@ -23,9 +19,6 @@ overflow_add-end c = let s = c in
       arith,
       table-ends a.signature a.size.0 a.cells.now s.requires.limited.0 s.requires.limited.1.0 s.requires.limited.1.1 [] a.out.now l.out l.base l.i (l.invariant []) c.loop-i-test.true c.power.result c.power.ensures,
     )
-
-pub bounds-n-i : goal.bounds-n-i
-bounds-n-i c = omega (arith, c.loop-i-test.true, c.requires.limited.0.count)
 
 pub slice_bounds-put_block-end : goal.slice_bounds-put_block-end
 slice_bounds-put_block-end c = let s = c in
@@ -55,9 +48,6 @@ loop-i-preserved c = let s = c in
     let h = c.loop-i-test.true in
     λ sheet.
     block-put a.signature a.size.0 a.cells.now s.requires.limited.0 s.requires.limited.1.0 s.requires.limited.1.1 sheet a.out.now l.out l.base l.i (l.invariant sheet) h p.result p.ensures a.n (s.requires.by_index.0 sheet) s.requires.by_index.1 b.new.out b.auto.out b.ensures
-
-pub shape_of-out : goal.shape_of-out
-shape_of-out c = (c.loop-i.invariant []).held
 
 pub returns : goal.returns
 returns c = let s = c in

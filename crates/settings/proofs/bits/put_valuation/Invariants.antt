@@ -1,4 +1,4 @@
-use Prim.Native.Nat.{ℕ, ◌-◌}
+use Prim.Native.Nat.{ℕ}
 use mathlib.Core.List.{List}
 use Rattle.settings.proofs.Blocks.{BlocksPut}
 use Rattle.settings.proofs.bits.put_valuation.Given as goal
@@ -7,7 +7,3 @@ use Rattle.settings.proofs.bits.put_valuation.Given as goal
 abbrev pub invariant-loop-i : goal.invariant-loop-i
 invariant-loop-i l =
     (sheet : List ℕ) → BlocksPut sheet l.signature l.size.0 l.cells l.initial.out l.out l.base l.i
-
-abbrev pub decreases-loop-i : goal.decreases-loop-i
-decreases-loop-i l =
-    l.signature.count - l.i

@@ -11,7 +11,7 @@ use Rattle.shallow.proofs.literals.lift.Given as goal
 -- `lift` meets its contract: the literals before the place reached are made shallow.
 abbrev pub invariant-loop-state : goal.invariant-loop-state
 invariant-loop-state l =
-    (l.words ≡ l.m.words) × (length l.m.words ≡ 64) × (length l.place ≡ 8) × ((x : ℕ) → x < 8 → get_or l.place x 0 ≡ place_or8 (place_that (eqb x) (variables_in l.m)))
+    (length l.m.words ≡ 64) × (length l.variables.place ≡ 8) × ((x : ℕ) → x < 8 → get_or l.variables.place x 0 ≡ place_or8 (place_that (eqb x) (variables_in l.m)))
     × ((s : Flattenable l.arities l.m) → Progress s l.state)
 
 abbrev pub decreases-loop-state : goal.decreases-loop-state

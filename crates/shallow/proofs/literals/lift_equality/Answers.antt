@@ -1,4 +1,3 @@
-use Prim.Native.Nat.{◌+◌}
 use mathlib.Core.Path.{sym, subst}
 use native.Mathlib.Omega.{arith}
 use Rattle.lifting.proofs.Steps.{before-end, inside, variable-term, letter-inside, function-inside, function-term, arguments-there}
@@ -7,8 +6,8 @@ use Rattle.shallow.proofs.Equalities.{left_there, right_there, variables-made, t
 use Rattle.shallow.proofs.literals.lift_equality.Goals as goal
 
 -- `lift_equality` meets its contract.
-pub bounds-words-at : goal.bounds-words-at
-bounds-words-at c = inside (left_there c.requires)
+pub bounds-reading-at : goal.bounds-reading-at
+bounds-reading-at c = inside (left_there c.requires)
 
 pub lift_result-requires : goal.lift_result-requires
 lift_result-requires c = (c.requires, c.if-left-lt-LETTER.true)
@@ -16,25 +15,19 @@ lift_result-requires c = (c.requires, c.if-left-lt-LETTER.true)
 pub returns-then-left-lt-LETTER : goal.returns-then-left-lt-LETTER
 returns-then-left-lt-LETTER c s = c.lift_result.ensures s
 
-pub overflow_cast-x : goal.overflow_cast-x
-overflow_cast-x c = omega (arith, c.shared_slice_known-4-1.given c.args.at)
-
-pub bounds-place-left : goal.bounds-place-left
-bounds-place-left c = letter-inside (left_there c.requires) c.if-left-lt-LETTER.false
+pub bounds-reading-left : goal.bounds-reading-left
+bounds-reading-left c = letter-inside (left_there c.requires) c.if-left-lt-LETTER.false
 
 pub overflow_add-second : goal.overflow_add-second
 overflow_add-second c = omega (arith, before-end (left_there c.requires), c.requires.source.short)
 
-pub bounds-words-second : goal.bounds-words-second
-bounds-words-second c = let s = c.requires in
+pub bounds-reading-second : goal.bounds-reading-second
+bounds-reading-second c = let s = c.requires in
     let t = right_there s (variable-term (left_there s) c.if-left-lt-LETTER.false) in
     inside t
 
-pub overflow_cast-y : goal.overflow_cast-y
-overflow_cast-y c = omega (arith, c.shared_slice_known-6-1.given (c.args.at + 1))
-
-pub bounds-place-right : goal.bounds-place-right
-bounds-place-right c = let s = c.requires in
+pub bounds-reading-right : goal.bounds-reading-right
+bounds-reading-right c = let s = c.requires in
     let t = right_there s (variable-term (left_there s) c.if-left-lt-LETTER.false) in
     letter-inside t c.if-right-ge-LETTER.true
 
@@ -55,8 +48,8 @@ overflow_add-second-2 c = let s = c.requires in
     let t = right_there s (variable-term (left_there s) c.if-left-lt-LETTER.false) in
     omega (arith, before-end t, s.source.short)
 
-pub bounds-arities-f : goal.bounds-arities-f
-bounds-arities-f c = let s = c.requires in
+pub bounds-reading-f : goal.bounds-reading-f
+bounds-reading-f c = let s = c.requires in
     let t = right_there s (variable-term (left_there s) c.if-left-lt-LETTER.false) in
     function-inside t c.if-right-ge-LETTER.false
 
@@ -73,4 +66,4 @@ returns c s = let h = c.if-left-lt-LETTER.false in
     let v = variable-term (left_there s) h in
     let q = function-term (right_there s v) c.if-right-ge-LETTER.false in
     let r = c.lift_terms-r in
-    subst (EqualityMade s) (sym c.with-2.ensures) (turned-made s v q r.result (r.ensures (arguments-there (right_there s v) q)) h)
+    subst (EqualityMade s) (sym c.with-2.ensures) (turned-made s v q r.result r.new.table (r.ensures (arguments-there (right_there s v) q)) h)

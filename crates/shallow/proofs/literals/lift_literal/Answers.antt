@@ -1,4 +1,3 @@
-use Prim.Native.Nat.{◌+◌}
 use mathlib.Core.Path.{sym, subst}
 use native.Mathlib.Omega.{arith}
 use Rattle.shallow.specs.Shallow.{LiteralMade}
@@ -6,14 +5,14 @@ use Rattle.shallow.proofs.Atoms.{atom-before-end, equality-atom, equality-there,
 use Rattle.shallow.proofs.literals.lift_literal.Goals as goal
 
 -- `lift_literal` meets its contract.
-pub bounds-words-at : goal.bounds-words-at
-bounds-words-at c = omega (arith, atom-before-end c.requires, c.requires.source.fits)
+pub bounds-reading-at : goal.bounds-reading-at
+bounds-reading-at c = omega (arith, atom-before-end c.requires, c.requires.source.fits)
 
 pub overflow_add-p : goal.overflow_add-p
 overflow_add-p c = omega (arith, atom-before-end c.requires, c.requires.source.short)
 
-pub bounds-words-at-2 : goal.bounds-words-at-2
-bounds-words-at-2 c = omega (arith, atom-before-end c.requires, c.requires.source.fits)
+pub bounds-reading-at-2 : goal.bounds-reading-at-2
+bounds-reading-at-2 c = omega (arith, atom-before-end c.requires, c.requires.source.fits)
 
 pub overflow_add-at : goal.overflow_add-at
 overflow_add-at c = omega (arith, atom-before-end c.requires, c.requires.source.short)
@@ -26,14 +25,11 @@ pub returns-then-p : goal.returns-then-p
 returns-then-p c s = let q = equality-atom s c.if-p.true in
     equality-made s q c.lift_equality.result (c.lift_equality.ensures (equality-there s q))
 
-pub overflow_cast-i : goal.overflow_cast-i
-overflow_cast-i c = omega (arith, c.shared_slice_known-5-1.given (c.args.state.next + 1))
-
 pub overflow_add-at-2 : goal.overflow_add-at-2
 overflow_add-at-2 c = omega (arith, atom-before-end c.requires, c.requires.source.short)
 
-pub bounds-arities-i : goal.bounds-arities-i
-bounds-arities-i c = let s = c.requires in
+pub bounds-reading-i : goal.bounds-reading-i
+bounds-reading-i c = let s = c.requires in
     inside-arities s (predicate-atom s c.if-p.false)
 
 pub lift_terms-r-requires : goal.lift_terms-r-requires
@@ -46,4 +42,4 @@ with-requires c = c.requires.space
 pub returns : goal.returns
 returns c s = let q = predicate-atom s c.if-p.false in
     let r = c.lift_terms-r in
-    subst (LiteralMade s) (sym c.with.ensures) (predicate-made s q r.result (r.ensures (predicate-there s q)))
+    subst (LiteralMade s) (sym c.with.ensures) (predicate-made s q r.result r.new.table (r.ensures (predicate-there s q)))

@@ -6,14 +6,14 @@ use Rattle.shallow.proofs.Equalities.{left_there, second-there, result-made}
 use Rattle.shallow.proofs.literals.lift_result.Goals as goal
 
 -- `lift_result` meets its contract.
-pub bounds-words-at : goal.bounds-words-at
-bounds-words-at c = inside (left_there c.requires.0)
+pub bounds-reading-at : goal.bounds-reading-at
+bounds-reading-at c = inside (left_there c.requires.0)
 
 pub overflow_add-at : goal.overflow_add-at
 overflow_add-at c = omega (arith, inside (left_there c.requires.0), c.well_formed)
 
-pub bounds-arities-f : goal.bounds-arities-f
-bounds-arities-f c = function-inside (left_there c.requires.0) c.requires.1
+pub bounds-reading-f : goal.bounds-reading-f
+bounds-reading-f c = function-inside (left_there c.requires.0) c.requires.1
 
 pub lift_terms-r-requires : goal.lift_terms-r-requires
 lift_terms-r-requires c = let t = left_there c.requires.0 in
@@ -23,7 +23,7 @@ pub lift_term-y-requires : goal.lift_term-y-requires
 lift_term-y-requires c = let s = c.requires.0 in
     let p = function-term (left_there s) c.requires.1 in
     let r = c.lift_terms-r in
-    second-there s p r.result (r.ensures (arguments-there (left_there s) p))
+    second-there s p r.result r.new.table (r.ensures (arguments-there (left_there s) p))
 
 pub with-requires : goal.with-requires
 with-requires c = c.requires.0.space
@@ -33,4 +33,4 @@ returns c s = let p = function-term (left_there s) c.requires.1 in
     let r = c.lift_terms-r in
     let y = c.lift_term-y in
     let e = r.ensures (arguments-there (left_there s) p) in
-    subst (EqualityMade s) (sym c.with.ensures) (result-made s p r.result e y.result (y.ensures (second-there s p r.result e)))
+    subst (EqualityMade s) (sym c.with.ensures) (result-made s p r.result r.new.table e y.result y.new.table (y.ensures (second-there s p r.result r.new.table e)))

@@ -1,12 +1,7 @@
-use Prim.Native.Nat.{◌-◌, ◌≤◌}
 use Rattle.sheet_text.proofs.WordsBefore.{WordsMeasured}
 use Rattle.sheet_text.proofs.clause_lines.clause_line_length.Given as goal
 
 -- `clause_line_length` meets its contract: n is the length of the line with the words before i.
 abbrev pub invariant-loop-i : goal.invariant-loop-i
 invariant-loop-i l =
-    (l.i ≤ l.words.count) × WordsMeasured l.signature l.words l.i l.n
-
-abbrev pub decreases-loop-i : goal.decreases-loop-i
-decreases-loop-i l =
-    l.words.count - l.i
+    WordsMeasured l.signature l.words l.i l.n

@@ -1,7 +1,6 @@
-use Prim.Native.Nat.{◌-◌}
 use mathlib.Core.Path.{◌≡◌, refl, sym, ◌∙◌}
 use native.Mathlib.Omega.{arith}
-use lib.ListN.{length, length-set}
+use lib.ListN.{length}
 use borrow.Author.Rules.{rules}
 use Rattle.syntax.specs.Signatures.{signature_in}
 use Rattle.text.specs.Put.{put-none}
@@ -14,7 +13,7 @@ put_bytes-e-requires c = let s = c in
     omega (arith, s.requires.1, before-within (signature_in s.args.text.now s.args.signature) s.args.words (omega (arith, s.requires.0.fits)) 0)
 
 pub loop-i-init : goal.loop-i-init
-loop-i-init c = let p = c.put_bytes-e in (omega arith, refl, sym (put-none p.new.out p.result), omega arith)
+loop-i-init c = let p = c.put_bytes-e in (refl, sym (put-none p.new.out p.result), omega arith)
 
 pub put_next_word-e-requires : goal.put_next_word-e-requires
 put_next_word-e-requires c = let l = c.loop-i in
@@ -23,7 +22,7 @@ put_next_word-e-requires c = let l = c.loop-i in
     let s = c in
     let n : length s.args.words.words ≡ 64 = search rules in (
       writable-at s.args.signature s.args.words (omega (arith, s.requires.0.fits)) s.args.text.now s.requires.0 l.i t,
-      omega (arith, s.requires.1, p.auto.out, p.ensures.place, l.invariant.1, l.invariant.3, before-fits (signature_in s.args.text.now s.args.signature) s.args.words (omega (arith, s.requires.0.fits)) l.i t),
+      omega (arith, s.requires.1, p.auto.out, p.ensures.place, l.invariant.0, l.invariant.2, before-fits (signature_in s.args.text.now s.args.signature) s.args.words (omega (arith, s.requires.0.fits)) l.i t),
     )
 
 pub loop-i-preserved : goal.loop-i-preserved
@@ -35,29 +34,26 @@ loop-i-preserved c = let l = c.loop-i in
     let g = signature_in s.args.text.now s.args.signature in
     let n : length s.args.words.words ≡ 64 = search rules in
     let r = one-more-written g s.args.words (omega (arith, s.requires.0.fits)) p.new.out l.out q.new.out p.result l.e q.result l.i t
-    (omega (arith, s.requires.1, p.auto.out, p.ensures.place, l.invariant.3, before-fits g s.args.words (omega (arith, s.requires.0.fits)) l.i t)) l.invariant.2 l.invariant.3 q.ensures.written q.ensures.place in
-    (omega arith, q.auto.out ∙ l.invariant.1, r.0, r.1)
+    (omega (arith, s.requires.1, p.auto.out, p.ensures.place, l.invariant.2, before-fits g s.args.words (omega (arith, s.requires.0.fits)) l.i t)) l.invariant.1 l.invariant.2 q.ensures.written q.ensures.place in
+    (q.auto.out ∙ l.invariant.0, r.0, r.1)
 
 pub bounds-out-e : goal.bounds-out-e
 bounds-out-e c = let l = c.loop-i in
     let p = c.put_bytes-e in
     let s = c in
     let n : length s.args.words.words ≡ 64 = search rules in
-    omega (arith, s.requires.1, p.auto.out, p.ensures.place, l.invariant.1, l.invariant.3, before-within (signature_in s.args.text.now s.args.signature) s.args.words (omega (arith, s.requires.0.fits)) l.i)
+    omega (arith, s.requires.1, p.auto.out, p.ensures.place, l.invariant.0, l.invariant.2, before-within (signature_in s.args.text.now s.args.signature) s.args.words (omega (arith, s.requires.0.fits)) l.i)
 
 pub overflow_add-result : goal.overflow_add-result
 overflow_add-result c = let l = c.loop-i in
     let p = c.put_bytes-e in
     let s = c in
     let n : length s.args.words.words ≡ 64 = search rules in
-    omega (arith, s.well_formed, s.requires.1, p.ensures.place, l.invariant.3, before-within (signature_in s.args.text.now s.args.signature) s.args.words (omega (arith, s.requires.0.fits)) l.i)
-
-pub shape_of-out : goal.shape_of-out
-shape_of-out c = simp length-set (c.loop-i.invariant.1 ∙ c.put_bytes-e.auto.out)
+    omega (arith, s.well_formed, s.requires.1, p.ensures.place, l.invariant.2, before-within (signature_in s.args.text.now s.args.signature) s.args.words (omega (arith, s.requires.0.fits)) l.i)
 
 pub returns : goal.returns
 returns c = let l = c.loop-i in
     let p = c.put_bytes-e in
     let s = c in
     let n : length s.args.words.words ≡ 64 = search rules in let both = all-written (signature_in s.args.text.now s.args.signature) s.args.words (omega (arith, s.requires.0.fits)) s.args.out.now p.new.out l.out s.args.at p.result l.e l.i c.loop-i-test.false s.requires.1
-    p.ensures.written p.ensures.place l.invariant.2 l.invariant.3 in record { written = both.0; place = both.1 }
+    p.ensures.written p.ensures.place l.invariant.1 l.invariant.2 in record { written = both.0; place = both.1 }

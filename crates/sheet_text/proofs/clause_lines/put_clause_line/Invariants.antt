@@ -1,4 +1,4 @@
-use Prim.Native.Nat.{◌+◌, ◌-◌, ◌≤◌}
+use Prim.Native.Nat.{◌+◌}
 use mathlib.Core.Path.{◌≡◌}
 use lib.ListN.{length}
 use Rattle.syntax.specs.Signatures.{signature_in}
@@ -9,8 +9,4 @@ use Rattle.sheet_text.proofs.clause_lines.put_clause_line.Given as goal
 -- `put_clause_line` meets its contract: the words before i are written.
 abbrev pub invariant-loop-i : goal.invariant-loop-i
 invariant-loop-i l =
-    (l.i ≤ l.words.count) × (length l.out ≡ length l.initial.out) × (l.out ≡ put l.initial.out l.initial.e (words_before (signature_in l.text l.signature) l.words l.i)) × (l.e ≡ l.initial.e + length (words_before (signature_in l.text l.signature) l.words l.i))
-
-abbrev pub decreases-loop-i : goal.decreases-loop-i
-decreases-loop-i l =
-    l.words.count - l.i
+    (length l.out ≡ length l.initial.out) × (l.out ≡ put l.initial.out l.initial.e (words_before (signature_in l.text l.signature) l.words l.i)) × (l.e ≡ l.initial.e + length (words_before (signature_in l.text l.signature) l.words l.i))

@@ -7,7 +7,7 @@ use Rattle.sheet_text.proofs.head.kind_length.Goals as goal
 pub count_line_length-requires : goal.count_line_length-requires
 count_line_length-requires c = let s = c in
     let a = s.args in
-    omega (arith, s.requires.counting_len_bound.0, count-line-short a.counting.now (a.to - a.from) (omega (arith, s.requires.short_names.0.limited.count, s.requires.short_names.1.within)))
+    omega (arith, s.requires.counting_len_bound.0, count-line-short a.k.counting.now (a.k.to - a.k.from) (omega (arith, s.requires.short_names.0.limited.count, s.requires.short_names.1.within)))
 
 pub overflow_add-result : goal.overflow_add-result
 overflow_add-result c = let s = c in
@@ -17,7 +17,7 @@ overflow_add-result c = let s = c in
       s.requires.counting_len_bound.0,
       s.requires.short_names.0.limited.count,
       s.requires.short_names.1.within,
-      count-line-short a.counting.now (a.to - a.from) (omega (arith, s.requires.short_names.0.limited.count, s.requires.short_names.1.within)),
+      count-line-short a.k.counting.now (a.k.to - a.k.from) (omega (arith, s.requires.short_names.0.limited.count, s.requires.short_names.1.within)),
       c.count_line_length.ensures,
       c.symbol_lines_length.ensures.short,
     )
@@ -26,4 +26,4 @@ pub returns : goal.returns
 returns c = let s = c in
     let a = s.args in
     let p = c.count_line_length in
-    let q = c.symbol_lines_length in record { length = λ text r. omega (arith, p.ensures, q.ensures.length text r, kind-length a.counting.now a.key.now text a.signature r a.from a.to s.requires.short_names.1.within); short = omega (arith, s.requires.counting_len_bound.0, p.ensures, q.ensures.short, count-line-short a.counting.now (a.to - a.from) (omega (arith, s.requires.short_names.0.limited.count, s.requires.short_names.1.within))) }
+    let q = c.symbol_lines_length in record { length = λ text r. omega (arith, p.ensures, q.ensures.length text r, kind-length a.k.counting.now a.k.key.now text a.signature r a.k.from a.k.to s.requires.short_names.1.within); short = omega (arith, s.requires.counting_len_bound.0, p.ensures, q.ensures.short, count-line-short a.k.counting.now (a.k.to - a.k.from) (omega (arith, s.requires.short_names.0.limited.count, s.requires.short_names.1.within))) }

@@ -1,4 +1,4 @@
-use Prim.Native.Nat.{◌+◌, ◌-◌, ◌≤◌}
+use Prim.Native.Nat.{◌+◌}
 use mathlib.Core.Path.{◌≡◌}
 use lib.ListN.{length}
 use Rattle.text.specs.Put.{put}
@@ -8,8 +8,4 @@ use Rattle.sheet_text.proofs.head.put_symbol_lines.Given as goal
 -- `put_symbol_lines` meets its contract: the lines of the symbols before i are written.
 abbrev pub invariant-loop-i : goal.invariant-loop-i
 invariant-loop-i l =
-    (l.from ≤ l.i) × (l.i ≤ l.to) × (length l.out ≡ length l.initial.out) × (l.out ≡ put l.initial.out l.at (lines_of l.key l.text l.signature l.from l.i)) × (l.e ≡ l.at + length (lines_of l.key l.text l.signature l.from l.i))
-
-abbrev pub decreases-loop-i : goal.decreases-loop-i
-decreases-loop-i l =
-    l.to - l.i
+    (length l.out ≡ length l.initial.out) × (l.out ≡ put l.initial.out l.at (lines_of l.k.key.now l.text l.signature l.k.from l.i)) × (l.e ≡ l.at + length (lines_of l.k.key.now l.text l.signature l.k.from l.i))

@@ -1,4 +1,3 @@
-use Prim.Native.Nat.{◌-◌}
 use native.Mathlib.Omega.{arith}
 use mathlib.Core.Path.{◌≡◌}
 use Rattle.sheet_text.proofs.Symbols.{short-at}
@@ -7,7 +6,7 @@ use Rattle.sheet_text.proofs.head.symbol_lines_length.Goals as goal
 
 pub loop-i-init : goal.loop-i-init
 loop-i-init c = let s = c in
-    (omega arith, s.requires.1.0.ordered, no_lines s.args.key.now s.args.signature s.args.from (omega (arith, s.requires.1.0.ordered, s.requires.1.0.within)))
+    no_lines s.args.k.key.now s.args.signature s.args.k.from (omega (arith, s.requires.1.0.ordered, s.requires.1.0.within))
 
 pub symbol_line_length-n-requires : goal.symbol_line_length-n-requires
 symbol_line_length-n-requires c = let s = c in
@@ -22,7 +21,7 @@ overflow_add-n c = let s = c in
       s.requires.1.1,
       s.requires.0.limited.count,
       s.requires.1.0.within,
-      l.invariant.2.within,
+      l.invariant.within,
       c.symbol_line_length-n.ensures.short,
       short-at s.args.signature s.requires.0 l.i (omega (arith, s.requires.1.0.within)),
     )
@@ -31,13 +30,10 @@ pub loop-i-preserved : goal.loop-i-preserved
 loop-i-preserved c = let s = c in
     let l = c.loop-i in
     let p = c.symbol_line_length-n in
-    let short = short-at s.args.signature s.requires.0 l.i (omega (arith, s.requires.1.0.within)) in (
-      omega arith,
-      omega arith,
-      one_line s.args.key.now s.args.signature s.args.from l.i l.n p.result l.invariant.0 (omega (arith, s.requires.1.0.within)) (omega (arith, s.requires.1.1, p.ensures.short)) p.ensures.length l.invariant.2,
-    )
+    let short = short-at s.args.signature s.requires.0 l.i (omega (arith, s.requires.1.0.within)) in
+    one_line s.args.k.key.now s.args.signature s.args.k.from l.i l.n p.result (omega arith) (omega (arith, s.requires.1.0.within)) (omega (arith, s.requires.1.1, p.ensures.short)) p.ensures.length l.invariant
 
 pub returns : goal.returns
 returns c = let s = c in
     let l = c.loop-i in
-    let e : l.i ≡ s.args.to = omega arith in record { length = λ text r. rw e at (l.invariant.2.measured text r); short = omega (arith, l.invariant.2.within) }
+    let e : l.i ≡ s.args.k.to = omega (arith, s.requires.1.0.ordered) in record { length = λ text r. rw e at (l.invariant.measured text r); short = omega (arith, l.invariant.within) }

@@ -24,13 +24,13 @@ with_code-plus-requires c = let z = c in
 pub with_code-equals-requires : goal.with_code-equals-requires
 with_code-equals-requires c = let z = c in
     let g = signature_in [] z.args.all in
-    let p = c.with_code-plus.ensures.extended [] [] (subst (Passed g []) (sym c.no_words.ensures) (passed_none g)) in
+    let p = c.with_code-plus.ensures [] [] (subst (Passed g []) (sym c.no_words.ensures) (passed_none g)) in
     (z.requires.0, (or_right (ltb (code_of equals) z.args.all.count) (is_fixed_code (code_of equals)) refl, passed-bounded g (sign true ∷ []) c.with_code-plus.result p (omega (arith, p.count))))
 
 pub with_code-requires : goal.with_code-requires
 with_code-requires c = let z = c in
     let g = signature_in [] z.args.all in
-    let p = c.with_code-equals.ensures.extended [] (sign true ∷ []) (c.with_code-plus.ensures.extended [] [] (subst (Passed g []) (sym c.no_words.ensures) (passed_none g))) in (
+    let p = c.with_code-equals.ensures [] (sign true ∷ []) (c.with_code-plus.ensures [] [] (subst (Passed g []) (sym c.no_words.ensures) (passed_none g))) in (
       z.requires.0,
       (
         or_left (ltb z.args.place z.args.all.count) (is_fixed_code z.args.place) (ltb-of-< z.args.place z.args.all.count z.requires.1),
@@ -41,5 +41,5 @@ with_code-requires c = let z = c in
 pub returns : goal.returns
 returns c sheet = let z = c in
     let g = signature_in sheet z.args.all in
-    let p = c.with_code-equals.ensures.extended sheet (sign true ∷ []) (c.with_code-plus.ensures.extended sheet [] (subst (Passed g []) (sym c.no_words.ensures) (passed_none g))) in
-    subst (λ (x : Word). Passed g (sign true ∷ equals ∷ x ∷ []) c.with_code.result) (word_of-symbol z.args.place (omega (arith, z.requires.0.count, z.requires.1))) (c.with_code.ensures.extended sheet (sign true ∷ equals ∷ []) p)
+    let p = c.with_code-equals.ensures sheet (sign true ∷ []) (c.with_code-plus.ensures sheet [] (subst (Passed g []) (sym c.no_words.ensures) (passed_none g))) in
+    subst (λ (x : Word). Passed g (sign true ∷ equals ∷ x ∷ []) c.with_code.result) (word_of-symbol z.args.place (omega (arith, z.requires.0.count, z.requires.1))) (c.with_code.ensures sheet (sign true ∷ equals ∷ []) p)

@@ -1,4 +1,3 @@
-use Prim.Native.Nat.{◌-◌}
 use native.Mathlib.Omega.{arith}
 use Rattle.theory.specs.Grammar.{clause_words}
 use Rattle.syntax.specs.Signatures.{signature_in}
@@ -45,7 +44,7 @@ returns-then-words-gt-MAX_WORDS c = let z = c in
     let n = count-signature_in a.all z.requires.limited a.sheet.now in
     let l = c.loop-at in
     let ws = clause_words (helper_clause a.place (term_at g a.sheet.now a.term)) in
-    overlong g g⁺ a.sheet.now ws a.term.to l.at l.words l.invariant c.next_word-word.result c.next_word-word.ensures c.with_code-words.result (c.with_code-words.ensures.extended a.sheet.now) c.if-words-gt-MAX_WORDS.true
+    overlong g g⁺ a.sheet.now ws a.term.to l.at l.words l.invariant c.next_word-word.result c.next_word-word.ensures c.with_code-words.result (c.with_code-words.ensures a.sheet.now) c.if-words-gt-MAX_WORDS.true
 
 pub overflow_add-at : goal.overflow_add-at
 overflow_add-at c = let z = c in omega (arith, z.well_formed, z.requires.there.within.to, c.next_word-word.ensures.within)
@@ -63,7 +62,7 @@ loop-at-preserved c = let z = c in
     let n = count-signature_in a.all z.requires.limited a.sheet.now in
     let l = c.loop-at in
     let ws = clause_words (helper_clause a.place (term_at g a.sheet.now a.term)) in
-    goes_on g g⁺ a.sheet.now ws a.term.to l.at l.words l.invariant c.next_word-word.result c.next_word-word.ensures c.with_code-words.result (c.with_code-words.ensures.extended a.sheet.now)
+    goes_on g g⁺ a.sheet.now ws a.term.to l.at l.words l.invariant c.next_word-word.result c.next_word-word.ensures c.with_code-words.result (c.with_code-words.ensures a.sheet.now)
     (omega (arith, n, z.requires.limited.count)) (omega (arith, m, n, z.requires.fewer)) c.if-words-gt-MAX_WORDS.false
 
 pub returns : goal.returns

@@ -1,4 +1,4 @@
-use Prim.Native.Nat.{ℕ, ◌+◌, ◌-◌}
+use Prim.Native.Nat.{ℕ, ◌+◌}
 use mathlib.Core.Path.{sym, ap, ◌∙◌, subst}
 use mathlib.Core.Bool.{Bool, ◌&&◌}
 use native.Mathlib.Omega.{arith}
@@ -16,7 +16,7 @@ use Rattle.shortening.proofs.Measuring.{next-helper, helper-measured, no-helper,
 use Rattle.shortening.proofs.limits.helpers_fit.Goals as goal
 
 pub loop-i-init : goal.loop-i-init
-loop-i-init c = let z = c in let a = z.args in (omega arith, all-helpers a.sheet.now a.signature a.all z.requires.behind a.terms)
+loop-i-init c = let z = c in let a = z.args in all-helpers a.sheet.now a.signature a.all z.requires.behind a.terms
 
 pub overflow_add-signature : goal.overflow_add-signature
 overflow_add-signature c = let z = c in omega (arith, z.requires.declared.few, z.requires.there.table.count, c.loop-i-test.true)
@@ -59,7 +59,7 @@ returns-then-not-fits c = let z = c in
     let t = c.loop-i-test.true in
     let m = helper-measured a.sheet.now a.signature a.all z.requires.behind a.terms z.requires.there l.i t w.result
     (subst (λ (k : ℕ). WordsTo (signature_in a.sheet.now a.all) (clause_words (helper_clause (k + l.i) (term_at g a.sheet.now (get_or a.terms.spans l.i no_span)))) w.result) (sym n) w.ensures) in
-    sym (l.invariant.1 ∙ next-helper a.sheet.now a.signature a.all z.requires.behind a.terms z.requires.there l.i t
+    sym (l.invariant ∙ next-helper a.sheet.now a.signature a.all z.requires.behind a.terms z.requires.there l.i t
     ∙ ap (λ (b : Bool). b && lists.all is_within (helper_clauses (length g + (l.i + 1)) (drop (l.i + 1) (terms_in g a.sheet.now a.terms)))) (sym (c.fits.ensures m) ∙ c.if-not-fits.true))
 
 pub loop-i-preserved : goal.loop-i-preserved
@@ -71,14 +71,12 @@ loop-i-preserved c = let z = c in
     let w = c.helper_words-words in
     let t = c.loop-i-test.true in
     let m = helper-measured a.sheet.now a.signature a.all z.requires.behind a.terms z.requires.there l.i t w.result
-    (subst (λ (k : ℕ). WordsTo (signature_in a.sheet.now a.all) (clause_words (helper_clause (k + l.i) (term_at g a.sheet.now (get_or a.terms.spans l.i no_span)))) w.result) (sym n) w.ensures) in (
-      omega arith,
-      l.invariant.1 ∙ next-helper a.sheet.now a.signature a.all z.requires.behind a.terms z.requires.there l.i t
-          ∙ ap (λ (b : Bool). b && lists.all is_within (helper_clauses (length g + (l.i + 1)) (drop (l.i + 1) (terms_in g a.sheet.now a.terms)))) (sym (c.fits.ensures m) ∙ c.if-not-fits.false),
-    )
+    (subst (λ (k : ℕ). WordsTo (signature_in a.sheet.now a.all) (clause_words (helper_clause (k + l.i) (term_at g a.sheet.now (get_or a.terms.spans l.i no_span)))) w.result) (sym n) w.ensures) in
+    l.invariant ∙ next-helper a.sheet.now a.signature a.all z.requires.behind a.terms z.requires.there l.i t
+    ∙ ap (λ (b : Bool). b && lists.all is_within (helper_clauses (length g + (l.i + 1)) (drop (l.i + 1) (terms_in g a.sheet.now a.terms)))) (sym (c.fits.ensures m) ∙ c.if-not-fits.false)
 
 pub returns : goal.returns
 returns c = let z = c in
     let a = z.args in
     let l = c.loop-i in
-    no-helper a.sheet.now a.signature a.all z.requires.behind a.terms z.requires.there l.i c.loop-i-test.false ∙ sym l.invariant.1
+    no-helper a.sheet.now a.signature a.all z.requires.behind a.terms z.requires.there l.i c.loop-i-test.false ∙ sym l.invariant

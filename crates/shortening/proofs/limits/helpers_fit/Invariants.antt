@@ -1,4 +1,4 @@
-use Prim.Native.Nat.{◌+◌, ◌-◌, ◌≤◌}
+use Prim.Native.Nat.{◌+◌}
 use mathlib.Core.Path.{◌≡◌}
 use lib.ListN.{length, drop}
 use Rattle.theory.specs.Lists as lists
@@ -13,8 +13,4 @@ abbrev pub invariant-loop-i : goal.invariant-loop-i
 invariant-loop-i l =
     let g = signature_in l.sheet l.signature in
     let T = terms_in g l.sheet l.terms in
-    (l.i ≤ l.terms.count) × (lists.all is_within (helper_clauses (length g) T) ≡ lists.all is_within (helper_clauses (length g + l.i) (drop l.i T)))
-
-abbrev pub decreases-loop-i : goal.decreases-loop-i
-decreases-loop-i l =
-    l.terms.count - l.i
+    lists.all is_within (helper_clauses (length g) T) ≡ lists.all is_within (helper_clauses (length g + l.i) (drop l.i T))

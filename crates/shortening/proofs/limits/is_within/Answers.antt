@@ -9,8 +9,8 @@ use Rattle.shortening.proofs.HelperSymbols.{limited-behind}
 use Rattle.shortening.proofs.Measuring.{over-full, short-measured, over-short, terms-there, helpers-decide}
 use Rattle.shortening.proofs.limits.is_within.Goals as goal
 
-pub shorten-line-requires : goal.shorten-line-requires
-shorten-line-requires c = let z = c in
+pub shorten-requires : goal.shorten-requires
+shorten-requires c = let z = c in
     let a = z.args in
     let g = signature_in a.sheet.now a.signature in
     let h = c.with_helpers-all in
@@ -22,14 +22,13 @@ shorten-line-requires c = let z = c in
       room = λ l k le room. omega (arith, n, h.ensures.count);
     }
 
-pub returns-then-line : goal.returns-then-line
-returns-then-line c l = let z = c in
+pub returns-in_default : goal.returns-in_default
+returns-in_default c l = let z = c in
     let a = z.args in
     let g = signature_in a.sheet.now a.signature in
     let all⁺ = c.with_helpers-all in
     let none = c.none in
-    let r = c.shorten-line in
-    over-full g a.sheet.now none.result none.ensures.count l.clause ((r.ensures l).full c.if-line.true)
+    over-full g a.sheet.now none.result none.ensures.count l.clause (c.in_default.ensures l)
 
 pub fits-requires : goal.fits-requires
 fits-requires c = let z = c in
@@ -37,10 +36,10 @@ fits-requires c = let z = c in
     let g = signature_in a.sheet.now a.signature in
     let all⁺ = c.with_helpers-all in
     let none = c.none in
-    let r = c.shorten-line in
+    let r = c.in-Some in
     let l = z.requires.line in (
       limited-behind a.signature max_helpers all⁺.result all⁺.ensures z.requires.declared.readable.limited z.requires.declared.few (omega (arith, z.requires.declared.few)),
-      short-measured g a.sheet.now none.result none.ensures.count l.clause a.signature all⁺.result refl all⁺.ensures l.ok r.result c.if-line.false (r.ensures l),
+      short-measured g a.sheet.now none.result none.ensures.count l.clause a.signature all⁺.result refl all⁺.ensures l.ok r.line (r.ensures l),
     )
 
 pub returns-then-not-fits : goal.returns-then-not-fits
@@ -49,10 +48,9 @@ returns-then-not-fits c l = let z = c in
     let g = signature_in a.sheet.now a.signature in
     let all⁺ = c.with_helpers-all in
     let none = c.none in
-    let r = c.shorten-line in
-    let full = c.if-line.false in
-    let m = short-measured g a.sheet.now none.result none.ensures.count l.clause a.signature all⁺.result refl all⁺.ensures l.ok r.result full (r.ensures l) in
-    over-short g a.sheet.now none.result none.ensures.count l.clause a.signature all⁺.result refl all⁺.ensures l.ok r.result full (r.ensures l) (sym (c.fits.ensures m) ∙ c.if-not-fits.true)
+    let r = c.in-Some in
+    let m = short-measured g a.sheet.now none.result none.ensures.count l.clause a.signature all⁺.result refl all⁺.ensures l.ok r.line (r.ensures l) in
+    over-short g a.sheet.now none.result none.ensures.count l.clause a.signature all⁺.result refl all⁺.ensures l.ok r.line (r.ensures l) (sym (c.fits.ensures m) ∙ c.if-not-fits.true)
 
 pub helpers_fit-requires : goal.helpers_fit-requires
 helpers_fit-requires c = let z = c in
@@ -60,14 +58,13 @@ helpers_fit-requires c = let z = c in
     let g = signature_in a.sheet.now a.signature in
     let all⁺ = c.with_helpers-all in
     let none = c.none in
-    let r = c.shorten-line in
+    let r = c.in-Some in
     let l = z.requires.line in
-    let full = c.if-line.false in
-    let m = short-measured g a.sheet.now none.result none.ensures.count l.clause a.signature all⁺.result refl all⁺.ensures l.ok r.result full (r.ensures l) in
+    let m = short-measured g a.sheet.now none.result none.ensures.count l.clause a.signature all⁺.result refl all⁺.ensures l.ok r.line (r.ensures l) in
     record {
       declared = z.requires.declared;
       behind = all⁺.ensures;
-      there = terms-there g a.sheet.now none.result none.ensures.count l.clause a.signature all⁺.result refl all⁺.ensures l.ok r.result full (r.ensures l) (sym (c.fits.ensures m) ∙ c.if-not-fits.false);
+      there = terms-there g a.sheet.now none.result none.ensures.count l.clause a.signature all⁺.result refl all⁺.ensures l.ok r.line (r.ensures l) (sym (c.fits.ensures m) ∙ c.if-not-fits.false);
     }
 
 pub returns : goal.returns
@@ -76,8 +73,7 @@ returns c l = let z = c in
     let g = signature_in a.sheet.now a.signature in
     let all⁺ = c.with_helpers-all in
     let none = c.none in
-    let r = c.shorten-line in
-    let full = c.if-line.false in
-    let m = short-measured g a.sheet.now none.result none.ensures.count l.clause a.signature all⁺.result refl all⁺.ensures l.ok r.result full (r.ensures l) in
-    helpers-decide g a.sheet.now none.result none.ensures.count l.clause a.signature all⁺.result refl all⁺.ensures l.ok r.result full (r.ensures l)
+    let r = c.in-Some in
+    let m = short-measured g a.sheet.now none.result none.ensures.count l.clause a.signature all⁺.result refl all⁺.ensures l.ok r.line (r.ensures l) in
+    helpers-decide g a.sheet.now none.result none.ensures.count l.clause a.signature all⁺.result refl all⁺.ensures l.ok r.line (r.ensures l)
     (sym (c.fits.ensures m) ∙ c.if-not-fits.false) c.helpers_fit.result c.helpers_fit.ensures

@@ -8,7 +8,6 @@ use Rattle.syntax.specs.Codes.{code_word}
 use Rattle.clauses.specs.Words.{is_code}
 use Rattle.shortening.specs.Opening.{is_opening}
 use Rattle.clauses.proofs.Held.{count-signature_in}
-use Rattle.shortening.specs.FixedEnds.{EndOf}
 use Rattle.shortening.specs.ShortLines.{NameGiven}
 use Rattle.shortening.proofs.ShortSteps.{coded-here, closed-step, term-here, varying-step, span-within, span-there, named_step}
 use Rattle.shortening.proofs.short.short_word.Goals as goal
@@ -40,26 +39,26 @@ name_of-requires c = let z = c in
     let w = c.next_word-word in
     let opening : is_opening (signature_in a.sheet.now a.signature) (code_word w.result.code) ≡ true = sym (c.opens_term.ensures a.sheet.now) ∙ c.if-not-opens_term.false in
     let t = term-here (signature_in a.sheet.now a.signature) a.sheet.now a.at a.to w.result w.ensures z.requires.here opening in
-    let e = subst (EndOf t) c.in-At.is (c.fixed_end.ensures t) in
+    let e = c.in-Some.ensures t in
     (z.requires.declared.few, (z.requires.there.table, span-within (signature_in a.sheet.now a.signature) a.sheet.now a.at a.to w.result w.ensures z.requires.here opening _ e z.requires.within))
 
-pub returns-in-Varies : goal.returns-in-Varies
-returns-in-Varies c l = let z = c in
+pub returns-in-None : goal.returns-in-None
+returns-in-None c l = let z = c in
     let a = z.args in
     let w = c.next_word-word in
     let opening : is_opening (signature_in a.sheet.now a.signature) (code_word w.result.code) ≡ true = sym (c.opens_term.ensures a.sheet.now) ∙ c.if-not-opens_term.false in
     let t = term-here (signature_in a.sheet.now a.signature) a.sheet.now a.at a.to w.result w.ensures l opening in
-    varying-step (signature_in a.sheet.now a.signature) a.sheet.now a.at a.to w.result w.ensures l opening a.terms z.requires.there (subst (EndOf t) c.in-Varies.is (c.fixed_end.ensures t))
+    varying-step (signature_in a.sheet.now a.signature) a.sheet.now a.at a.to w.result w.ensures l opening a.terms z.requires.there (c.in-None.ensures t)
 
-pub returns-in-At : goal.returns-in-At
-returns-in-At c l = let z = c in
+pub returns-in-Some : goal.returns-in-Some
+returns-in-Some c l = let z = c in
     let a = z.args in
     let g = signature_in a.sheet.now a.signature in
     let w = c.next_word-word in
     let opening : is_opening g (code_word w.result.code) ≡ true = sym (c.opens_term.ensures a.sheet.now) ∙ c.if-not-opens_term.false in
     let t = term-here g a.sheet.now a.at a.to w.result w.ensures l opening in
-    let e = subst (EndOf t) c.in-At.is (c.fixed_end.ensures t) in
+    let e = c.in-Some.ensures t in
     let n = count-signature_in a.signature z.requires.declared.readable.limited a.sheet.now in
     named_step g a.sheet.now a.at a.to w.result w.ensures l opening _ e z.requires.within a.terms c.name_of.result (omega (arith, n, z.requires.declared.few))
-    (subst (λ (k : ℕ). NameGiven g a.sheet.now k a.terms (record { from = a.at; to = c.in-At.end }) c.name_of.result) (sym n)
+    (subst (λ (k : ℕ). NameGiven g a.sheet.now k a.terms (record { from = a.at; to = c.in-Some.end }) c.name_of.result) (sym n)
     (c.name_of.ensures g z.requires.there (span-there g a.sheet.now a.at a.to w.result w.ensures l opening _ e z.requires.within)))

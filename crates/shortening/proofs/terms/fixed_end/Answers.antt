@@ -1,4 +1,3 @@
-use Prim.Native.Nat.{◌-◌}
 use native.Mathlib.Omega.{arith}
 use Rattle.clauses.proofs.Held.{count-signature_in}
 use Rattle.shortening.proofs.FixedRun.{few-places, starts, varies, function-there, goes_on, ends, not-ended}

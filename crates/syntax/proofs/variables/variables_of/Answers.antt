@@ -10,26 +10,24 @@ use Rattle.syntax.proofs.Places.{few, none-placed, letters-below, letters-more}
 use Rattle.syntax.proofs.variables.variables_of.Goals as goal
 
 pub loop-i-init : goal.loop-i-init
-loop-i-init c = (omega arith, none-placed)
+loop-i-init c = none-placed
 
 pub with_word-found-requires : goal.with_word-found-requires
 with_word-found-requires c = let s = c in
     let l = c.loop-i in
     let ns = s.args.c.words in
     let k = letters-below ns l.i (λ j h. s.requires.1 j (omega arith)) in
-    (s.requires.1 l.i (omega arith), omega (arith, l.invariant.1.count, few (letters_of (map code_word (take l.i ns))) k l.found l.invariant.1))
+    (s.requires.1 l.i (omega arith), omega (arith, l.invariant.count, few (letters_of (map code_word (take l.i ns))) k l.found l.invariant))
 
 pub loop-i-preserved : goal.loop-i-preserved
 loop-i-preserved c = let s = c in
     let l = c.loop-i in
     let ns = s.args.c.words in
-    let n : length ns ≡ 64 = search rules in (
-      omega arith,
-      rw (add-one, letters-more ns l.i (omega arith))
-          (c.with_word-found.ensures (letters_of (map code_word (take l.i ns))) (letters-below ns l.i (λ j h. s.requires.1 j (omega arith))) l.invariant.1),
-    )
+    let n : length ns ≡ 64 = search rules in
+    rw (add-one, letters-more ns l.i (omega arith))
+    (c.with_word-found.ensures (letters_of (map code_word (take l.i ns))) (letters-below ns l.i (λ j h. s.requires.1 j (omega arith))) l.invariant)
 
 pub returns : goal.returns
 unfolding variables_in
 returns c = let e : c.loop-i.i ≡ c.args.c.count = omega arith in
-    rw e at c.loop-i.invariant.1
+    rw e at c.loop-i.invariant

@@ -1,4 +1,3 @@
-use Prim.Native.Nat.{◌≤◌, ◌-◌}
 use mathlib.Core.List.{map}
 use lib.ListN.{take}
 use Rattle.theory.specs.Lists.{distinct}
@@ -9,8 +8,4 @@ use Rattle.syntax.proofs.variables.variables_of.Given as goal
 -- `variables_of` meets its contract: the letters of the words before i have their places.
 abbrev pub invariant-loop-i : goal.invariant-loop-i
 invariant-loop-i l =
-    (l.i ≤ l.c.count) × Places (distinct (letters_of (map code_word (take l.i l.c.words)))) l.found
-
-abbrev pub decreases-loop-i : goal.decreases-loop-i
-decreases-loop-i l =
-    l.c.count - l.i
+    Places (distinct (letters_of (map code_word (take l.i l.c.words)))) l.found

@@ -13,4 +13,7 @@ pub overflow_add-result-2 : goal.overflow_add-result-2
 overflow_add-result-2 c = let a = c.args in omega (arith, number_by a.text.now a.at _ _ _ c.ratio_length-n.ensures c.fraction_length-f.ensures c.exponent_length.ensures, number-room a.text.now a.at (omega arith), c.well_formed)
 
 pub returns : goal.returns
-returns c = let a = c.args in number_by a.text.now a.at _ _ _ c.ratio_length-n.ensures c.fraction_length-f.ensures c.exponent_length.ensures
+returns c =
+    let a = c.args in
+    let e = number_by a.text.now a.at _ _ _ c.ratio_length-n.ensures c.fraction_length-f.ensures c.exponent_length.ensures in
+    record { value = e; within = omega (arith, e, number-room a.text.now a.at (omega arith)) }

@@ -1,18 +1,24 @@
-use Prim.Native.Nat.{◌-◌}
-use mathlib.Core.Path.{sym, ◌∙◌}
+use lib.ListN.{drop}
+use mathlib.Core.Path.{◌≡◌, ◌∙◌}
 use native.Mathlib.Omega.{arith}
+use Rattle.std.proofs.Common.{rules, tests}
+use Rattle.std.proofs.lemmas.Iterator.{YieldsList-from_slice}
+use Rattle.std.proofs.lemmas.Iterator.Consumers.{count_from_yields_List}
+use Rattle.std.proofs.lemmas.Iterator.Search.{YieldsList-from_take_while}
 use Rattle.theory.specs.Bytes.{is_digit}
-use Rattle.tokens.proofs.ByteRuns.{run-begins, run-goes-on, run_ends, run_out}
+use Rattle.tptp.specs.Tokens.{run}
+use Rattle.text.proofs.Part.{rest_all}
+use Rattle.tokens.proofs.ByteRuns.{taken-run}
+use Rattle.tokens.proofs.PieceStarts.{run_room}
 use Rattle.tokens.proofs.runs.digit_run.Goals as goal
 
-pub loop-i-init : goal.loop-i-init
-loop-i-init c = run-begins is_digit _ _ (omega arith)
-
-pub returns-then-not-is_digit : goal.returns-then-not-is_digit
-returns-then-not-is_digit c = let l = c.loop-i in run_ends is_digit _ _ l.i c.loop-i-test.true (sym c.is_digit.ensures ∙ c.if-not-is_digit.true) l.invariant
-
-pub loop-i-preserved : goal.loop-i-preserved
-loop-i-preserved c = let l = c.loop-i in run-goes-on is_digit _ _ l.i c.loop-i-test.true (sym c.is_digit.ensures ∙ c.if-not-is_digit.false) l.invariant
-
+-- `digit_run` counts what `take_while` leaves.
 pub returns : goal.returns
-returns c = let l = c.loop-i in run_out is_digit _ _ l.i (omega arith) l.invariant
+returns c =
+    let a = c.args in
+    let bs = drop a.at a.text.now in
+    let e = rest_all a.at a.text.now in
+    let v : c.count.result ≡ run is_digit bs =
+    count_from_yields_List c.take_while.result _ c.count.ensures.ran (YieldsList-from_take_while _ is_digit (YieldsList-from_slice bs (cc)) c.take_while.ensures.closure c.take_while.ensures.done (λ x b q k. search (rules, tests))) ∙ taken-run is_digit bs
+    in
+    record { value = v; within = run_room is_digit a.text.now a.at _ (omega arith) v }

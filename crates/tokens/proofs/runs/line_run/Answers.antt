@@ -1,21 +1,26 @@
-use borrow.Author.Tests.{eq-eqb, ne_eqb}
-use Prim.Native.Nat.{◌-◌}
-use mathlib.Core.Path.{ap}
+use lib.ListN.{drop}
+use mathlib.Core.Path.{◌≡◌, ◌∙◌}
 use native.Mathlib.Omega.{arith}
+use Rattle.std.proofs.Common.{rules, tests}
+use Rattle.std.proofs.lemmas.Iterator.{YieldsList-from_slice}
+use Rattle.std.proofs.lemmas.Iterator.Consumers.{count_from_yields_List}
+use Rattle.std.proofs.lemmas.Iterator.Search.{YieldsList-from_take_while}
 use mathlib.Core.Bool.{not}
 use lib.Dec.{eqb}
 use Rattle.theory.specs.Bytes.{LF}
-use Rattle.tokens.proofs.ByteRuns.{run-begins, run-goes-on, run_ends, run_out}
+use Rattle.tptp.specs.Tokens.{run}
+use Rattle.text.proofs.Part.{rest_all}
+use Rattle.tokens.proofs.ByteRuns.{taken-run}
+use Rattle.tokens.proofs.PieceStarts.{run_room}
 use Rattle.tokens.proofs.runs.line_run.Goals as goal
 
-pub loop-i-init : goal.loop-i-init
-loop-i-init c = run-begins (λ c. not (eqb c LF)) _ _ (omega arith)
-
-pub returns-then-text-i-eq10 : goal.returns-then-text-i-eq10
-returns-then-text-i-eq10 c = let l = c.loop-i in run_ends (λ c. not (eqb c LF)) _ _ l.i c.loop-i-test.true (ap not (eq-eqb _ LF c.if-text-i-eq10.true)) l.invariant
-
-pub loop-i-preserved : goal.loop-i-preserved
-loop-i-preserved c = let l = c.loop-i in run-goes-on (λ c. not (eqb c LF)) _ _ l.i c.loop-i-test.true (ap not (ne_eqb _ LF c.if-text-i-eq10.false)) l.invariant
-
+-- `line_run` counts what `take_while` leaves.
 pub returns : goal.returns
-returns c = let l = c.loop-i in run_out (λ c. not (eqb c LF)) _ _ l.i (omega arith) l.invariant
+returns c =
+    let a = c.args in
+    let bs = drop a.at a.text.now in
+    let e = rest_all a.at a.text.now in
+    let v : c.count.result ≡ run (λ x. not (eqb x LF)) bs =
+    count_from_yields_List c.take_while.result _ c.count.ensures.ran (YieldsList-from_take_while _ (λ x. not (eqb x LF)) (YieldsList-from_slice bs (cc)) c.take_while.ensures.closure c.take_while.ensures.done (λ x b q k. search (rules, tests))) ∙ taken-run (λ x. not (eqb x LF)) bs
+    in
+    record { value = v; within = run_room (λ x. not (eqb x LF)) a.text.now a.at _ (omega arith) v }

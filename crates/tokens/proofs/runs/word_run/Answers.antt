@@ -1,18 +1,23 @@
-use Prim.Native.Nat.{◌-◌}
-use mathlib.Core.Path.{sym, ◌∙◌}
+use lib.ListN.{drop}
+use mathlib.Core.Path.{◌≡◌, ◌∙◌}
 use native.Mathlib.Omega.{arith}
-use Rattle.tptp.specs.Tokens.{is_word_byte}
-use Rattle.tokens.proofs.ByteRuns.{run-begins, run-goes-on, run_ends, run_out}
+use Rattle.std.proofs.Common.{rules, tests}
+use Rattle.std.proofs.lemmas.Iterator.{YieldsList-from_slice}
+use Rattle.std.proofs.lemmas.Iterator.Consumers.{count_from_yields_List}
+use Rattle.std.proofs.lemmas.Iterator.Search.{YieldsList-from_take_while}
+use Rattle.tptp.specs.Tokens.{run, is_word_byte}
+use Rattle.text.proofs.Part.{rest_all}
+use Rattle.tokens.proofs.ByteRuns.{taken-run}
+use Rattle.tokens.proofs.PieceStarts.{run_room}
 use Rattle.tokens.proofs.runs.word_run.Goals as goal
 
-pub loop-i-init : goal.loop-i-init
-loop-i-init c = run-begins is_word_byte _ _ (omega arith)
-
-pub returns-then-not-is_word_byte : goal.returns-then-not-is_word_byte
-returns-then-not-is_word_byte c = let l = c.loop-i in run_ends is_word_byte _ _ l.i c.loop-i-test.true (sym c.is_word_byte.ensures ∙ c.if-not-is_word_byte.true) l.invariant
-
-pub loop-i-preserved : goal.loop-i-preserved
-loop-i-preserved c = let l = c.loop-i in run-goes-on is_word_byte _ _ l.i c.loop-i-test.true (sym c.is_word_byte.ensures ∙ c.if-not-is_word_byte.false) l.invariant
-
+-- `word_run` counts what `take_while` leaves.
 pub returns : goal.returns
-returns c = let l = c.loop-i in run_out is_word_byte _ _ l.i (omega arith) l.invariant
+returns c =
+    let a = c.args in
+    let bs = drop a.at a.text.now in
+    let e = rest_all a.at a.text.now in
+    let v : c.count.result ≡ run is_word_byte bs =
+    count_from_yields_List c.take_while.result _ c.count.ensures.ran (YieldsList-from_take_while _ is_word_byte (YieldsList-from_slice bs (cc)) c.take_while.ensures.closure c.take_while.ensures.done (λ x b q k. search (rules, tests))) ∙ taken-run is_word_byte bs
+    in
+    record { value = v; within = run_room is_word_byte a.text.now a.at _ (omega arith) v }

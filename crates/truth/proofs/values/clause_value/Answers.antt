@@ -1,5 +1,4 @@
-use Prim.Native.Nat.{◌-◌}
-use mathlib.Core.Path.{refl, sym, ◌∙◌}
+use mathlib.Core.Path.{refl, ◌∙◌}
 use native.Mathlib.Omega.{arith}
 use Rattle.truth.proofs.Clausewise.{all_left, none_left, literal-here, two-words, variables-lent, true-literal, false-literal, goes_on, terms-lent, top_within, atom-lent, literal-is}
 use Rattle.truth.proofs.values.clause_value.Goals as goal
@@ -7,23 +6,11 @@ use Rattle.truth.proofs.values.clause_value.Goals as goal
 pub loop-at-init : goal.loop-at-init
 loop-at-init c = (refl, λ w k. all_left w k)
 
-pub overflow_add-from : goal.overflow_add-from
-overflow_add-from c = let z = c.requires in
-    let l = c.loop-at in
-    let n = literal-here z.0 z.1 l.at c.loop-at-test.true (l.invariant.1 z.0 z.1) in
-    omega (arith, c.well_formed, two-words z.0 z.1 n)
-
-pub slice_bounds-variable_values-end : goal.slice_bounds-variable_values-end
-slice_bounds-variable_values-end c = sym c.loop-at.invariant.0
-
 pub variable_values-span-requires : goal.variable_values-span-requires
 variable_values-span-requires c = let z = c.requires in
     let l = c.loop-at in
     let n = literal-here z.0 z.1 l.at c.loop-at-test.true (l.invariant.1 z.0 z.1) in
     (variables-lent z.0 z.1 n, omega (arith, z.0.fits, l.invariant.0))
-
-pub slice_bounds-term_values-end : goal.slice_bounds-term_values-end
-slice_bounds-term_values-end c = sym (c.variable_values-span.auto.values ∙ c.loop-at.invariant.0)
 
 pub term_values-top-requires : goal.term_values-top-requires
 term_values-top-requires c = let z = c.requires in
@@ -31,12 +18,6 @@ term_values-top-requires c = let z = c.requires in
     let n = literal-here z.0 z.1 l.at c.loop-at-test.true (l.invariant.1 z.0 z.1) in
     let v = c.variable_values-span in
     terms-lent z.0 z.1 n (v.ensures (variables-lent z.0 z.1 n)) (v.auto.values ∙ l.invariant.0)
-
-pub overflow_add-at : goal.overflow_add-at
-overflow_add-at c = let z = c.requires in
-    let l = c.loop-at in
-    let n = literal-here z.0 z.1 l.at c.loop-at-test.true (l.invariant.1 z.0 z.1) in
-    omega (arith, c.well_formed, two-words z.0 z.1 n)
 
 pub bounds-words-at : goal.bounds-words-at
 bounds-words-at c = let z = c.requires in
@@ -75,9 +56,6 @@ atom_value-atom-requires c = let z = c.requires in
     let v = c.variable_values-span in
     let t = c.term_values-top in
     atom-lent z.0 z.1 n (v.ensures (variables-lent z.0 z.1 n)) (v.auto.values ∙ l.invariant.0) (t.ensures (terms-lent z.0 z.1 n (v.ensures (variables-lent z.0 z.1 n)) (v.auto.values ∙ l.invariant.0)))
-
-pub bounds-words-at-in-loop-at : goal.bounds-words-at-in-loop-at
-bounds-words-at-in-loop-at c = c.loop-at-test.true
 
 pub returns-then-literal_value : goal.returns-then-literal_value
 returns-then-literal_value c w k = let l = c.loop-at in

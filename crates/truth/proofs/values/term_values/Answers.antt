@@ -6,100 +6,58 @@ use Rattle.truth.proofs.InsideOut.{tail-valued, word_below, variable-valued, fun
 use Rattle.truth.proofs.SymbolCells.{base-small}
 use Rattle.truth.proofs.values.term_values.Goals as goal
 
-pub loop-done-init : goal.loop-done-init
-loop-done-init c = (refl, λ t. tail-valued t)
+pub loop-i-init : goal.loop-i-init
+loop-i-init c = (refl, λ t. tail-valued t)
 
 pub bounds-words-i : goal.bounds-words-i
 bounds-words-i c = let t = c.requires in
-    let h = c.loop-done.invariant.1 t in
-    let m = c.loop-done-test.true in
+    let h = c.loop-i.invariant.1 t in
+    let m = c.loop-i-test.true in
     word_below t h m
 
-pub overflow_sub-top : goal.overflow_sub-top
-overflow_sub-top c = let t = c.requires in
-    let h = c.loop-done.invariant.1 t in
-    let m = c.loop-done-test.true in
-    omega (arith, h.ahead)
-
-pub bounds-values-i : goal.bounds-values-i
-bounds-values-i c = let t = c.requires in
-    let h = c.loop-done.invariant.1 t in
-    let m = c.loop-done-test.true in
-    omega (arith, h.ahead, h.terms.within, h.room)
-
-pub bounds-values-top : goal.bounds-values-top
-bounds-values-top c = let t = c.requires in
-    let h = c.loop-done.invariant.1 t in
-    let m = c.loop-done-test.true in
-    omega (arith, h.ahead, h.terms.within, h.room)
-
-pub loop-done-preserved-then-word-ge-LETTER : goal.loop-done-preserved-then-word-ge-LETTER
-loop-done-preserved-then-word-ge-LETTER c = let l = c.loop-done in (
+pub loop-i-preserved-then-word-ge-LETTER : goal.loop-i-preserved-then-word-ge-LETTER
+loop-i-preserved-then-word-ge-LETTER c = let l = c.loop-i in (
   length-set l.values _ _ ∙ l.invariant.0,
-  λ t. variable-valued t (l.invariant.1 t) c.loop-done-test.true c.if-word-ge-LETTER.true,
+  λ t. variable-valued t (l.invariant.1 t) c.loop-i-test.true c.if-word-ge-LETTER.true,
 )
 
 pub bounds-arities-f : goal.bounds-arities-f
 bounds-arities-f c = let t = c.requires in
-    let h = c.loop-done.invariant.1 t in
-    let m = c.loop-done-test.true in
+    let h = c.loop-i.invariant.1 t in
+    let m = c.loop-i-test.true in
     omega (arith, function-declared t h m c.if-word-ge-LETTER.false, t.table.within)
-
-pub overflow_cast-rest : goal.overflow_cast-rest
-overflow_cast-rest c = let t = c.requires in
-    let h = c.loop-done.invariant.1 t in
-    let m = c.loop-done-test.true in
-    omega (arith, arity-small t h m c.if-word-ge-LETTER.false)
-
-pub overflow_add-rest : goal.overflow_add-rest
-overflow_add-rest c = let t = c.requires in
-    let h = c.loop-done.invariant.1 t in
-    let m = c.loop-done-test.true in
-    omega (arith, c.well_formed, h.room, h.ahead, arguments-within t h m c.if-word-ge-LETTER.false, c.loop-done.invariant.0)
 
 pub bounds-bases-f : goal.bounds-bases-f
 bounds-bases-f c = let t = c.requires in
-    let h = c.loop-done.invariant.1 t in
-    let m = c.loop-done-test.true in
+    let h = c.loop-i.invariant.1 t in
+    let m = c.loop-i-test.true in
     omega (arith, function-declared t h m c.if-word-ge-LETTER.false, t.interprets.bases-held)
 
 pub slice_bounds-cell_at-end : goal.slice_bounds-cell_at-end
 slice_bounds-cell_at-end c = let t = c.requires in
-    let h = c.loop-done.invariant.1 t in
-    let m = c.loop-done-test.true in
+    let h = c.loop-i.invariant.1 t in
+    let m = c.loop-i-test.true in
     omega (arith, h.ahead, arguments-within t h m c.if-word-ge-LETTER.false, h.room)
 
 pub cell_at-c-requires : goal.cell_at-c-requires
 cell_at-c-requires c = let t = c.requires in
-    let h = c.loop-done.invariant.1 t in
-    let m = c.loop-done-test.true in
+    let h = c.loop-i.invariant.1 t in
+    let m = c.loop-i-test.true in
     let k = c.if-word-ge-LETTER.false in
     (base-small t.interprets _ (function-declared t h m k), (t.interprets.size, (few-arguments _ _ _ (arity-small t h m k), arguments-below t h m k)))
 
 pub function_value-v-requires : goal.function_value-v-requires
 function_value-v-requires c = let t = c.requires in
-    let h = c.loop-done.invariant.1 t in
-    let m = c.loop-done-test.true in
+    let h = c.loop-i.invariant.1 t in
+    let m = c.loop-i-test.true in
     function-cell t h m c.if-word-ge-LETTER.false _ c.cell_at-c.ensures
 
-pub overflow_sub-top-in-loop-done : goal.overflow_sub-top-in-loop-done
-overflow_sub-top-in-loop-done c = let t = c.requires in
-    let h = c.loop-done.invariant.1 t in
-    let m = c.loop-done-test.true in
-    omega (arith, h.ahead)
-
-pub bounds-values-top-in-loop-done : goal.bounds-values-top-in-loop-done
-bounds-values-top-in-loop-done c = let t = c.requires in
-    let h = c.loop-done.invariant.1 t in
-    let m = c.loop-done-test.true in
-    omega (arith, h.ahead, arguments-within t h m c.if-word-ge-LETTER.false, h.room)
-
-pub loop-done-preserved : goal.loop-done-preserved
-loop-done-preserved c = let l = c.loop-done in
+pub loop-i-preserved : goal.loop-i-preserved
+loop-i-preserved c = let l = c.loop-i in
     let a = c.args in (
       length-set l.values _ _ ∙ l.invariant.0,
-      λ t. function-valued t (l.invariant.1 t) c.loop-done-test.true c.if-word-ge-LETTER.false _ c.cell_at-c.ensures _ (c.function_value-v.ensures a.size.0 t.signature t.assignment (get_or a.words.now (l.done - 1) 0)),
+      λ t. function-valued t (l.invariant.1 t) c.loop-i-test.true c.if-word-ge-LETTER.false _ c.cell_at-c.ensures _ (c.function_value-v.ensures a.size.0 t.signature t.assignment (get_or a.words.now (l.i - 1) 0)),
     )
 
 pub returns : goal.returns
-returns c t = all-valued t (c.loop-done.invariant.1 t) c.loop-done-test.false
+returns c t = all-valued t (c.loop-i.invariant.1 t) c.loop-i-test.false

@@ -1,10 +1,9 @@
-use Prim.Native.Nat.{◌-◌}
-use mathlib.Core.Path.{refl, ◌∙◌}
+use mathlib.Core.Path.{◌∙◌}
 use mathlib.Core.Bool.{true}
 use native.Mathlib.Omega.{arith}
 use lib.ListN.{length-set}
 use Rattle.theory.specs.Truth.{Interpretation}
-use Rattle.truth.proofs.Variables.{none-valued, letter-below, letter-placed, letter-occurs, letter-valued, function-passed, sign-ends, clause-ends}
+use Rattle.truth.proofs.Variables.{letter-below, letter-placed, letter-occurs, letter-valued, function-passed, sign-ends, clause-ends}
 use Rattle.truth.proofs.values.variable_values.Goals as goal
 
 -- `variable_values` meets its contract: the variables before place i are valued.
@@ -13,19 +12,12 @@ use Rattle.truth.proofs.values.variable_values.Goals as goal
 abbrev anything : Interpretation
 anything = record { function = λ f v. 0; relation = λ p v. true }
 
-pub loop-i-init : goal.loop-i-init
-loop-i-init c = (refl, λ v. none-valued v _)
-
 pub variable_value-v-requires : goal.variable_value-v-requires
 variable_value-v-requires c = let v = c.requires.0 in
     let i = c.loop-i.i in
     let t = c.loop-i-test.true in
     let l = c.if-word-ge-LETTER.true in
     (l, (omega (arith, letter-below v i t l, v.eight), letter-placed v i t l))
-
-pub bounds-values-i : goal.bounds-values-i
-bounds-values-i c = let l = c.loop-i in
-    omega (arith, l.invariant.0, c.loop-i-test.true, c.requires.1)
 
 pub loop-i-preserved-then-word-ge-LETTER : goal.loop-i-preserved-then-word-ge-LETTER
 loop-i-preserved-then-word-ge-LETTER c = let l = c.loop-i in

@@ -1,4 +1,4 @@
-use Prim.Native.Nat.{◌-◌, ◌≤◌}
+use Prim.Native.Nat.{◌≤◌}
 use mathlib.Core.Path.{◌≡◌}
 use mathlib.Core.List.{map}
 use lib.ListN.{get_or}
@@ -9,8 +9,4 @@ use Rattle.twins.proofs.constants.constants_of.Given as goal
 -- `constants_of` meets its contract: the constants among the symbols before i are noted.
 abbrev pub invariant-loop-i : goal.invariant-loop-i
 invariant-loop-i l =
-    (l.i ≤ l.signature.count) × (l.constants.count ≤ l.i) × (held_bases l.constants ≡ map (λ i'. get_or l.n.bases i' 0) (select (marked_at l.signature) (up_to l.i)))
-
-abbrev pub decreases-loop-i : goal.decreases-loop-i
-decreases-loop-i l =
-    l.signature.count - l.i
+    (l.constants.count ≤ l.i) × (held_bases l.constants ≡ map (λ i'. get_or l.n.bases i' 0) (select (marked_at l.signature) (up_to l.i)))

@@ -1,4 +1,4 @@
-use Prim.Native.Nat.{◌+◌, ◌-◌, ◌≤◌}
+use Prim.Native.Nat.{◌+◌, ◌≤◌}
 use lib.ListN.{take}
 use Rattle.theory.specs.Lists.{same}
 use Rattle.sheet_merging.specs.Merging.{new_to}
@@ -9,8 +9,4 @@ use Rattle.uniting.proofs.joins.new_lines.Given as goal
 -- `new_lines` counts one line after the other: those before i are measured.
 abbrev pub invariant-loop-i : goal.invariant-loop-i
 invariant-loop-i l =
-    (l.i ≤ l.other.count) × StartsAt l.second (l.other.line + l.i) l.at × Measured (new_to same (run_lines l.first l.own) (take l.i (run_lines l.second l.other))) l.lines × (l.lines.count ≤ l.i) × (l.lines.bytes ≤ l.at)
-
-abbrev pub decreases-loop-i : goal.decreases-loop-i
-decreases-loop-i l =
-    l.other.count - l.i
+    StartsAt l.second (l.fn.other.line + l._i) l.at × Measured (new_to same (run_lines l.first l.own) (take l._i (run_lines l.second l.fn.other))) l.lines × (l.lines.count ≤ l._i) × (l.lines.bytes ≤ l.at)

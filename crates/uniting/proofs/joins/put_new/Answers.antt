@@ -1,23 +1,11 @@
 -- `put_new` writes the line and its LF if the run has it not.
-use native.Mathlib.Omega.{arith}
 use mathlib.Core.Path.{sym, ◌∙◌}
 use Rattle.uniting.specs.Runs.{run_lines}
-use Rattle.uniting.proofs.NewLines.{new-measured, old-written, new-written}
+use Rattle.uniting.proofs.NewLines.{old-written, new-written}
 use Rattle.uniting.proofs.joins.put_new.Goals as goal
 
 pub returns-then-has_line : goal.returns-then-has_line
 returns-then-has_line c = let a = c.args in let both = old-written (run_lines a.first.now a.own) a.line.now a.out.now a.at (sym c.has_line.ensures ∙ c.if-has_line.true) in record { written = both.0; place = both.1 }
-
-pub put_bytes-end-requires : goal.put_bytes-end-requires
-put_bytes-end-requires c = let s = c in
-    let a = s.args in
-    omega (arith, s.requires.1, (new-measured (run_lines a.first.now a.own) a.line.now (sym c.has_line.ensures ∙ c.if-has_line.false)).1)
-
-pub bounds-out-end : goal.bounds-out-end
-bounds-out-end c = let s = c in
-    let a = s.args in
-    let p = c.put_bytes-end in
-    omega (arith, s.requires.1, p.ensures.place, p.auto.out, (new-measured (run_lines a.first.now a.own) a.line.now (sym c.has_line.ensures ∙ c.if-has_line.false)).1)
 
 pub returns : goal.returns
 returns c = let s = c in

@@ -4,11 +4,6 @@ use Rattle.uniting.proofs.LineRuns.{run-bytes}
 use Rattle.uniting.proofs.Sections.{section-lengths, section-written}
 use Rattle.uniting.proofs.joins.put_section.Goals as goal
 
-pub put_count_line-counted-requires : goal.put_count_line-counted-requires
-put_count_line-counted-requires c = let s = c in
-    let a = s.args in
-    omega (arith, s.requires.1, section-lengths a.first.now a.second.now a.key.now a.j s.requires.0)
-
 pub slice_bounds-put_bytes-count : goal.slice_bounds-put_bytes-count
 slice_bounds-put_bytes-count c = let s = c in (run-bytes s.args.first.now s.args.j.first s.requires.0.own).0
 

@@ -5,12 +5,9 @@ use lib.ListN.{length}
 use Rattle.theory.specs.Refusals.{unplaced, needing}
 use Rattle.answers.proofs.Answering.{put-over, refuses, writes}
 use Rattle.uniting.specs.United.{united_text}
-use Rattle.uniting.proofs.Uniting.{united-measured, united-moderate}
+use Rattle.uniting.proofs.Uniting.{united-measured}
 use Rattle.uniting.proofs.Chain.{disagreeing, too_large, too_long, said}
 use Rattle.uniting.proofs.merge.merge_problems.Goals as goal
-
-pub united_length-length-requires : goal.united_length-length-requires
-united_length-length-requires c = united-moderate _ _ _ c.unite-u.ensures.joins
 
 pub returns-then-not-agreed : goal.returns-then-not-agreed
 returns-then-not-agreed c = let s = c in

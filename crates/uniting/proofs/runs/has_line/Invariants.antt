@@ -1,4 +1,4 @@
-use Prim.Native.Nat.{◌+◌, ◌-◌, ◌≤◌}
+use Prim.Native.Nat.{◌+◌}
 use mathlib.Core.Path.{◌≡◌}
 use lib.ListN.{drop}
 use Rattle.theory.specs.Lists as lists
@@ -8,8 +8,4 @@ use Rattle.uniting.proofs.runs.has_line.Given as goal
 -- `has_line` compares one line after the other: what is left of the run says what all of it says.
 abbrev pub invariant-loop-i : goal.invariant-loop-i
 invariant-loop-i l =
-    (l.i ≤ l.run.count) × StartsAt l.text (l.run.line + l.i) l.at × (lists.any (lists.same l.line) (run_lines l.text l.run) ≡ lists.any (lists.same l.line) (drop l.i (run_lines l.text l.run)))
-
-abbrev pub decreases-loop-i : goal.decreases-loop-i
-decreases-loop-i l =
-    l.run.count - l.i
+    StartsAt l.text (l.fn.run.line + l._i) l.at × (lists.any (lists.same l.line) (run_lines l.text l.fn.run) ≡ lists.any (lists.same l.line) (drop l._i (run_lines l.text l.fn.run)))

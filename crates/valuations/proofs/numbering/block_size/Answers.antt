@@ -16,6 +16,3 @@ pub overflow_mul-result : goal.overflow_mul-result
 overflow_mul-result c = let s = c in
     let e : c.power-cells.result * c.width.result ≡ s.args.size.0 ^ s.args.symbol.arity * theory.width s.args.size.0 (kind_of s.args.symbol.function) = rw (c.power-cells.ensures, c.width.ensures) in
     omega (arith, block_within s.args.size.0 s.args.symbol.arity s.args.symbol.function s.requires.1 s.requires.0)
-
-pub returns : goal.returns
-returns c = rw (c.power-cells.ensures, c.width.ensures)

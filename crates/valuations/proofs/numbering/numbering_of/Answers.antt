@@ -1,4 +1,3 @@
-use Prim.Native.Nat.{◌-◌}
 use mathlib.Core.Path.{◌≡◌}
 use mathlib.Core.List.{[]}
 use native.Mathlib.Numerals.{add-one}
@@ -10,7 +9,7 @@ use Rattle.valuations.proofs.Numbered.{block_within, none-numbered, one-numbered
 use Rattle.valuations.proofs.numbering.numbering_of.Goals as goal
 
 pub loop-i-init : goal.loop-i-init
-loop-i-init c = (omega arith, λ sheet. none-numbered (signature_in sheet c.args.signature) c.args.size.0)
+loop-i-init c = λ sheet. none-numbered (signature_in sheet c.args.signature) c.args.size.0
 
 pub block_size-requires : goal.block_size-requires
 block_size-requires c = let s = c in
@@ -22,7 +21,7 @@ overflow_add-n c = let s = c in
     let y = get_or s.args.signature.symbols l.i blank in
     omega (
       arith,
-      (l.invariant.1 []).within,
+      (l.invariant []).within,
       c.block_size.ensures,
       s.requires.0.count,
       block_within s.args.size.0 y.arity y.function s.requires.1 (arity-at s.args.signature s.requires.0 l.i (omega arith)),
@@ -32,13 +31,11 @@ pub loop-i-preserved : goal.loop-i-preserved
 loop-i-preserved c = let s = c in
     let g = s.args.signature in
     let l = c.loop-i in
-    let a = arity-at g s.requires.0 l.i (omega arith) in (
-      omega arith,
-      λ sheet.
-          rw (add-one, c.width.ensures, c.block_size.ensures)
-          (one-numbered (signature_in sheet g) s.args.size.0 l.n l.i (get_or g.symbols l.i blank) sheet (l.invariant.1 sheet)
-          (symbol_at-signature_in g s.requires.0 sheet l.i (omega arith)) (omega (arith, count-signature_in g s.requires.0 sheet)) (omega (arith, s.requires.0.count)) s.requires.1 a),
-    )
+    let a = arity-at g s.requires.0 l.i (omega arith) in
+    λ sheet.
+    rw (add-one, c.width.ensures, c.block_size.ensures)
+    (one-numbered (signature_in sheet g) s.args.size.0 l.n l.i (get_or g.symbols l.i blank) sheet (l.invariant sheet)
+    (symbol_at-signature_in g s.requires.0 sheet l.i (omega arith)) (omega (arith, count-signature_in g s.requires.0 sheet)) (omega (arith, s.requires.0.count)) s.requires.1 a)
 
 pub returns : goal.returns
 returns c = let s = c in
@@ -46,4 +43,4 @@ returns c = let s = c in
     λ sheet.
     let e : c.loop-i.i ≡ length (signature_in sheet g) = omega (arith, count-signature_in g s.requires.0 sheet) in
     all-numbered (signature_in sheet g) s.args.size.0 c.loop-i.n (omega (arith, count-signature_in g s.requires.0 sheet, s.requires.0.count))
-    (rw e at (c.loop-i.invariant.1 sheet))
+    (rw e at (c.loop-i.invariant sheet))

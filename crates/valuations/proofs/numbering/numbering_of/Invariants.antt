@@ -1,4 +1,4 @@
-use Prim.Native.Nat.{ℕ, ◌-◌, ◌≤◌}
+use Prim.Native.Nat.{ℕ}
 use mathlib.Core.List.{List}
 use Rattle.syntax.specs.Signatures.{signature_in}
 use Rattle.valuations.proofs.Numbered.{Numbered}
@@ -7,8 +7,4 @@ use Rattle.valuations.proofs.numbering.numbering_of.Given as goal
 -- `numbering_of` meets its contract: the symbols before i are numbered.
 abbrev pub invariant-loop-i : goal.invariant-loop-i
 invariant-loop-i l =
-    (l.i ≤ l.signature.count) × ((sheet : List ℕ) → Numbered (signature_in sheet l.signature) l.size.0 l.n l.i)
-
-abbrev pub decreases-loop-i : goal.decreases-loop-i
-decreases-loop-i l =
-    l.signature.count - l.i
+    (sheet : List ℕ) → Numbered (signature_in sheet l.signature) l.size.0 l.n l.i

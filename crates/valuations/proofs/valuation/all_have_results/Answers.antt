@@ -1,46 +1,55 @@
-use native.Mathlib.Nat.{zero-mul, suc-mul}
-use Rattle.valuations.specs.Cells.{bits_at, ones}
-use Rattle.valuations.proofs.Bits.{block-fits, one-result, other-results}
-use Prim.Native.Nat.{ℕ, ◌+◌, ◌-◌}
-use mathlib.Core.Path.{◌≡◌, sym, ap, ◌∙◌}
-use native.Mathlib.Numerals.{add-one}
+use Prim.Native.Nat.{ℕ, zero, suc, ◌+◌, ◌-◌, ◌*◌}
+use mathlib.Core.Path.{◌≡◌, refl, sym, ap, ◌∙◌}
+use mathlib.Core.Bool.{Bool, ◌&&◌}
+use mathlib.Core.List.{List}
+use native.Mathlib.Nat.{suc-mul}
 use native.Mathlib.Omega.{arith}
+use lib.Dec.{eqb}
 use lib.ListN.{drop, replicate}
+use Rattle.std.proofs.Common.{rules, tests}
+use Rattle.std.specs.List.{count_by, list_all, range_with_len}
+use Rattle.std.proofs.lemmas.Iterator.{YieldsList-from_range, serves_from_Range}
+use Rattle.std.proofs.lemmas.Iterator.Search.{all_from_yields_List}
 use Rattle.theory.specs.Syntax as theory
 use Rattle.theory.specs.Valuation.{all_have_values}
+use Rattle.text.specs.Lines.{part}
+use Rattle.valuations.specs.Cells.{bits_at, ones}
+use Rattle.valuations.proofs.Bits.{ones-count_by, next-result, block-fits}
 use Rattle.valuations.proofs.valuation.all_have_results.Goals as goal
 
-pub loop-r-init : goal.loop-r-init
-loop-r-init c = let a = c.args in
-    let n : a.cells - 0 ≡ a.cells = omega arith in
-    (omega arith, omega (arith, zero-mul a.size.0), rw n)
+-- the test of a cell
+module _ (s first : ℕ) (setting : List ℕ) where
+  abbrev at-cell : ℕ → Bool
+  at-cell r = eqb (count_by (λ b. eqb b 1) (part setting (first + r * s) (first + r * s + s))) 1
 
-pub count_ones-requires : goal.count_ones-requires
-count_ones-requires c = let l = c.loop-r in
-    let s = c in
-    omega (arith, block-fits l.r s.args.cells s.args.size.0 (omega arith))
+  cell-is : (r : ℕ) → at-cell r ≡ eqb (ones (bits_at setting (first + r * s) s)) 1
+  cell-is r =
+      let at : ℕ = first + r * s in
+      let n : at + s - at ≡ s = omega arith in
+      ap (λ (n : ℕ). eqb (count_by (λ b. eqb b 1) (bits_at setting at n)) 1) n ∙ ap (λ (n : ℕ). eqb n 1) (sym (ones-count_by (bits_at setting at s)))
 
-pub returns-then-count_ones-ne1 : goal.returns-then-count_ones-ne1
-returns-then-count_ones-ne1 c = let l = c.loop-r in
-    let a = c.args in
-    sym (l.invariant.2 ∙ other-results a.size.0 (a.cells - (l.r + 1)) (a.cells - l.r) l.at a.setting.now (omega arith) (λ e. c.if-count_ones-ne1.true (c.count_ones.ensures ∙ e)))
+  -- so many cells from one on
+  all-cells : (n r : ℕ) → list_all at-cell (range_with_len r n) ≡ all_have_values s (replicate n theory.function) (drop (first + r * s) setting)
+  all-cells zero r = refl
+  all-cells (suc n) r =
+      let e : first + (r + 1) * s ≡ first + r * s + s = omega (arith, suc-mul r s) in
+      ap (λ (b : Bool). b && list_all at-cell (range_with_len (r + 1) n)) (cell-is r)
+      ∙ ap (λ (b : Bool). eqb (ones (bits_at setting (first + r * s) s)) 1 && b) (all-cells n (r + 1) ∙ ap (λ (k : ℕ). all_have_values s (replicate n theory.function) (drop k setting)) e)
+      ∙ sym (next-result s n (first + r * s) setting)
 
-pub overflow_add-at : goal.overflow_add-at
-overflow_add-at c = let l = c.loop-r in
-    let s = c in
-    omega (arith, block-fits l.r s.args.cells s.args.size.0 (omega arith), s.well_formed)
-
-pub loop-r-preserved : goal.loop-r-preserved
-loop-r-preserved c = let l = c.loop-r in
-    let a = c.args in
-    let e : ones (bits_at a.setting.now l.at a.size.0) ≡ 1 = sym c.count_ones.ensures ∙ c.if-count_ones-ne1.false in (
-      omega arith,
-      rw add-one (omega (arith, suc-mul l.r a.size.0)),
-      l.invariant.2 ∙ one-result a.size.0 (a.cells - (l.r + 1)) (a.cells - l.r) l.at a.setting.now (omega arith) e,
-    )
+-- `all_have_results` tests each cell.
+pub all-requires-clause-callable : goal.all-requires-clause-callable
+all-requires-clause-callable c = let s = c in
+    let a = s.args in
+    serves_from_Range (λ x q k. search (rules, tests)) (λ x low high.
+    let fits = block-fits x a.cells a.size.0 high in
+    let small = s.requires.size_bound.1 in
+    let room = s.requires.size_in_bounds in
+    search (rules, tests, fits, small, room))
 
 pub returns : goal.returns
-returns c = let l = c.loop-r in
-    let a = c.args in
-    let e : a.cells - l.r ≡ 0 = omega arith in
-    sym (l.invariant.2 ∙ ap (λ (n : ℕ). all_have_values a.size.0 (replicate n theory.function) (drop l.at a.setting.now)) e)
+returns c = let a = c.args in
+    let start : a.from.0 + 0 * a.size.0 ≡ a.from.0 = omega arith in
+    all_from_yields_List (at-cell a.size.0 a.from.0 a.setting.now) _ _ _ c.all.ensures.ran (YieldsList-from_range 0 a.cells a.cells (cc) (omega arith)) (λ x b q k. search (rules, tests))
+    ∙ all-cells a.size.0 a.from.0 a.setting.now a.cells 0
+    ∙ ap (λ (k : ℕ). all_have_values a.size.0 (replicate a.cells theory.function) (drop k a.setting.now)) start

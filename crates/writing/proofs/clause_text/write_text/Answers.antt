@@ -12,9 +12,6 @@ use Rattle.writing.proofs.Refusing.{too_long, within}
 use Rattle.writing.proofs.Written.{needed, needed-small, lines_fit, both-put}
 use Rattle.writing.proofs.clause_text.write_text.Goals as goal
 
-pub measured-m-requires : goal.measured-m-requires
-measured-m-requires c = let z = c in (z.requires, c.numbering_of-n.ensures z.args.sheet.now)
-
 pub overflow_cast-clauses : goal.overflow_cast-clauses
 overflow_cast-clauses c = let z = c in
     let h = z.requires in

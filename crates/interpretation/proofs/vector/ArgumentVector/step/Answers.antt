@@ -2,17 +2,8 @@ use borrow.Author.Rules.{rules}
 use Prim.Native.Nat.{◌-◌}
 use mathlib.Core.Path.{◌≡◌}
 use native.Mathlib.Omega.{arith}
-use Rattle.interpretation.proofs.Steps.{before, none_passed, digit-below, one-passed, stepped, all-passed}
+use Rattle.interpretation.proofs.Steps.{before, digit-below, one-passed, stepped, all-passed}
 use Rattle.interpretation.proofs.vector.ArgumentVector.step.Goals as goal
-
-pub overflow_cast-size : goal.overflow_cast-size
-overflow_cast-size c = omega (arith, c.requires.small)
-
-pub loop-i-init : goal.loop-i-init
-loop-i-init c = none_passed c.args.self (search rules) c.requires
-
-pub bounds-self-i : goal.bounds-self-i
-bounds-self-i c = omega (arith, c.loop-i.invariant.within, c.requires.places)
 
 pub overflow_add-d : goal.overflow_add-d
 overflow_add-d c = let l = c.loop-i in

@@ -1,4 +1,3 @@
-use Prim.Native.Nat.{◌-◌}
 use Rattle.interpretation.proofs.Steps.{Passed}
 use Rattle.interpretation.proofs.vector.ArgumentVector.step.Given as goal
 
@@ -6,7 +5,3 @@ use Rattle.interpretation.proofs.vector.ArgumentVector.step.Given as goal
 abbrev pub invariant-loop-i : goal.invariant-loop-i
 invariant-loop-i l =
     Passed l.initial.self l.self l.i
-
-abbrev pub decreases-loop-i : goal.decreases-loop-i
-decreases-loop-i l =
-    l.i

@@ -1,4 +1,3 @@
-use Prim.Native.Nat.{◌-◌, ◌≤◌}
 use mathlib.Core.Path.{◌≡◌}
 use mathlib.Core.Bool.{true}
 use Rattle.theory.specs.Lists.{all, elem, up_to}
@@ -8,8 +7,4 @@ use Rattle.rearranging.proofs.rearrangement.Rearrangement.covers.Given as goal
 -- `covers` meets its contract: the elements before d are among the entries.
 abbrev pub invariant-loop-d : goal.invariant-loop-d
 invariant-loop-d l =
-    (l.d ≤ l.size.0) × (all (λ e. elem e (rearrangement_in l.self)) (up_to l.d) ≡ true)
-
-abbrev pub decreases-loop-d : goal.decreases-loop-d
-decreases-loop-d l =
-    l.size.0 - l.d
+    all (λ e. elem e (rearrangement_in l.self)) (up_to l.d) ≡ true

@@ -1,4 +1,3 @@
-use Prim.Native.Nat.{◌≤◌, ◌-◌}
 use mathlib.Core.Path.{◌≡◌}
 use lib.ListN.{length, take}
 use Rattle.syntax.specs.Signatures.{arities_of}
@@ -7,8 +6,4 @@ use Rattle.syntax.proofs.signature.Signature.arities.Given as goal
 -- `Signature::arities` meets its contract: the arities of the symbols before i are written.
 abbrev pub invariant-loop-i : goal.invariant-loop-i
 invariant-loop-i l =
-    (l.i ≤ l.self.count) × (length l.arities ≡ 56) × (take l.i l.arities ≡ arities_of (take l.i l.self.symbols))
-
-abbrev pub decreases-loop-i : goal.decreases-loop-i
-decreases-loop-i l =
-    l.self.count - l.i
+    (length l.arities ≡ 56) × (take l.i l.arities ≡ arities_of (take l.i l.self.symbols))
