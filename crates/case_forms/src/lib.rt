@@ -2,4 +2,5 @@
 #![tactic(auto)]
 
 pub mod least;
+mod opened;
 pub mod renumber;

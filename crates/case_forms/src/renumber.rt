@@ -11,6 +11,7 @@ ghost use Rattle.rearranging.specs.Candidates.{Rearranges};
 ghost use Rattle.case_forms.specs.Calls.{RenumberCall};
 ghost use Rattle.case_forms.specs.Cells.{CaseHeld, renumbered_cells};
 
+use crate::opened::OpenedCase;
 use answers::{WriteAnswer, at_line, needing};
 use case_writer::write_cells;
 use cases::writing::case_length;
@@ -22,8 +23,6 @@ use rearranging::rearrangement::Rearrangement;
 use rearranging::standing::Standing;
 use syntax::faults::Fault;
 use syntax::limits::Problem;
-use syntax::signature::Signature;
-use syntax::size::DomainSize;
 
 // The sheet's refusals, then the case's, then 25 and 11, or the renumbered case at the front of the output.
 pub fn renumber_case(sheet: &[u8], case: &[u8], list: &[u8], output: &mut [u8]) -> WriteAnswer
@@ -32,58 +31,57 @@ pub fn renumber_case(sheet: &[u8], case: &[u8], list: &[u8], output: &mut [u8]) 
     let p = open_sheet(sheet, false)?;
     let mut cells = [0; Problem::MAX_CELLS];
     let size = open_case(sheet, p.signature, case, &mut cells)?;
-    write_renumbered(sheet, p.signature, size, &cells, list, output)
+    let opened = OpenedCase {
+        sheet,
+        signature: &p.signature,
+        size,
+        cells: &cells,
+    };
+    write_renumbered(opened, list, output)
 }
 
 // 25, 11, or the renumbered case of the interpretation that the first cells are.
-fn write_renumbered(
-    sheet: &[u8],
-    signature: Signature,
-    size: DomainSize,
-    cells: &[u8],
-    list: &[u8],
-    output: &mut [u8],
-) -> WriteAnswer
-    requires { CaseHeld sheet.now signature size.0 cells.now }
-    ensures { WritingCall (renumbered_cells size.0 (signature_in sheet.now signature) cells.now list.now (length output.old)) result output.old output.new }
+fn write_renumbered(case: OpenedCase<'_>, list: &[u8], output: &mut [u8]) -> WriteAnswer
+    requires { CaseHeld case.sheet.now case.signature.now case.size.0 case.cells.now }
+    ensures { WritingCall (renumbered_cells case.entry.size.0 (signature_in case.entry.sheet.now case.entry.signature.now) case.entry.cells.now list.now (length output.old)) result output.old output.new }
 {
-    let Some(entries) = read_list(list, size) else {
+    let Some(entries) = read_list(list, case.size) else {
         return Err(at_line(Fault::Renumbering, 0));
     };
-    let length = case_length(signature, size);
+    let length = case_length(*case.signature, case.size);
     if output.len() < length {
         return Err(needing(Fault::OutputLength, length));
     }
-    let t = tables_of(signature, size);
+    let t = tables_of(*case.signature, case.size);
     let count = t.cells;
+    let first = OpenedCase {
+        cells: &case.cells[0..count],
+        ..case
+    };
     let mut held = [0; Problem::MAX_CELLS];
-    Ok(put_renumbered(
-        sheet,
-        signature,
-        size,
-        entries,
-        &cells[0..count],
-        &mut held[0..count],
-        output,
-    ))
+    Ok(put_renumbered(first, entries, &mut held[0..count], output))
 }
 
 // Renumbers the cells into those held, writes these to the front of the output and answers the length of their case.
 fn put_renumbered(
-    sheet: &[u8],
-    signature: Signature,
-    size: DomainSize,
+    case: OpenedCase<'_>,
     r: Rearrangement,
-    cells: &[u8],
     held: &mut [u8],
     output: &mut [u8],
 ) -> usize
-    requires writable { Writable sheet.now signature size.0 cells.now × (Rearranges size.0 r × (length held.old ≡ length cells.now)) }
-    requires signature_in_bounds { case_length size.0 (signature_in sheet.now signature) ≤ length output.old }
+    requires writable { Writable case.sheet.now case.signature.now case.size.0 case.cells.now × (Rearranges case.size.0 r × (length held.old ≡ length case.cells.now)) }
+    requires signature_in_bounds { case_length case.size.0 (signature_in case.sheet.now case.signature.now) ≤ length output.old }
     ensures written { output.new
-        ≡ over (case_text size.0 (signature_in sheet.now signature) (renumbered size.0 (signature_in sheet.now signature) (rearrangement_in r) cells.now)) output.old }
-    ensures place { result ≡ case_length size.0 (signature_in sheet.now signature) }
+        ≡ over (case_text case.entry.size.0 (signature_in case.entry.sheet.now case.entry.signature.now) (renumbered case.entry.size.0 (signature_in case.entry.sheet.now case.entry.signature.now) (rearrangement_in r) case.entry.cells.now)) output.old }
+    ensures place { result ≡ case_length case.entry.size.0 (signature_in case.entry.sheet.now case.entry.signature.now) }
 {
-    take_renumbered(cells, signature, size, r, Standing::Before, held);
-    write_cells(sheet, signature, size, held, output)
+    take_renumbered(
+        case.cells,
+        *case.signature,
+        case.size,
+        r,
+        Standing::Before,
+        held,
+    );
+    write_cells(case.sheet, *case.signature, case.size, held, output)
 }

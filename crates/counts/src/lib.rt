@@ -12,6 +12,7 @@ ghost use Rattle.counts.specs.Totals.{ConstantsTotal, TotalOf, clauses_of, liter
 use flattening::flat::flatten;
 use interpretation::vector::power;
 use problem::clause_lines::clause_words;
+use std::ops::Add;
 use syntax::limits::Problem;
 use syntax::signature::{Signature, Symbol};
 use syntax::size::DomainSize;
@@ -29,6 +30,22 @@ impl Counts {
     pub const MAX_INSTANCES: usize = 1000000;
 }
 
+// The counts of two parts together, which have to fit.
+impl Add for Counts {
+    type Output = Counts;
+
+    ghost can_add = { λ a b. (a.instances + b.instances < 2 ^ 64) × (a.literals + b.literals < 2 ^ 64) };
+
+    ghost add_gives = { λ a b r. (r.instances ≡ a.instances + b.instances) × (r.literals ≡ a.literals + b.literals) };
+
+    fn add(self, other: Counts) -> Counts {
+        Counts {
+            instances: self.instances + other.instances,
+            literals: self.literals + other.literals,
+        }
+    }
+}
+
 pub fn counts_at(sheet: &[u8], p: Problem, size: DomainSize) -> Counts
     requires { Accepted sheet.now p × (1 ≤ size.0) × (size.0 ≤ 8) }
     ensures instances { result.instances ≡ instance_count_with p.symmetry size.0 (problem_in sheet.now p).symbols (problem_in sheet.now p).clauses }
@@ -38,7 +55,7 @@ pub fn counts_at(sheet: &[u8], p: Problem, size: DomainSize) -> Counts
     let f = function_counts(p.signature, size);
     let t = twin_counts(p, size);
     let c = all_clause_counts(sheet, p, size);
-    plus(f, plus(t, c))
+    f + (t + c)
 }
 
 // What the function cells add.
@@ -49,7 +66,7 @@ fn function_counts(signature: Signature, size: DomainSize) -> Counts
     let mut total = Counts::default();
     for i in 0..signature.count {
         let one = symbol_counts(signature.symbols[i], size);
-        total = plus(total, one);
+        total = total + one;
     }
     total
 }
@@ -94,7 +111,7 @@ fn all_constant_counts(n: usize, size: DomainSize) -> Counts
     let mut total = Counts::default();
     for i in 0..n {
         let one = constant_counts(i + 1, size);
-        total = plus(total, one);
+        total = total + one;
     }
     total
 }
@@ -121,7 +138,7 @@ fn all_clause_counts(sheet: &[u8], p: Problem, size: DomainSize) -> Counts
     let mut total = Counts::default();
     for k in 0..p.count {
         let one = clause_counts(sheet, p, k, size);
-        total = plus(total, one);
+        total = total + one;
     }
     total
 }
@@ -139,17 +156,5 @@ fn clause_counts(sheet: &[u8], p: Problem, k: usize, size: DomainSize) -> Counts
     Counts {
         instances,
         literals: instances * flat.count,
-    }
-}
-
-// The counts of two parts together.
-fn plus(a: Counts, b: Counts) -> Counts
-    requires { (a.instances + b.instances < 2 ^ 64) × (a.literals + b.literals < 2 ^ 64) }
-    ensures instances { result.instances ≡ a.instances + b.instances }
-    ensures literals { result.literals ≡ a.literals + b.literals }
-{
-    Counts {
-        instances: a.instances + b.instances,
-        literals: a.literals + b.literals,
     }
 }

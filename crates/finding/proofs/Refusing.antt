@@ -35,7 +35,8 @@ use Rattle.syntax.specs.Signatures.{signature_in, without_helpers}
 use Rattle.problem.specs.Problems.{problem_in}
 use Rattle.problem.specs.Modes.{Shows}
 use Rattle.ranges.specs.Ranges.{are_sizes}
-use Rattle.finding.specs.Ending.{found_in, found_within, Ranged, Sizes}
+use Rattle.ranges.specs.declared.size_range.SizeRange.{SizeRange}
+use Rattle.finding.specs.Ending.{found_in, found_within, Opened, Fits}
 
 module _ (used : Bool) (p : Problem) (low high allowance work room : ℕ) where
   abbrev i : ℕ
@@ -167,20 +168,18 @@ unfolding problem_in
 length-is sheet p size n y h is e = e ∙ ap (λ (y : Signature). case_length size (signature_in sheet y)) is ∙ sym (ap (case_length size) h)
 
 -- all checks passed
-pub all-sizes : (sheet : List ℕ) (p : code.Problem) (low high work room : ℕ) → Ranged sheet p low high
-    → instance_count_with p.symmetry high (problem_in sheet p).symbols (problem_in sheet p).clauses ≤ max_instances → work_needed_with p.symmetry high (problem_in sheet p).symbols (problem_in sheet p).clauses ≤ work
-    → case_length high (shown_symbols (problem_in sheet p).symbols) ≤ room → Sizes sheet p low high work room
-all-sizes sheet p low high work room h few enough case =
+pub all-sizes : (sheet : List ℕ) (p : code.Problem) (r : SizeRange) (work room : ℕ) → Opened sheet p
+    → instance_count_with p.symmetry r.high.0 (problem_in sheet p).symbols (problem_in sheet p).clauses ≤ max_instances → work_needed_with p.symmetry r.high.0 (problem_in sheet p).symbols (problem_in sheet p).clauses ≤ work
+    → case_length r.high.0 (shown_symbols (problem_in sheet p).symbols) ≤ room → Fits sheet p r.high.0 work room
+all-sizes sheet p r work room h few enough case =
     record {
-      positive = h.positive;
-      ordered = h.ordered;
       searchable =
           record {
             accepted = h.accepted;
             bytes = h.bytes;
             shows = h.shows;
-            positive = omega (arith, h.positive, h.ordered);
-            within = h.within;
+            positive = omega (arith, r.positive, r.ordered);
+            within = r.within;
             instances = few;
             space = enough;
           };

@@ -17,14 +17,15 @@ use Rattle.allowance.specs.AllowedSearch.{case_of, Allowed, answered, stopped_at
 use Rattle.syntax.specs.declared.limits.Problem.{Problem}
 use Rattle.problem.specs.Problems.{problem_in}
 use Rattle.encoding.proofs.Bounds as bounds
+use Rattle.ranges.specs.declared.size_range.SizeRange.{SizeRange}
 use Rattle.finding.specs.Searching.{Searchable}
-use Rattle.finding.specs.Ending.{Sizes}
+use Rattle.finding.specs.Ending.{Fits}
 
 -- the clauses of a problem that was read are over its signature
 pub clauses-over : (sheet : List ℕ) (p : Problem) (size n : ℕ) → Searchable sheet p size n → all (clause_ok (problem_in sheet p).symbols) (problem_in sheet p).clauses ≡ true
 clauses-over sheet p size n h = bounds.clauses-over sheet p h.accepted size h.within
 
-module _ (sheet : List ℕ) (p : Problem) (low high work room : ℕ) (h : Sizes sheet p low high work room) (size : ℕ) (above : low ≤ size) (below : size ≤ high) where
+module _ (sheet : List ℕ) (p : Problem) (r : SizeRange) (work room : ℕ) (h : Fits sheet p r.high.0 work room) (size : ℕ) (above : r.low.0 ≤ size) (below : size ≤ r.high.0) where
   abbrev q : theory.Problem
   q = problem_in sheet p
 
@@ -35,14 +36,14 @@ module _ (sheet : List ℕ) (p : Problem) (low high work room : ℕ) (h : Sizes 
         accepted = h.searchable.accepted;
         bytes = h.searchable.bytes;
         shows = h.searchable.shows;
-        positive = omega (arith, h.positive);
+        positive = omega (arith, r.positive);
         within = omega (arith, h.searchable.within);
-        instances = omega (arith, h.searchable.instances, constant_clauses.instances_grow p.symmetry size high q.symbols q.clauses below);
-        space = omega (arith, h.searchable.space, constant_clauses.work_grows p.symmetry size high q.symbols q.clauses below);
+        instances = omega (arith, h.searchable.instances, constant_clauses.instances_grow p.symmetry size r.high.0 q.symbols q.clauses below);
+        space = omega (arith, h.searchable.space, constant_clauses.work_grows p.symmetry size r.high.0 q.symbols q.clauses below);
       }
 
   pub size-case : case_length size (shown_symbols q.symbols) ≤ room
-  size-case = omega (arith, h.case, case_length-grows size high below (shown_symbols q.symbols))
+  size-case = omega (arith, h.case, case_length-grows size r.high.0 below (shown_symbols q.symbols))
 
 before-none : (w : Allowed) → w ≡ before 0 w
 before-none (answered o m) = let e : m ≡ 0 + m = omega arith in ap (answered o) e

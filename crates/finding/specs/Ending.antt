@@ -5,7 +5,7 @@ use Rattle.theory.specs.Problem.{max_bytes}
 use Rattle.theory.specs.Problem as theory
 use Rattle.theory.specs.CaseText.{case_length}
 use Rattle.theory.specs.Valuation.{read_back, setting_of}
-use Rattle.theory.specs.Operations.{max_size, max_instances, Search, found}
+use Rattle.theory.specs.Operations.{max_instances, Search, found}
 use Rattle.naming.specs.NamedProblem.{shown_symbols, shown_text}
 use Rattle.symmetry.specs.ConstantClauses.{instance_count_with, work_needed_with}
 use Rattle.allowance.specs.AllowedSearch.{search_within}
@@ -37,18 +37,13 @@ found_in used p low high allowance work room = do
   _ ← check (leb (case_length high (shown_symbols p.symbols)) room) (needing 11 (case_length high (shown_symbols p.symbols)))
   found_within used p low high allowance work room
 
--- a problem that was read of the sheet, its declared symbols before the helpers, and sizes in order
-pub record Ranged (sheet : List ℕ) (p : Problem) (low high : ℕ) : Type 0 where
+-- a problem that was read of the sheet, its declared symbols before the helpers
+pub record Opened (sheet : List ℕ) (p : Problem) : Type 0 where
   pub accepted : Accepted sheet p
   pub bytes : length sheet ≤ max_bytes
   pub shows : Shows sheet p.signature
-  pub positive : 1 ≤ low
-  pub ordered : low ≤ high
-  pub within : high ≤ max_size
 
--- sizes, the largest of which is not refused, given so many numbers of work and so many bytes of output
-pub record Sizes (sheet : List ℕ) (p : Problem) (low high work room : ℕ) : Type 0 where
-  pub positive : 1 ≤ low
-  pub ordered : low ≤ high
+-- a largest size that is not refused, given so many numbers of work and so many bytes of output
+pub record Fits (sheet : List ℕ) (p : Problem) (high work room : ℕ) : Type 0 where
   pub searchable : Searchable sheet p high work
   pub case : case_length high (shown_symbols (problem_in sheet p).symbols) ≤ room

@@ -13,7 +13,7 @@ ghost use Rattle.clauses.specs.Names.{Readable};
 ghost use Rattle.problem.specs.Problems.{problem_in};
 ghost use Rattle.valuations.specs.Numbers.{max_prop_vars};
 ghost use Rattle.finding.specs.Calls.{FindCall};
-ghost use Rattle.finding.specs.Ending.{Ends, Ranged, found_in};
+ghost use Rattle.finding.specs.Ending.{Ends, Opened, found_in};
 
 use allowed::AllowedAnswer;
 use answers::{at_line, needing};
@@ -21,6 +21,7 @@ use cases::writing::case_length;
 use columns::opened::open_sheet;
 use counts::{Counts, counts_at};
 use ranges::range::checked_range;
+use ranges::size_range::SizeRange;
 use sizes::search_sizes;
 use syntax::faults::Fault;
 use syntax::limits::Problem;
@@ -45,43 +46,42 @@ pub fn find_model(
 {
     let mut p = open_sheet(sheet, named)?;
     p.symmetry = symmetry;
-    let Some((least, most)) = checked_range(low, high) else {
+    let Some(range) = checked_range(low, high) else {
         return Err(at_line(Fault::Size, 0));
     };
-    find_in(sheet, p, least, most, allowance, work, output)
+    find_in(sheet, p, range, allowance, work, output)
 }
 
 // At checked sizes: the other refusals, in order, then the search.
 fn find_in(
     sheet: &[u8],
     p: Problem,
-    low: DomainSize,
-    high: DomainSize,
+    range: SizeRange,
     allowance: u64,
     work: &mut [u32],
     output: &mut [u8],
 ) -> AllowedAnswer
-    requires { Ranged sheet.now p low.0 high.0 }
-    ensures { Ends (found_in p.symmetry (problem_in sheet.now p) low.0 high.0 allowance) result work.old work.new output.old output.new }
+    requires { Opened sheet.now p }
+    ensures { Ends (found_in p.symmetry (problem_in sheet.now p) range.low.0 range.high.0 allowance) result work.old work.new output.old output.new }
 {
     if MAX_ALLOWANCE < allowance {
         return Err(at_line(Fault::Allowance, 0));
     }
-    let c = counts_at(sheet, p, high);
+    let c = counts_at(sheet, p, range.high);
     if Counts::MAX_INSTANCES < c.instances {
         return Err(at_line(Fault::Instances, 0));
     }
     let signature = p.signature;
-    let n = numbering_of(signature, high);
+    let n = numbering_of(signature, range.high);
     let needed = work_needed(c, n.count as usize);
-    let length = shown_length(signature, high);
+    let length = shown_length(signature, range.high);
     if work.len() < needed {
         return Err(needing(Fault::WorkLength, needed));
     }
     if output.len() < length {
         return Err(needing(Fault::OutputLength, length));
     }
-    search_sizes(sheet, p, low, high, allowance, work, output)
+    search_sizes(sheet, p, range, allowance, work, output)
 }
 
 // The length of a case, which shows the declared symbols.

@@ -9,12 +9,13 @@ ghost use Rattle.naming.specs.NamedProblem.{shown_symbols};
 ghost use Rattle.symmetry.specs.Obeying.{searched_with};
 ghost use Rattle.problem.specs.Problems.{problem_in};
 ghost use Rattle.finding.specs.Searching.{Searchable};
-ghost use Rattle.finding.specs.Ending.{Ends, Sizes, found_within, case_found};
+ghost use Rattle.finding.specs.Ending.{Ends, Fits, found_within, case_found};
 
 use crate::allowed::{AllowedAnswer, FindResult};
 use crate::one_size::search_size;
 use loading::clear_all;
 use ranges::settled::is_settled;
+use ranges::size_range::SizeRange;
 use reading_back::tables::Bits;
 use reading_back::writing::write_case;
 use search::Outcome;
@@ -22,22 +23,21 @@ use syntax::limits::Problem;
 use syntax::size::DomainSize;
 use valuations::numbering::numbering_of;
 
-// Searches the sizes from low to high, with so many choices allowed in all.
+// Searches the sizes of the range, the smallest first, with so many choices allowed in all.
 pub fn search_sizes(
     sheet: &[u8],
     p: Problem,
-    low: DomainSize,
-    high: DomainSize,
+    range: SizeRange,
     allowance: u64,
     work: &mut [u32],
     output: &mut [u8],
 ) -> AllowedAnswer
-    requires { Sizes sheet.now p low.0 high.0 (length work.old) (length output.old) }
-    ensures { Ends (found_within p.symmetry (problem_in sheet.now p) low.0 high.0 allowance) result work.old work.new output.old output.new }
+    requires { Fits sheet.now p range.high.0 (length work.old) (length output.old) }
+    ensures { Ends (found_within p.symmetry (problem_in sheet.now p) range.low.0 range.high.0 allowance) result work.old work.new output.old output.new }
 {
     let signature = p.signature;
     let mut made = 0;
-    for number in low.0..high.0 + 1 {
+    for number in range.low.0..range.high.0 + 1 {
         let size = DomainSize(number);
         let n = numbering_of(signature, size);
         match search_size(sheet, p, n, size, allowance - made, work) {
@@ -52,7 +52,7 @@ pub fn search_sizes(
         }
     }
     clear_all(work);
-    Ok(FindResult::Nothing(is_settled(p, low, high), made))
+    Ok(FindResult::Nothing(is_settled(p, range.low, range.high), made))
 }
 
 // Writes the model whose valuation the first numbers of the work area are, found after so many choices, and clears the work area. The case shows the declared symbols, whose

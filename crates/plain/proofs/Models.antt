@@ -18,12 +18,13 @@ use Rattle.syntax.specs.declared.limits.Problem.{Problem}
 use Rattle.syntax.specs.Signatures.{signature_in}
 use Rattle.problem.specs.Problems.{problem_in}
 use Rattle.judging.specs.Cases.{cells_of}
+use Rattle.ranges.specs.declared.size_range.SizeRange.{SizeRange}
 use Rattle.case_writer.specs.Writable.{Writable}
 use Rattle.std.specs.Prelude as rust
 use Rattle.std.specs.Prelude.{Some, None}
 use Rattle.plain.specs.declared.cells.PlainCells.{PlainCells}
 use Rattle.plain.specs.Filling.{Searchable, model_in}
-use Rattle.plain.specs.Ending.{Ranged, Sizes}
+use Rattle.plain.specs.Ending.{Opened, Fits}
 
 -- the least model as a filling tells it
 module _ (sheet : List ℕ) (p : Problem) (s : ℕ) (r : rust.Option PlainCells) (e : model_in sheet p s r ≡ least_model s (problem_in sheet p)) where
@@ -63,19 +64,19 @@ module _ (sheet : List ℕ) (p : Problem) (s : ℕ) (h : Searchable sheet p s) (
   unfolding problem_in
   model-written n e out out' o = o ∙ ap (λ (vs : List ℕ). over (case_text s (signature_in sheet p.signature) vs) out) (cells-taken n e)
 
-module _ (sheet : List ℕ) (p : Problem) (low high room : ℕ) (h : Sizes sheet p low high room) (size : ℕ) (above : low ≤ size) (below : size ≤ high) where
+module _ (sheet : List ℕ) (p : Problem) (r : SizeRange) (room : ℕ) (h : Fits sheet p r.high.0 room) (size : ℕ) (above : r.low.0 ≤ size) (below : size ≤ r.high.0) where
   -- a smaller size is not refused either
   pub size-searchable : Searchable sheet p size
   size-searchable =
       record {
-        positive = omega (arith, h.positive);
+        positive = omega (arith, r.positive);
         size = omega (arith, h.searchable.size);
         accepted = h.searchable.accepted;
-        few = omega (arith, h.searchable.few, cell_count-grows size high below (signature_in sheet p.signature));
+        few = omega (arith, h.searchable.few, cell_count-grows size r.high.0 below (signature_in sheet p.signature));
       }
 
   pub size-case : case_length size (problem_in sheet p).symbols ≤ room
-  size-case = omega (arith, h.case, case_length-grows size high below (problem_in sheet p).symbols)
+  size-case = omega (arith, h.case, case_length-grows size r.high.0 below (problem_in sheet p).symbols)
 
 -- the number of cells, said of the problem
 pub cells_is : (sheet : List ℕ) (p : Problem) (s n : ℕ) → n ≡ cell_count s (signature_in sheet p.signature) → n ≡ cell_count s (problem_in sheet p).symbols
@@ -83,14 +84,12 @@ unfolding problem_in
 cells_is sheet p s n e = e
 
 -- all checks passed
-pub all-sizes : (sheet : List ℕ) (p : Problem) (low high room : ℕ) → Ranged sheet p low high → cell_count high (problem_in sheet p).symbols ≤ max_plain_cells
-    → case_length high (problem_in sheet p).symbols ≤ room → Sizes sheet p low high room
+pub all-sizes : (sheet : List ℕ) (p : Problem) (r : SizeRange) (room : ℕ) → Opened sheet p → cell_count r.high.0 (problem_in sheet p).symbols ≤ max_plain_cells
+    → case_length r.high.0 (problem_in sheet p).symbols ≤ room → Fits sheet p r.high.0 room
 unfolding problem_in
-all-sizes sheet p low high room h few case =
+all-sizes sheet p r room h few case =
     record {
-      positive = h.positive;
-      ordered = h.ordered;
-      searchable = record { positive = omega (arith, h.positive, h.ordered); size = h.within; accepted = h.accepted; few = few };
+      searchable = record { positive = omega (arith, r.positive, r.ordered); size = r.within; accepted = h.accepted; few = few };
       case = case;
     }
 

@@ -6,7 +6,7 @@ use Rattle.theory.specs.Problem.{read_problem}
 use Rattle.theory.specs.Problem as theory
 use Rattle.theory.specs.CaseText.{case_length}
 use Rattle.theory.specs.Least.{smallest_model}
-use Rattle.theory.specs.Operations.{max_size, Search, search_of}
+use Rattle.theory.specs.Operations.{Search, search_of}
 use Rattle.theory.specs.PlainSearch.{max_plain_cells}
 use Rattle.syntax.specs.declared.limits.Problem.{Problem}
 use Rattle.problem.specs.Problems.{problem_in, Accepted}
@@ -23,17 +23,12 @@ found_in p low high room = do
   _ ← check (leb (case_length high p.symbols) room) (needing 11 (case_length high p.symbols))
   found_within p low high
 
--- a problem that was read of the sheet as it stands, and sizes in order
-pub record Ranged (sheet : List ℕ) (p : Problem) (low high : ℕ) : Type 0 where
+-- a problem that was read of the sheet as it stands
+pub record Opened (sheet : List ℕ) (p : Problem) : Type 0 where
   pub accepted : Accepted sheet p
   pub read : read_problem sheet ≡ answer (problem_in sheet p)
-  pub positive : 1 ≤ low
-  pub ordered : low ≤ high
-  pub within : high ≤ max_size
 
--- sizes, the largest of which is not refused, given so many bytes of output
-pub record Sizes (sheet : List ℕ) (p : Problem) (low high room : ℕ) : Type 0 where
-  pub positive : 1 ≤ low
-  pub ordered : low ≤ high
+-- a largest size that is not refused, given so many bytes of output
+pub record Fits (sheet : List ℕ) (p : Problem) (high room : ℕ) : Type 0 where
   pub searchable : Searchable sheet p high
   pub case : case_length high (problem_in sheet p).symbols ≤ room

@@ -8,7 +8,7 @@ ghost use Rattle.answers.specs.Calls.{PlainSearchingCall};
 ghost use Rattle.problem.specs.Problems.{problem_in};
 ghost use Rattle.judging.specs.Cases.{cells_of};
 ghost use Rattle.plain.specs.Filling.{Searchable};
-ghost use Rattle.plain.specs.Ending.{Sizes, found_within};
+ghost use Rattle.plain.specs.Ending.{Fits, found_within};
 
 use crate::cells::PlainCells;
 use crate::filling::least_model;
@@ -16,28 +16,23 @@ use answers::{FindAnswer, PlainResult};
 use case_writer::write_cells;
 use interpretation::tables::tables_of;
 use ranges::settled::is_settled;
+use ranges::size_range::SizeRange;
 use syntax::limits::Problem;
 use syntax::size::DomainSize;
 
-// Searches the sizes from low to high.
-pub fn search_sizes(
-    sheet: &[u8],
-    p: Problem,
-    low: DomainSize,
-    high: DomainSize,
-    output: &mut [u8],
-) -> FindAnswer
-    requires { Sizes sheet.now p low.0 high.0 (length output.old) }
-    ensures { PlainSearchingCall (found_within (problem_in sheet.now p) low.0 high.0) result output.old output.new }
+// Searches the sizes of the range, the smallest first.
+pub fn search_sizes(sheet: &[u8], p: Problem, range: SizeRange, output: &mut [u8]) -> FindAnswer
+    requires { Fits sheet.now p range.high.0 (length output.old) }
+    ensures { PlainSearchingCall (found_within (problem_in sheet.now p) range.low.0 range.high.0) result output.old output.new }
 {
-    for s in low.0..high.0 + 1 {
+    for s in range.low.0..range.high.0 + 1 {
         let size = DomainSize(s);
         if let Some(cells) = least_model(sheet, p, size) {
             let length = put_model(sheet, p, size, cells, output);
             return Ok(PlainResult::Found(s as u64, length));
         }
     }
-    Ok(PlainResult::Nothing(is_settled(p, low, high)))
+    Ok(PlainResult::Nothing(is_settled(p, range.low, range.high)))
 }
 
 // Writes the model that was found to the front of the output and answers the length of its case.

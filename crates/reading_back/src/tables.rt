@@ -23,67 +23,32 @@ pub enum Bits<'a> {
     Values(&'a [u32]),
 }
 
-// The values of a symbol's cells, whose variables start with `from`. `room` is room for the symbol's bits.
-fn table_held(
-    bits: Bits<'_>,
-    from: PropVar,
-    function: bool,
-    size: DomainSize,
-    room: &mut [u8],
-    table: &mut [u8],
-)
-    requires size_bound { (size.0 ≤ 8) × (length table.old * theory.width size.0 (kind_of function) ≤ length room.old) }
+// The values of a symbol's cells, whose variables start with `from`.
+fn table_held(bits: Bits<'_>, from: PropVar, function: bool, size: DomainSize, table: &mut [u8])
+    requires size_bound { (size.0 ≤ 8) × (length table.old * theory.width size.0 (kind_of function) ≤ 4096) }
     requires function_in_bounds { from.0 + length table.old * theory.width size.0 (kind_of function) ≤ length (bits_held bits) }
     requires values_len_bound { length (bits_held bits) < 2 ^ 32 }
     ensures { table.new ≡ cell_values size.0 (kind_of function) (length table.old) from.0 (bits_held bits.entry) }
 {
     match bits {
         Bits::Setting(setting) => read_table(setting, from, function, size, table),
-        Bits::Values(values) => table_found(values, from, function, size, room, table),
+        Bits::Values(values) => table_found(values, from, function, size, table),
     }
 }
 
-// The same from a search's values.
-fn table_found(
-    values: &[u32],
-    from: PropVar,
-    function: bool,
-    size: DomainSize,
-    room: &mut [u8],
-    table: &mut [u8],
-)
-    requires size_bound { (size.0 ≤ 8) × (length table.old * theory.width size.0 (kind_of function) ≤ length room.old) }
+// The same from a search's values, which are made bits first.
+fn table_found(values: &[u32], from: PropVar, function: bool, size: DomainSize, table: &mut [u8])
+    requires size_bound { (size.0 ≤ 8) × (length table.old * theory.width size.0 (kind_of function) ≤ 4096) }
     requires function_in_bounds { from.0 + length table.old * theory.width size.0 (kind_of function) ≤ length values.now }
     requires values_len_bound { length values.now < 2 ^ 32 }
     ensures { table.new ≡ cell_values size.0 (kind_of function) (length table.old) from.0 (setting_of values.now) }
 {
+    let mut room = [0u8; Problem::MAX_TABLE_BITS];
     let count = table.len() * width(function, size) as usize;
     let start = from.0 as usize;
     let end = start + count;
     read_values(&values[start..end], &mut room[0..count]);
     read_table(&room[0..count], PropVar(0), function, size, table);
-}
-
-// The symbol's line, with room for its bits and for its table.
-fn put_line(
-    sheet: &[u8],
-    symbol: Symbol,
-    from: PropVar,
-    size: DomainSize,
-    bits: Bits<'_>,
-    room: &mut [u8],
-    table: &mut [u8],
-    out: &mut [u8],
-    at: usize,
-) -> usize
-    requires table_lent { TableLent sheet.now symbol from.0 size.0 (bits_held bits) }
-    requires in_bounds { (4096 ≤ length room.old) × (length table.old ≡ size.0 ^ symbol.arity) }
-    requires values_in_bounds { at + length (table_line sheet.now symbol from.0 size.0 (bits_held bits)) ≤ length out.old }
-    ensures written { out.new ≡ put out.old at (table_line sheet.now symbol from.0 size.0 (bits_held bits.entry)) }
-    ensures place { result ≡ at + length (table_line sheet.now symbol from.0 size.0 (bits_held bits.entry)) }
-{
-    table_held(bits, from, symbol.function, size, room, table);
-    put_table(out, at, sheet, symbol, table)
 }
 
 // The line of a symbol, whose variables start with `from`, at the place `at`; answers the place after it.
@@ -101,18 +66,9 @@ pub fn put_symbol(
     ensures written { out.new ≡ put out.old at (table_line sheet.now symbol from.0 size.0 (bits_held bits.entry)) }
     ensures place { result ≡ at + length (table_line sheet.now symbol from.0 size.0 (bits_held bits.entry)) }
 {
-    let mut room = [0u8; Problem::MAX_TABLE_BITS];
     let mut table = [0u8; Problem::MAX_TABLE];
     let cells = power(size.0, symbol.arity as usize);
-    put_line(
-        sheet,
-        symbol,
-        from,
-        size,
-        bits,
-        &mut room,
-        &mut table[0..cells],
-        out,
-        at,
-    )
+    let table = &mut table[0..cells];
+    table_held(bits, from, symbol.function, size, table);
+    put_table(out, at, sheet, symbol, table)
 }

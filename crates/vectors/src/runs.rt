@@ -6,14 +6,41 @@ use vector_lines::inputs::{Input, input_at};
 use vector_lines::lending::{pattern_bytes, pattern_numbers};
 use vector_lines::lines::{heading, say};
 
-// What a file's inputs are for; the switches are the mode of named terms and the constant clauses.
+// The switches of Write and Find: the mode of named terms, and the constant clauses.
+#[derive(Clone, Copy)]
+pub struct Switches {
+    pub named: bool,
+    pub symmetry: bool,
+}
+
+pub const NONE: Switches = Switches {
+    named: false,
+    symmetry: false,
+};
+
+pub const NAMED: Switches = Switches {
+    named: true,
+    symmetry: false,
+};
+
+pub const SYMMETRY: Switches = Switches {
+    named: false,
+    symmetry: true,
+};
+
+pub const BOTH: Switches = Switches {
+    named: true,
+    symmetry: true,
+};
+
+// What a file's inputs are for; Read back has the mode of named terms alone.
 #[derive(Clone, Copy)]
 pub enum Operation {
     Read,
     Judge,
-    Write(bool, bool),
+    Write(Switches),
     ReadBack(bool),
-    Find(bool, bool),
+    Find(Switches),
     FromTptp,
     Explain,
     Setting,
@@ -38,11 +65,10 @@ fn write(
     rt: &impl Print,
     sheet: &[u8],
     size: u64,
-    named: bool,
-    symmetry: bool,
+    switches: Switches,
     output: &mut [u8],
 ) -> io::Result<()> {
-    let answer = nesskettle::write(sheet, size, named, symmetry, output);
+    let answer = nesskettle::write(sheet, size, switches.named, switches.symmetry, output);
     text(rt, answer, output)
 }
 
@@ -62,8 +88,7 @@ fn find(
     rt: &impl Print,
     sheet: &[u8],
     x: Input,
-    named: bool,
-    symmetry: bool,
+    switches: Switches,
     work: &mut [u32],
     output: &mut [u8],
 ) -> io::Result<()> {
@@ -71,8 +96,8 @@ fn find(
         sheet,
         x.low,
         x.high,
-        named,
-        symmetry,
+        switches.named,
+        switches.symmetry,
         x.allowance,
         work,
         output,
@@ -157,23 +182,31 @@ fn least_form(rt: &impl Print, sheet: &[u8], case: &[u8], output: &mut [u8]) -> 
     text(rt, answer, output)
 }
 
+// The sheet of an input, or the TPTP clauses, and what stands beside it.
+#[derive(Clone, Copy)]
+struct Texts<'a> {
+    sheet: &'a [u8],
+    beside: &'a [u8],
+}
+
 fn answer(
     rt: &impl Print,
     operation: Operation,
-    sheet: &[u8],
-    beside: &[u8],
+    texts: Texts<'_>,
     x: Input,
     work: &mut [u32],
     output: &mut [u8],
 ) -> io::Result<()> {
     pattern_numbers(work);
     pattern_bytes(output);
+    let sheet = texts.sheet;
+    let beside = texts.beside;
     match operation {
         Operation::Read => read(rt, sheet),
         Operation::Judge => judge(rt, sheet, beside),
-        Operation::Write(named, symmetry) => write(rt, sheet, x.low, named, symmetry, output),
+        Operation::Write(switches) => write(rt, sheet, x.low, switches, output),
         Operation::ReadBack(named) => read_back(rt, sheet, x.low, named, beside, output),
-        Operation::Find(named, symmetry) => find(rt, sheet, x, named, symmetry, work, output),
+        Operation::Find(switches) => find(rt, sheet, x, switches, work, output),
         Operation::FromTptp => from_tptp(rt, sheet, output),
         Operation::Explain => explain(rt, sheet, beside),
         Operation::Setting => setting(rt, sheet, beside, output),
@@ -189,8 +222,7 @@ fn answer(
 fn lend(
     rt: &impl Print,
     operation: Operation,
-    sheet: &[u8],
-    beside: &[u8],
+    texts: Texts<'_>,
     x: Input,
     work: &mut [u32],
     output: &mut [u8],
@@ -206,8 +238,7 @@ fn lend(
     answer(
         rt,
         operation,
-        sheet,
-        beside,
+        texts,
         x,
         &mut work[..numbers],
         &mut output[..bytes],
@@ -237,15 +268,11 @@ pub fn answer_all(
         }
         count = count.wrapping_add(1);
         heading(rt, label, count)?;
-        lend(
-            rt,
-            operation,
-            &stored[sheet..beside],
-            &stored[beside..end],
-            x,
-            work,
-            output,
-        )?;
+        let texts = Texts {
+            sheet: &stored[sheet..beside],
+            beside: &stored[beside..end],
+        };
+        lend(rt, operation, texts, x, work, output)?;
         at = end;
     }
     Ok(())

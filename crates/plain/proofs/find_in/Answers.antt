@@ -20,13 +20,13 @@ returns-then-t-gt-MAX c = let s = c in
     let q = problem_in a.sheet.now a.p in
     let R = length a.output.now in
     let k = c.tables_of-t in
-    let count = cells_is a.sheet.now a.p a.high.0 k.result.cells (k.ensures a.sheet.now).cells in
-    ends-refused (found_in q a.low.0 a.high.0 R) c.at_line.result (unplaced 20) a.output.now (refused-20 q a.low.0 a.high.0 R (omega (arith, count, c.if-t-gt-MAX.true))) c.at_line.ensures
+    let count = cells_is a.sheet.now a.p a.range.high.0 k.result.cells (k.ensures a.sheet.now).cells in
+    ends-refused (found_in q a.range.low.0 a.range.high.0 R) c.at_line.result (unplaced 20) a.output.now (refused-20 q a.range.low.0 a.range.high.0 R (omega (arith, count, c.if-t-gt-MAX.true))) c.at_line.ensures
 
 pub case_length-length-requires : goal.case_length-length-requires
 case_length-length-requires c = let s = c in
     let a = s.args in
-    (s.requires.within, (a.sheet.now, (s.requires.accepted.readable, read_problem-bytes a.sheet.now (problem_in a.sheet.now a.p) s.requires.read)))
+    (a.range.within, (a.sheet.now, (s.requires.accepted.readable, read_problem-bytes a.sheet.now (problem_in a.sheet.now a.p) s.requires.read)))
 
 pub returns-then-output-length : goal.returns-then-output-length
 returns-then-output-length c = let s = c in
@@ -34,11 +34,11 @@ returns-then-output-length c = let s = c in
     let q = problem_in a.sheet.now a.p in
     let R = length a.output.now in
     let k = c.tables_of-t in
-    let count = cells_is a.sheet.now a.p a.high.0 k.result.cells (k.ensures a.sheet.now).cells in
-    let few : cell_count a.high.0 q.symbols ≤ max_plain_cells = omega (arith, count, c.if-t-gt-MAX.false) in
+    let count = cells_is a.sheet.now a.p a.range.high.0 k.result.cells (k.ensures a.sheet.now).cells in
+    let few : cell_count a.range.high.0 q.symbols ≤ max_plain_cells = omega (arith, count, c.if-t-gt-MAX.false) in
     let m = c.case_length-length in
-    let case : m.result ≡ case_length a.high.0 q.symbols = length-is a.sheet.now a.p a.high.0 m.result (m.ensures a.sheet.now s.requires.accepted.readable) in
-    ends-refused (found_in q a.low.0 a.high.0 R) c.needing.result (needing 11 (case_length a.high.0 q.symbols)) a.output.now (refused-11 q a.low.0 a.high.0 R few (omega (arith, case, c.if-output-length.true))) (c.needing.ensures ∙ ap (needing 11) case)
+    let case : m.result ≡ case_length a.range.high.0 q.symbols = length-is a.sheet.now a.p a.range.high.0 m.result (m.ensures a.sheet.now s.requires.accepted.readable) in
+    ends-refused (found_in q a.range.low.0 a.range.high.0 R) c.needing.result (needing 11 (case_length a.range.high.0 q.symbols)) a.output.now (refused-11 q a.range.low.0 a.range.high.0 R few (omega (arith, case, c.if-output-length.true))) (c.needing.ensures ∙ ap (needing 11) case)
 
 pub search_sizes-requires : goal.search_sizes-requires
 search_sizes-requires c = let s = c in
@@ -46,11 +46,11 @@ search_sizes-requires c = let s = c in
     let q = problem_in a.sheet.now a.p in
     let R = length a.output.now in
     let k = c.tables_of-t in
-    let count = cells_is a.sheet.now a.p a.high.0 k.result.cells (k.ensures a.sheet.now).cells in
-    let few : cell_count a.high.0 q.symbols ≤ max_plain_cells = omega (arith, count, c.if-t-gt-MAX.false) in
+    let count = cells_is a.sheet.now a.p a.range.high.0 k.result.cells (k.ensures a.sheet.now).cells in
+    let few : cell_count a.range.high.0 q.symbols ≤ max_plain_cells = omega (arith, count, c.if-t-gt-MAX.false) in
     let m = c.case_length-length in
-    let case : m.result ≡ case_length a.high.0 q.symbols = length-is a.sheet.now a.p a.high.0 m.result (m.ensures a.sheet.now s.requires.accepted.readable) in
-    all-sizes a.sheet.now a.p a.low.0 a.high.0 R s.requires few (omega (arith, case, c.if-output-length.false))
+    let case : m.result ≡ case_length a.range.high.0 q.symbols = length-is a.sheet.now a.p a.range.high.0 m.result (m.ensures a.sheet.now s.requires.accepted.readable) in
+    all-sizes a.sheet.now a.p a.range R s.requires few (omega (arith, case, c.if-output-length.false))
 
 pub returns : goal.returns
 returns c = let s = c in
@@ -58,9 +58,9 @@ returns c = let s = c in
     let q = problem_in a.sheet.now a.p in
     let R = length a.output.now in
     let k = c.tables_of-t in
-    let count = cells_is a.sheet.now a.p a.high.0 k.result.cells (k.ensures a.sheet.now).cells in
-    let few : cell_count a.high.0 q.symbols ≤ max_plain_cells = omega (arith, count, c.if-t-gt-MAX.false) in
+    let count = cells_is a.sheet.now a.p a.range.high.0 k.result.cells (k.ensures a.sheet.now).cells in
+    let few : cell_count a.range.high.0 q.symbols ≤ max_plain_cells = omega (arith, count, c.if-t-gt-MAX.false) in
     let m = c.case_length-length in
-    let case : m.result ≡ case_length a.high.0 q.symbols = length-is a.sheet.now a.p a.high.0 m.result (m.ensures a.sheet.now s.requires.accepted.readable) in
+    let case : m.result ≡ case_length a.range.high.0 q.symbols = length-is a.sheet.now a.p a.range.high.0 m.result (m.ensures a.sheet.now s.requires.accepted.readable) in
     let t = c.search_sizes in
-    ends_as (found_in q a.low.0 a.high.0 R) t.result a.output.now t.new.output (found_within q a.low.0 a.high.0) (searches q a.low.0 a.high.0 R few (omega (arith, case, c.if-output-length.false))) t.ensures
+    ends_as (found_in q a.range.low.0 a.range.high.0 R) t.result a.output.now t.new.output (found_within q a.range.low.0 a.range.high.0) (searches q a.range.low.0 a.range.high.0 R few (omega (arith, case, c.if-output-length.false))) t.ensures

@@ -9,22 +9,20 @@ use Rattle.case_forms.proofs.renumber.put_renumbered.Goals as goal
 
 -- `put_renumbered` meets its contract: the cells renumbered are a case, and are written.
 pub take_renumbered-requires : goal.take_renumbered-requires
-take_renumbered-requires c = let s = c in
-    let a = s.args in
-    (cells-lent a.sheet.now a.signature a.size.0 a.cells.now s.requires.writable.0 a.held.now s.requires.writable.1.1, s.requires.writable.1.0)
+take_renumbered-requires c = let a = c.args in
+    let opened = a.case in
+    (cells-lent opened.sheet.now opened.signature.now opened.size.0 opened.cells.now c.requires.writable.0 a.held.now c.requires.writable.1.1, c.requires.writable.1.0)
 
-pub write_cells-requires : goal.write_cells-requires
-write_cells-requires c = let s = c in
-    let a = s.args in
-    let t = c.take_renumbered in record { writable = renumbered-writable a.sheet.now a.signature a.size.0 a.cells.now s.requires.writable.0 a.r s.requires.writable.1.0 a.held.now t.new.held s.requires.writable.1.1 (t.ensures a.sheet.now); signature_in_bounds = s.requires.signature_in_bounds }
+pub write_cells-requires-clause-writable : goal.write_cells-requires-clause-writable
+write_cells-requires-clause-writable c = let a = c.args in
+    let opened = a.case in
+    let t = c.take_renumbered in
+    renumbered-writable opened.sheet.now opened.signature.now opened.size.0 opened.cells.now c.requires.writable.0 a.r c.requires.writable.1.0 a.held.now t.new.held c.requires.writable.1.1 (t.ensures opened.sheet.now)
 
-pub returns : goal.returns
-returns c = let s = c in
-    let a = s.args in
-    let w = c.write_cells in
-    let t = c.take_renumbered in record {
-      written = w.ensures.written
-          ∙ ap (λ (l : List ℕ). over (case_text a.size.0 (signature_in a.sheet.now a.signature) l) a.output.now)
-          (is-renumbered a.sheet.now a.signature a.size.0 a.cells.now s.requires.writable.0 a.r s.requires.writable.1.0 a.held.now t.new.held s.requires.writable.1.1 (t.ensures a.sheet.now));
-      place = w.ensures.place;
-    }
+pub returns-clause-written : goal.returns-clause-written
+returns-clause-written c = let a = c.args in
+    let opened = a.case in
+    let t = c.take_renumbered in
+    c.write_cells.ensures.written
+    ∙ ap (λ (l : List ℕ). over (case_text opened.size.0 (signature_in opened.sheet.now opened.signature.now) l) a.output.now)
+    (is-renumbered opened.sheet.now opened.signature.now opened.size.0 opened.cells.now c.requires.writable.0 a.r c.requires.writable.1.0 a.held.now t.new.held c.requires.writable.1.1 (t.ensures opened.sheet.now))

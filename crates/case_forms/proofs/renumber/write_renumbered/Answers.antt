@@ -22,80 +22,67 @@ use Rattle.rearranging.specs.declared.rearrangement.Rearrangement.{Rearrangement
 use Rattle.case_forms.proofs.renumber.write_renumbered.Goals as goal
 
 pub returns-in_default : goal.returns-in_default
-returns-in_default c = let s = c in
-    let a = s.args in
-    let g = signature_in a.sheet.now a.signature in
+returns-in_default c = let a = c.args in
+    let opened = a.case in
+    let g = signature_in opened.sheet.now opened.signature.now in
     let l = c.read_list in
     refuses _ (unplaced 25) c.at_line.result a.output.now
-    (no-list a.size.0 g a.cells.now (length a.output.now) a.list.now (sym l.ensures.taken ∙ ap (λ (o : rust.Option Rearrangement). is_some o) c.in_default.is)) c.at_line.ensures
-
-pub case_length-length-requires : goal.case_length-length-requires
-case_length-length-requires c = let s = c in
-    (s.requires.small, (s.args.sheet.now, (s.requires.readable, s.requires.short)))
+    (no-list opened.size.0 g opened.cells.now (length a.output.now) a.list.now (sym l.ensures.taken ∙ ap (λ (o : rust.Option Rearrangement). is_some o) c.in_default.is)) c.at_line.ensures
 
 pub returns-then-output-length : goal.returns-then-output-length
-returns-then-output-length c = let s = c in
-    let a = s.args in
-    let g = signature_in a.sheet.now a.signature in
+returns-then-output-length c = let a = c.args in
+    let opened = a.case in
+    let g = signature_in opened.sheet.now opened.signature.now in
     let l = c.read_list in
     let m = c.case_length-length in
-    let case : m.result ≡ case_length a.size.0 g = m.ensures a.sheet.now s.requires.readable in
-    refuses _ (needing 11 (case_length a.size.0 g)) c.needing.result a.output.now
-    (no_room a.size.0 g a.cells.now (length a.output.now) a.list.now (sym l.ensures.taken ∙ ap (λ (o : rust.Option Rearrangement). is_some o) c.in-Some.is) (omega (arith, case, c.if-output-length.true)))
+    let case : m.result ≡ case_length opened.size.0 g = m.ensures opened.sheet.now c.requires.readable in
+    refuses _ (needing 11 (case_length opened.size.0 g)) c.needing.result a.output.now
+    (no_room opened.size.0 g opened.cells.now (length a.output.now) a.list.now (sym l.ensures.taken ∙ ap (λ (o : rust.Option Rearrangement). is_some o) c.in-Some.is) (omega (arith, case, c.if-output-length.true)))
     (c.needing.ensures ∙ ap (needing 11) case)
 
-pub slice_bounds-put_renumbered-end : goal.slice_bounds-put_renumbered-end
-slice_bounds-put_renumbered-end c = let s = c in
-    let a = s.args in
+pub slice_bounds-first-end : goal.slice_bounds-first-end
+slice_bounds-first-end c = let opened = c.args.case in
     let k = c.tables_of-t in
-    first-end a.sheet.now a.signature a.size.0 a.cells.now s.requires k.result.cells (k.ensures a.sheet.now).cells
+    first-end opened.sheet.now opened.signature.now opened.size.0 opened.cells.now c.requires k.result.cells (k.ensures opened.sheet.now).cells
 
 pub slice_bounds-held-end : goal.slice_bounds-held-end
-slice_bounds-held-end c = let s = c in
-    let a = s.args in
+slice_bounds-held-end c = let opened = c.args.case in
     let k = c.tables_of-t in
-    omega (arith, few a.sheet.now a.signature a.size.0 a.cells.now s.requires k.result.cells (k.ensures a.sheet.now).cells)
-
-pub put_renumbered-requires : goal.put_renumbered-requires
-put_renumbered-requires c = let s = c in
-    let a = s.args in
-    let g = signature_in a.sheet.now a.signature in
-    let k = c.tables_of-t in
-    let n = k.result.cells in
-    let e = (k.ensures a.sheet.now).cells in
-    let m = c.case_length-length in
-    let case : m.result ≡ case_length a.size.0 g = m.ensures a.sheet.now s.requires.readable in
-    let l = c.read_list in
-    let taken = ap (λ (o : rust.Option Rearrangement). is_some o) c.in-Some.is in
-    let read = c.in-Some.ensures.entries in record {
-      writable = (
-        first-writable a.sheet.now a.signature a.size.0 a.cells.now s.requires n e,
-        (
-          listed-rearranges a.size.0 a.list.now c.in-Some.entries read.0 read.1 (sym l.ensures.taken ∙ taken),
-          part-zeros 12320 n (few a.sheet.now a.signature a.size.0 a.cells.now s.requires n e) ∙ sym (length_part a.sheet.now a.signature a.size.0 a.cells.now s.requires n e),
-        ),
-      );
-      signature_in_bounds = omega (arith, case, c.if-output-length.false);
-    }
+    omega (arith, few opened.sheet.now opened.signature.now opened.size.0 opened.cells.now c.requires k.result.cells (k.ensures opened.sheet.now).cells)
 
 pub returns : goal.returns
-returns c = let s = c in
-    let a = s.args in
-    let g = signature_in a.sheet.now a.signature in
+returns c = let a = c.args in
+    let opened = a.case in
+    let g = signature_in opened.sheet.now opened.signature.now in
     let k = c.tables_of-t in
     let n = k.result.cells in
-    let e = (k.ensures a.sheet.now).cells in
+    let e = (k.ensures opened.sheet.now).cells in
     let m = c.case_length-length in
-    let case : m.result ≡ case_length a.size.0 g = m.ensures a.sheet.now s.requires.readable in
+    let case : m.result ≡ case_length opened.size.0 g = m.ensures opened.sheet.now c.requires.readable in
     let l = c.read_list in
     let taken = ap (λ (o : rust.Option Rearrangement). is_some o) c.in-Some.is in
     let read = c.in-Some.ensures.entries in
-    let listed : is_listed a.size.0 a.list.now ≡ true = sym l.ensures.taken ∙ taken in
+    let listed : is_listed opened.size.0 a.list.now ≡ true = sym l.ensures.taken ∙ taken in
     let p = entries_of a.list.now in
     let v = c.put_renumbered in
-    let text : List ℕ → List ℕ = λ vs. case_text a.size.0 g vs in
-    writes _ (text (renumbered a.size.0 g p (first_cells a.size.0 g a.cells.now))) v.result a.output.now v.new.output
-    (case-said a.size.0 g a.cells.now (length a.output.now) a.list.now listed (omega (arith, case, c.if-output-length.false)))
-    (v.ensures.place ∙ sym (length-renumbered-case a.sheet.now a.signature a.size.0 a.cells.now s.requires p (rearranges a.size.0 a.list.now listed)))
-    (written-renumbered a.sheet.now a.signature a.size.0 a.cells.now s.requires n e p a.output.now v.new.output
-    (v.ensures.written ∙ ap (λ (q : List ℕ). over (text (renumbered a.size.0 g q (take (n - 0) a.cells.now))) a.output.now) read.1))
+    let text : List ℕ → List ℕ = λ vs. case_text opened.size.0 g vs in
+    writes _ (text (renumbered opened.size.0 g p (first_cells opened.size.0 g opened.cells.now))) v.result a.output.now v.new.output
+    (case-said opened.size.0 g opened.cells.now (length a.output.now) a.list.now listed (omega (arith, case, c.if-output-length.false)))
+    (v.ensures.place ∙ sym (length-renumbered-case opened.sheet.now opened.signature.now opened.size.0 opened.cells.now c.requires p (rearranges opened.size.0 a.list.now listed)))
+    (written-renumbered opened.sheet.now opened.signature.now opened.size.0 opened.cells.now c.requires n e p a.output.now v.new.output
+    (v.ensures.written ∙ ap (λ (q : List ℕ). over (text (renumbered opened.size.0 g q (take (n - 0) opened.cells.now))) a.output.now) read.1))
+
+pub put_renumbered-requires-clause-writable : goal.put_renumbered-requires-clause-writable
+put_renumbered-requires-clause-writable c = let a = c.args in
+    let opened = a.case in
+    let k = c.tables_of-t in
+    let n = k.result.cells in
+    let e = (k.ensures opened.sheet.now).cells in
+    let taken = ap (λ (o : rust.Option Rearrangement). is_some o) c.in-Some.is in
+    let read = c.in-Some.ensures.entries in (
+      first-writable opened.sheet.now opened.signature.now opened.size.0 opened.cells.now c.requires n e,
+      (
+        listed-rearranges opened.size.0 a.list.now c.in-Some.entries read.0 read.1 (sym c.read_list.ensures.taken ∙ taken),
+        part-zeros 12320 n (few opened.sheet.now opened.signature.now opened.size.0 opened.cells.now c.requires n e) ∙ sym (length_part opened.sheet.now opened.signature.now opened.size.0 opened.cells.now c.requires n e),
+      ),
+    )

@@ -10,4 +10,4 @@ abbrev pub invariant-loop-number : goal.invariant-loop-number
 invariant-loop-number l =
     (l.output ≡ l.initial.output)
     × (l.made ≤ l.allowance)
-    × (search_within l.p.symmetry (problem_in l.sheet l.p) l.low.0 l.high.0 l.allowance ≡ before l.made (remaining l.p.symmetry (problem_in l.sheet l.p) l.high.0 l.number (l.allowance - l.made)))
+    × (search_within l.p.symmetry (problem_in l.sheet l.p) l.range.low.0 l.range.high.0 l.allowance ≡ before l.made (remaining l.p.symmetry (problem_in l.sheet l.p) l.range.high.0 l.number (l.allowance - l.made)))

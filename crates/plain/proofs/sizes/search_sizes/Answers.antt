@@ -20,16 +20,16 @@ loop-s-init c = (refl, refl, refl)
 pub least_model-requires : goal.least_model-requires
 least_model-requires c = let z = c in
     let a = z.args in
-    size-searchable a.sheet.now a.p a.low.0 a.high.0 (length a.output.now) z.requires c.loop-s.s (omega arith) (omega arith)
+    size-searchable a.sheet.now a.p a.range (length a.output.now) z.requires c.loop-s.s (omega arith) (omega arith)
 
 pub put_model-length-requires : goal.put_model-length-requires
 put_model-length-requires c = let z = c in
     let a = z.args in
     let l = c.loop-s in
     let m = c.least_model in record {
-      searchable = size-searchable a.sheet.now a.p a.low.0 a.high.0 (length a.output.now) z.requires l.s (omega arith) (omega arith);
+      searchable = size-searchable a.sheet.now a.p a.range (length a.output.now) z.requires l.s (omega arith) (omega arith);
       p_value = model-found a.sheet.now a.p l.s m.result m.ensures c.in-Some.cells c.in-Some.is;
-      p_in_bounds = omega (arith, size-case a.sheet.now a.p a.low.0 a.high.0 (length a.output.now) z.requires l.s (omega arith) (omega arith), l.invariant.1);
+      p_in_bounds = omega (arith, size-case a.sheet.now a.p a.range (length a.output.now) z.requires l.s (omega arith) (omega arith), l.invariant.1);
     }
 
 pub returns-in-Some : goal.returns-in-Some
@@ -40,8 +40,8 @@ returns-in-Some c = let z = c in
     let m = c.least_model in
     let w = c.put_model-length in
     let least = model-found a.sheet.now a.p l.s m.result m.ensures c.in-Some.cells c.in-Some.is in
-    ends_found q a.low.0 a.high.0 a.output.now w.new.output l.s w.result _ (omega (arith, z.requires.positive)) least w.ensures.place
-    (w.ensures.written ∙ ap (over (case_text l.s q.symbols (cells_of a.sheet.now a.p c.in-Some.cells.values l.s))) l.invariant.0) (l.invariant.2 ∙ remaining-found false q a.high.0 l.s _ (omega arith) least)
+    ends_found q a.range.low.0 a.range.high.0 a.output.now w.new.output l.s w.result _ (omega (arith, a.range.positive)) least w.ensures.place
+    (w.ensures.written ∙ ap (over (case_text l.s q.symbols (cells_of a.sheet.now a.p c.in-Some.cells.values l.s))) l.invariant.0) (l.invariant.2 ∙ remaining-found false q a.range.high.0 l.s _ (omega arith) least)
 
 pub loop-s-preserved : goal.loop-s-preserved
 loop-s-preserved c = let a = c.args in
@@ -50,7 +50,7 @@ loop-s-preserved c = let a = c.args in
     let m = c.least_model in
     let e : suc l.s ≡ l.s + 1 = omega arith in
     let none = model-missed a.sheet.now a.p l.s m.result m.ensures c.in_default.is in
-    (l.invariant.0, l.invariant.1, l.invariant.2 ∙ remaining-missed false q a.high.0 l.s (omega arith) none ∙ ap (remaining false q a.high.0) e)
+    (l.invariant.0, l.invariant.1, l.invariant.2 ∙ remaining-missed false q a.range.high.0 l.s (omega arith) none ∙ ap (remaining false q a.range.high.0) e)
 
 pub is_settled-requires : goal.is_settled-requires
 is_settled-requires c = c.requires.searchable.accepted.readable.limited
@@ -60,5 +60,5 @@ returns c = let z = c in
     let a = z.args in
     let l = c.loop-s in
     let q = problem_in a.sheet.now a.p in
-    ends-none q a.low.0 a.high.0 a.output.now l.output c.is_settled.result (l.invariant.2 ∙ remaining-none false q a.high.0 l.s (omega (arith, z.requires.ordered)))
+    ends-none q a.range.low.0 a.range.high.0 a.output.now l.output c.is_settled.result (l.invariant.2 ∙ remaining-none false q a.range.high.0 l.s (omega (arith, a.range.ordered)))
     (c.is_settled.ensures a.sheet.now z.requires.searchable.accepted) l.invariant.0

@@ -11,4 +11,4 @@ abbrev pub invariant-loop-s : goal.invariant-loop-s
 invariant-loop-s l =
     (l.output ≡ l.initial.output)
     × (length l.output ≡ length l.initial.output)
-    × (smallest_model (problem_in l.sheet l.p) l.low.0 l.high.0 ≡ remaining false (problem_in l.sheet l.p) l.high.0 l.s)
+    × (smallest_model (problem_in l.sheet l.p) l.range.low.0 l.range.high.0 ≡ remaining false (problem_in l.sheet l.p) l.range.high.0 l.s)
