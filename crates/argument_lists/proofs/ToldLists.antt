@@ -13,7 +13,7 @@ use Rattle.tptp.specs.Written.{item_of}
 use Rattle.tptp.specs.Scanning.{same_token_kind}
 use Rattle.scanning.specs.Ahead.{items_at}
 use Rattle.argument_lists.specs.Lists.{list_arities, Counts, Held}
-use Rattle.argument_lists.specs.Told.{Told, told_after, ToldAt}
+use Rattle.argument_lists.specs.Told.{ToldPlaces, told_after, ToldAt}
 use Rattle.argument_lists.proofs.Passes.{lists-open, lists-on}
 
 -- of nothing all is true
@@ -21,7 +21,7 @@ pub nothing-held : (counts ns : List ℕ) → Held counts 0 0 ns
 nothing-held counts ns = record { ordered = omega arith; within = omega arith; told = λ j lt. absurd (omega (arith, lt)) }
 
 -- the first list behind
-pub held-passed : (counts : List ℕ) (t : Told) (n : ℕ) (ns : List ℕ) → Held counts t.start t.end (n ∷ ns) → Held counts (told_after t true).start (told_after t true).end ns
+pub held-passed : (counts : List ℕ) (t : ToldPlaces) (n : ℕ) (ns : List ℕ) → Held counts t.start t.end (n ∷ ns) → Held counts (told_after t true).start (told_after t true).end ns
 held-passed counts t n ns h = go (leb t.end t.start) refl
   where
     go : (b : Bool) → leb t.end t.start ≡ b
@@ -38,7 +38,7 @@ held-passed counts t n ns h = go (leb t.end t.start) refl
         }
 
 -- behind a token
-pub told-behind : (text : List ℕ) (at end : ℕ) (k : TokenKind) (w : Name) (opens : Bool) (counts : List ℕ) (t : Told) → items_at text at ≡ item_of k w ∷ items_at text end → opens ≡ same_token_kind left_paren k
+pub told-behind : (text : List ℕ) (at end : ℕ) (k : TokenKind) (w : Name) (opens : Bool) (counts : List ℕ) (t : ToldPlaces) → items_at text at ≡ item_of k w ∷ items_at text end → opens ≡ same_token_kind left_paren k
     → ToldAt text at counts t → ToldAt text end counts (told_after t opens)
 told-behind text at end k w true counts t i o h =
     held-passed counts t _ _ (subst (Held counts t.start t.end) (ap list_arities i ∙ lists-open k w (items_at text end) (sym o)) h)

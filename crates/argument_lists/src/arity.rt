@@ -14,24 +14,24 @@ use tokens::next::next_token;
 use tokens::pieces::Kind;
 
 // The counts at these places are those of the lists that open next.
-pub type Told = Range<usize>;
+pub type ToldPlaces = Range<usize>;
 
 // The arguments of a symbol, and what is told then.
 #[derive(Drop)]
 pub struct Arity {
     pub count: usize,
-    pub told: Told,
+    pub told: ToldPlaces,
 }
 
 // Nothing is told.
-pub fn nothing_told() -> Told
+pub fn nothing_told() -> ToldPlaces
     ensures { result ≡ none_told }
 {
     0..0
 }
 
 // What is told behind a token, which opens a list or not.
-pub fn told_after(told: Told, opens: bool) -> Told
+pub fn told_after(told: ToldPlaces, opens: bool) -> ToldPlaces
     ensures { result ≡ told_after told opens }
 {
     if opens && !told.is_empty() {
@@ -41,7 +41,7 @@ pub fn told_after(told: Told, opens: bool) -> Told
 }
 
 // What is told of the list that is open at a place and of those that open from there on: not nothing.
-fn refreshed(text: &[u8], at: usize, lists: &mut Lists, told: Told) -> Told
+fn refreshed(text: &[u8], at: usize, lists: &mut Lists, told: ToldPlaces) -> ToldPlaces
     requires { (at ≤ length text.now) × Held lists.old.counts told.start told.end (from_open (items_at text.now at)) }
     ensures some { result.start < result.end }
     ensures held { Held lists.new.counts result.start result.end (from_open (items_at text.now at)) }
@@ -53,7 +53,7 @@ fn refreshed(text: &[u8], at: usize, lists: &mut Lists, told: Told) -> Told
 }
 
 // How many arguments follow a symbol that ends at a place.
-pub fn arity_at(text: &[u8], at: usize, lists: &mut Lists, told: Told) -> Arity
+pub fn arity_at(text: &[u8], at: usize, lists: &mut Lists, told: ToldPlaces) -> Arity
     requires { (at ≤ length text.now) × ToldAt text.now at lists.old.counts told }
     ensures { ArityTold text.now at lists.new.counts result }
 {

@@ -57,14 +57,14 @@ fault_at (Ok a) place = none
 fault_at (Err f) place = some (record { number = number_of f; place = place })
 
 -- r is the table with the symbol that an occurrence declares
-pub record Declared (text : List ℕ) (t : Symbols) (o : Occurrence) (r : Symbols) : Type 0 where
+pub record TableWith (text : List ℕ) (t : Symbols) (o : Occurrence) (r : Symbols) : Type 0 where
   pub limited : LimitedTable text r
   pub table : (X : List theory.Symbol) → TableOf text X t → TableOf text (X ++ declares o) r
 
 -- r is what an occurrence makes of the table: its first fault, or the table with the symbol that it declares
 pub record SymbolDeclared (text : List ℕ) (t : Symbols) (start : ℕ) (o : Occurrence) (r : rust.Result Symbols syntax.Fault) : Type 0 where
   pub fault : (X : List theory.Symbol) (xs : List (List ℕ)) → TableOf text X t → first_fault (occurrence_faults (signature_by (X ++ declares o)) xs o) ≡ fault_at r start
-  pub taken : IfOk r (λ s. Declared text t o s)
+  pub taken : IfOk r (λ s. TableWith text t o s)
 
 -- the symbol is not of this kind or not of this arity
 abbrev pub is_other : Symbol → Bool → ℕ → Bool

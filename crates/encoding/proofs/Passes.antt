@@ -20,7 +20,7 @@ use Rattle.stream.specs.declared.consumer.Writing.{Writing}
 use Rattle.stream.specs.declared.consumer.Tallying.{Tallying}
 use Rattle.stream.specs.declared.consumer.Entering.{Entering}
 use Rattle.stream.specs.Consuming.{texts, Consumes, Consumed}
-use Rattle.stream.specs.Consumers.{Measured, measuring, Written, writing, AreNumbered, CanCount, Counted, tallying, CanEnter, EnteredFirst, entering}
+use Rattle.stream.specs.Consumers.{MeasuredFirst, measuring, WrittenFirst, writing, AreNumbered, CanTally, TalliedFirst, tallying, CanEnter, EnteredFirst, entering}
 use Rattle.stream.proofs.Streams.{stream-begins, stream-ends}
 use Rattle.encoding.proofs.Bounds.{clauses-short, clauses-few, literals-few, area-few, all-numbered, texts-few}
 
@@ -38,7 +38,7 @@ module _ (sheet : List ℕ) (p : Problem) (h : Accepted sheet p) (s : ℕ) (high
 
   -- Measuring: a start that leaves room is all that is asked.
   module _ (x : Measuring) (room : x.at < 2 ^ 43) (count : x.count ≡ 0) where
-    measure-first : Measured x [] x
+    measure-first : MeasuredFirst x [] x
     measure-first = record { at = omega arith; count = count }
 
     measure-fits : (length written < 2 ^ 64) × (x.at + length (texts written) < 2 ^ 64)
@@ -47,32 +47,32 @@ module _ (sheet : List ℕ) (p : Problem) (h : Accepted sheet p) (s : ℕ) (high
     pub measure-begins : Consumes measuring written x
     measure-begins = stream-begins measuring written x measure-fits measure-first
 
-    pub measure-ends : (y : Measuring) → Consumed measuring written x y → Measured x written y
+    pub measure-ends : (y : Measuring) → Consumed measuring written x y → MeasuredFirst x written y
     measure-ends = stream-ends measuring written x measure-fits measure-first
 
   -- Writing: the text fits in the output.
   module _ (x : Writing) (room : x.at + length (texts written) ≤ length x.output.now) (count : x.count ≡ 0) where
-    write-first : Written x [] x
+    write-first : WrittenFirst x [] x
     write-first = record { same_reference = refl; at = omega arith; count = count; output = sym (put-none x.output.now x.at) }
 
     pub write-begins : Consumes writing written x
     write-begins = stream-begins writing written x (count-small, room) write-first
 
-    pub write-ends : (y : Writing) → Consumed writing written x y → Written x written y
+    pub write-ends : (y : Writing) → Consumed writing written x y → WrittenFirst x written y
     write-ends = stream-ends writing written x (count-small, room) write-first
 
   -- Counting: no clause is counted yet.
   module _ (x : Tallying) (e : x.variables ≡ prop_count s (problem_in sheet p).symbols) (count : x.count ≡ 0) (room : 7 * x.variables ≤ length x.work.now) (none : Tallied x.variables [] x.work.now) where
-    tally-first : Counted x [] x
+    tally-first : TalliedFirst x [] x
     tally-first = record { same_reference = refl; variables = refl; count = count; work = none; long = refl }
 
-    tally-fits : CanCount written x
+    tally-fits : CanTally written x
     tally-fits = record { numbered = written-numbered x.variables e; count = count-small; room = room; few = omega (arith, literals-few sheet p h s high few low) }
 
     pub tally-begins : Consumes tallying written x
     tally-begins = stream-begins tallying written x tally-fits tally-first
 
-    pub tally-ends : (y : Tallying) → Consumed tallying written x y → Counted x written y
+    pub tally-ends : (y : Tallying) → Consumed tallying written x y → TalliedFirst x written y
     tally-ends = stream-ends tallying written x tally-fits tally-first
 
   -- Entering: the blocks are laid out, and no clause is entered yet.

@@ -19,7 +19,7 @@ use Rattle.stream.specs.declared.consumer.Tallying.{Tallying}
 use Rattle.stream.specs.declared.consumer.Entering.{Entering}
 use Rattle.stream.specs.Literals.{all_codes}
 use Rattle.stream.specs.Consuming.{Consumes, Consumed}
-use Rattle.stream.specs.Consumers.{Counted, tallying, EnteredFirst, entering}
+use Rattle.stream.specs.Consumers.{TalliedFirst, tallying, EnteredFirst, entering}
 use Rattle.encoding.proofs.Bounds as bounds
 use Rattle.encoding.proofs.Passes as passes
 use Rattle.finding.specs.Searching.{Searchable, sheet_clauses}
@@ -59,7 +59,7 @@ module _ (sheet : List ℕ) (p : Problem) (size n v : ℕ) (h : Searchable sheet
     pub tally-begins : Consumes tallying cs x
     tally-begins = passes.tally-begins sheet p h.accepted size h.within h.instances h.positive x (of ∙ same_count) count room none-tallied
 
-    pub tally-ends : (y : Tallying) → Consumed tallying cs x y → Counted x cs y
+    pub tally-ends : (y : Tallying) → Consumed tallying cs x y → TalliedFirst x cs y
     tally-ends = passes.tally-ends sheet p h.accepted size h.within h.instances h.positive x (of ∙ same_count) count room none-tallied
 
   -- and entered in one where their blocks are laid out

@@ -36,7 +36,7 @@ use Rattle.problem.specs.Problems.{problem_in}
 use Rattle.problem.specs.Modes.{Shows}
 use Rattle.ranges.specs.Ranges.{are_sizes}
 use Rattle.ranges.specs.declared.size_range.SizeRange.{SizeRange}
-use Rattle.finding.specs.Ending.{found_in, found_within, Opened, Fits}
+use Rattle.finding.specs.Ending.{found_in, found_within, ProblemShown, SearchableUpTo}
 
 module _ (used : Bool) (p : Problem) (low high allowance work room : ℕ) where
   abbrev i : ℕ
@@ -168,9 +168,9 @@ unfolding problem_in
 length-is sheet p size n y h is e = e ∙ ap (λ (y : Signature). case_length size (signature_in sheet y)) is ∙ sym (ap (case_length size) h)
 
 -- all checks passed
-pub all-sizes : (sheet : List ℕ) (p : code.Problem) (r : SizeRange) (work room : ℕ) → Opened sheet p
+pub all-sizes : (sheet : List ℕ) (p : code.Problem) (r : SizeRange) (work room : ℕ) → ProblemShown sheet p
     → instance_count_with p.symmetry r.high.0 (problem_in sheet p).symbols (problem_in sheet p).clauses ≤ max_instances → work_needed_with p.symmetry r.high.0 (problem_in sheet p).symbols (problem_in sheet p).clauses ≤ work
-    → case_length r.high.0 (shown_symbols (problem_in sheet p).symbols) ≤ room → Fits sheet p r.high.0 work room
+    → case_length r.high.0 (shown_symbols (problem_in sheet p).symbols) ≤ room → SearchableUpTo sheet p r.high.0 work room
 all-sizes sheet p r work room h few enough case =
     record {
       searchable =

@@ -19,13 +19,13 @@ use Rattle.problem.specs.Problems.{problem_in}
 use Rattle.encoding.proofs.Bounds as bounds
 use Rattle.ranges.specs.declared.size_range.SizeRange.{SizeRange}
 use Rattle.finding.specs.Searching.{Searchable}
-use Rattle.finding.specs.Ending.{Fits}
+use Rattle.finding.specs.Ending.{SearchableUpTo}
 
 -- the clauses of a problem that was read are over its signature
 pub clauses-over : (sheet : List ℕ) (p : Problem) (size n : ℕ) → Searchable sheet p size n → all (clause_ok (problem_in sheet p).symbols) (problem_in sheet p).clauses ≡ true
 clauses-over sheet p size n h = bounds.clauses-over sheet p h.accepted size h.within
 
-module _ (sheet : List ℕ) (p : Problem) (r : SizeRange) (work room : ℕ) (h : Fits sheet p r.high.0 work room) (size : ℕ) (above : r.low.0 ≤ size) (below : size ≤ r.high.0) where
+module _ (sheet : List ℕ) (p : Problem) (r : SizeRange) (work room : ℕ) (h : SearchableUpTo sheet p r.high.0 work room) (size : ℕ) (above : r.low.0 ≤ size) (below : size ≤ r.high.0) where
   abbrev q : theory.Problem
   q = problem_in sheet p
 

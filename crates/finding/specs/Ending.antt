@@ -38,12 +38,12 @@ found_in used p low high allowance work room = do
   found_within used p low high allowance work room
 
 -- a problem that was read of the sheet, its declared symbols before the helpers
-pub record Opened (sheet : List ℕ) (p : Problem) : Type 0 where
+pub record ProblemShown (sheet : List ℕ) (p : Problem) : Type 0 where
   pub accepted : Accepted sheet p
   pub bytes : length sheet ≤ max_bytes
   pub shows : Shows sheet p.signature
 
 -- a largest size that is not refused, given so many numbers of work and so many bytes of output
-pub record Fits (sheet : List ℕ) (p : Problem) (high work room : ℕ) : Type 0 where
+pub record SearchableUpTo (sheet : List ℕ) (p : Problem) (high work room : ℕ) : Type 0 where
   pub searchable : Searchable sheet p high work
   pub case : case_length high (shown_symbols (problem_in sheet p).symbols) ≤ room

@@ -13,7 +13,7 @@ ghost use Rattle.clauses.specs.Names.{Readable};
 ghost use Rattle.problem.specs.Problems.{problem_in};
 ghost use Rattle.valuations.specs.Numbers.{max_prop_vars};
 ghost use Rattle.finding.specs.Calls.{FindCall};
-ghost use Rattle.finding.specs.Ending.{Ends, Opened, found_in};
+ghost use Rattle.finding.specs.Ending.{Ends, ProblemShown, found_in};
 
 use allowed::AllowedAnswer;
 use answers::{at_line, needing};
@@ -61,7 +61,7 @@ fn find_in(
     work: &mut [u32],
     output: &mut [u8],
 ) -> AllowedAnswer
-    requires { Opened sheet.now p }
+    requires { ProblemShown sheet.now p }
     ensures { Ends (found_in p.symmetry (problem_in sheet.now p) range.low.0 range.high.0 allowance) result work.old work.new output.old output.new }
 {
     if MAX_ALLOWANCE < allowance {

@@ -9,7 +9,7 @@ ghost use Rattle.naming.specs.NamedProblem.{shown_symbols};
 ghost use Rattle.symmetry.specs.Obeying.{searched_with};
 ghost use Rattle.problem.specs.Problems.{problem_in};
 ghost use Rattle.finding.specs.Searching.{Searchable};
-ghost use Rattle.finding.specs.Ending.{Ends, Fits, found_within, case_found};
+ghost use Rattle.finding.specs.Ending.{Ends, SearchableUpTo, found_within, case_found};
 
 use crate::allowed::{AllowedAnswer, FindResult};
 use crate::one_size::search_size;
@@ -32,7 +32,7 @@ pub fn search_sizes(
     work: &mut [u32],
     output: &mut [u8],
 ) -> AllowedAnswer
-    requires { Fits sheet.now p range.high.0 (length work.old) (length output.old) }
+    requires { SearchableUpTo sheet.now p range.high.0 (length work.old) (length output.old) }
     ensures { Ends (found_within p.symmetry (problem_in sheet.now p) range.low.0 range.high.0 allowance) result work.old work.new output.old output.new }
 {
     let signature = p.signature;

@@ -10,7 +10,7 @@ ghost use Rattle.argument_lists.specs.Told.{ToldAt};
 ghost use Rattle.importing.specs.Noting.{NamedArity, occurrences_from, OccurrencesNoted, StatementNoted};
 
 use crate::faults::TextFault;
-use argument_lists::arity::{Arity, Told, arity_at, nothing_told, told_after};
+use argument_lists::arity::{Arity, ToldPlaces, arity_at, nothing_told, told_after};
 use argument_lists::pass::Lists;
 use declaring::letters::{Letters, letter_of, none};
 use declaring::symbols::{Symbols, declare};
@@ -74,7 +74,7 @@ fn note_named(
 }
 
 // How many arguments what a token names has, if it is a symbol.
-fn arity_of(text: &[u8], end: usize, named: Named, told: Told, lists: &mut Lists) -> Arity
+fn arity_of(text: &[u8], end: usize, named: Named, told: ToldPlaces, lists: &mut Lists) -> Arity
     requires { (end ≤ length text.now) × ToldAt text.now end lists.old.counts told }
     ensures { NamedArity text.now end named lists.new.counts result }
 {

@@ -24,7 +24,7 @@ use Rattle.std.specs.Prelude as rust
 use Rattle.std.specs.Prelude.{Some, None}
 use Rattle.plain.specs.declared.cells.PlainCells.{PlainCells}
 use Rattle.plain.specs.Filling.{Searchable, model_in}
-use Rattle.plain.specs.Ending.{Opened, Fits}
+use Rattle.plain.specs.Ending.{ProblemAsRead, TriableUpTo}
 
 -- the least model as a filling tells it
 module _ (sheet : List ℕ) (p : Problem) (s : ℕ) (r : rust.Option PlainCells) (e : model_in sheet p s r ≡ least_model s (problem_in sheet p)) where
@@ -64,7 +64,7 @@ module _ (sheet : List ℕ) (p : Problem) (s : ℕ) (h : Searchable sheet p s) (
   unfolding problem_in
   model-written n e out out' o = o ∙ ap (λ (vs : List ℕ). over (case_text s (signature_in sheet p.signature) vs) out) (cells-taken n e)
 
-module _ (sheet : List ℕ) (p : Problem) (r : SizeRange) (room : ℕ) (h : Fits sheet p r.high.0 room) (size : ℕ) (above : r.low.0 ≤ size) (below : size ≤ r.high.0) where
+module _ (sheet : List ℕ) (p : Problem) (r : SizeRange) (room : ℕ) (h : TriableUpTo sheet p r.high.0 room) (size : ℕ) (above : r.low.0 ≤ size) (below : size ≤ r.high.0) where
   -- a smaller size is not refused either
   pub size-searchable : Searchable sheet p size
   size-searchable =
@@ -84,8 +84,8 @@ unfolding problem_in
 cells_is sheet p s n e = e
 
 -- all checks passed
-pub all-sizes : (sheet : List ℕ) (p : Problem) (r : SizeRange) (room : ℕ) → Opened sheet p → cell_count r.high.0 (problem_in sheet p).symbols ≤ max_plain_cells
-    → case_length r.high.0 (problem_in sheet p).symbols ≤ room → Fits sheet p r.high.0 room
+pub all-sizes : (sheet : List ℕ) (p : Problem) (r : SizeRange) (room : ℕ) → ProblemAsRead sheet p → cell_count r.high.0 (problem_in sheet p).symbols ≤ max_plain_cells
+    → case_length r.high.0 (problem_in sheet p).symbols ≤ room → TriableUpTo sheet p r.high.0 room
 unfolding problem_in
 all-sizes sheet p r room h few case =
     record {

@@ -24,11 +24,11 @@ found_in p low high room = do
   found_within p low high
 
 -- a problem that was read of the sheet as it stands
-pub record Opened (sheet : List ℕ) (p : Problem) : Type 0 where
+pub record ProblemAsRead (sheet : List ℕ) (p : Problem) : Type 0 where
   pub accepted : Accepted sheet p
   pub read : read_problem sheet ≡ answer (problem_in sheet p)
 
 -- a largest size that is not refused, given so many bytes of output
-pub record Fits (sheet : List ℕ) (p : Problem) (high room : ℕ) : Type 0 where
+pub record TriableUpTo (sheet : List ℕ) (p : Problem) (high room : ℕ) : Type 0 where
   pub searchable : Searchable sheet p high
   pub case : case_length high (problem_in sheet p).symbols ≤ room

@@ -8,7 +8,7 @@ pub mod sizes;
 ghost use Rattle.std.specs.Prelude.{length};
 ghost use Rattle.answers.specs.Calls.{PlainCall, PlainSearchingCall};
 ghost use Rattle.problem.specs.Problems.{problem_in};
-ghost use Rattle.plain.specs.Ending.{Opened, found_in};
+ghost use Rattle.plain.specs.Ending.{ProblemAsRead, found_in};
 
 use answers::{FindAnswer, at_line, needing};
 use cases::writing::case_length;
@@ -34,7 +34,7 @@ pub fn find_plainly(sheet: &[u8], low: u64, high: u64, output: &mut [u8]) -> Fin
 
 // At checked sizes: 20, then 11, then the search.
 fn find_in(sheet: &[u8], p: Problem, range: SizeRange, output: &mut [u8]) -> FindAnswer
-    requires { Opened sheet.now p }
+    requires { ProblemAsRead sheet.now p }
     ensures { PlainSearchingCall (found_in (problem_in sheet.now p) range.low.0 range.high.0 (length output.old)) result output.old output.new }
 {
     let signature = p.signature;

@@ -8,7 +8,7 @@ ghost use Rattle.answers.specs.Calls.{PlainSearchingCall};
 ghost use Rattle.problem.specs.Problems.{problem_in};
 ghost use Rattle.judging.specs.Cases.{cells_of};
 ghost use Rattle.plain.specs.Filling.{Searchable};
-ghost use Rattle.plain.specs.Ending.{Fits, found_within};
+ghost use Rattle.plain.specs.Ending.{TriableUpTo, found_within};
 
 use crate::cells::PlainCells;
 use crate::filling::least_model;
@@ -22,7 +22,7 @@ use syntax::size::DomainSize;
 
 // Searches the sizes of the range, the smallest first.
 pub fn search_sizes(sheet: &[u8], p: Problem, range: SizeRange, output: &mut [u8]) -> FindAnswer
-    requires { Fits sheet.now p range.high.0 (length output.old) }
+    requires { TriableUpTo sheet.now p range.high.0 (length output.old) }
     ensures { PlainSearchingCall (found_within (problem_in sheet.now p) range.low.0 range.high.0) result output.old output.new }
 {
     for s in range.low.0..range.high.0 + 1 {

@@ -21,7 +21,7 @@ use Rattle.stream.specs.declared.consumer.Writing.{Writing}
 use Rattle.stream.specs.declared.consumer.Tallying.{Tallying}
 use Rattle.stream.specs.declared.consumer.Entering.{Entering}
 use Rattle.stream.specs.Consuming.{texts, Consumes}
-use Rattle.stream.specs.Consumers.{Written, writing, Counted, tallying, EnteredFirst, entering}
+use Rattle.stream.specs.Consumers.{WrittenFirst, writing, TalliedFirst, tallying, EnteredFirst, entering}
 use Rattle.stream.proofs.Codes.{codes-clause_of, numbered-in-range}
 
 -- one clause more at the end
@@ -72,9 +72,9 @@ module _ (us : List ℕ) (x : Writing) where
       omega (arith, h.so_far.at, h.fits.1, within, ap length h.so_far.output, length-put h.start.output.now h.start.at (texts h.before) (omega (arith, h.fits.1, within)))
 
 module _ (us : List ℕ) (cs before behind : List PropClause) (start x y : Writing) (split : cs ≡ before ++ (prop_clause_of us ∷ behind)) where
-  pub written : start.at + length (texts cs) ≤ length start.output.now → Written start before x
+  pub written : start.at + length (texts cs) ≤ length start.output.now → WrittenFirst start before x
       → y.output.ghost_name ≡ x.output.ghost_name → y.output.now ≡ put x.output.now x.at (clause_text (prop_clause_of us)) → y.at ≡ x.at + length (clause_text (prop_clause_of us))
-      → y.count ≡ x.count + 1 → Written start (before ++ (prop_clause_of us ∷ [])) y
+      → y.count ≡ x.count + 1 → WrittenFirst start (before ++ (prop_clause_of us ∷ [])) y
   written fits a r p n m =
       record {
         same_reference = r ∙ a.same_reference;
@@ -100,9 +100,9 @@ module _ (us : List ℕ) (x : Tallying) where
       }
 
 module _ (us : List ℕ) (before : List PropClause) (start x y : Tallying) where
-  pub tallied : Counted start before x → y.work.ghost_name ≡ x.work.ghost_name → y.variables ≡ x.variables → y.count ≡ x.count + 1 → length y.work.now ≡ length x.work.now
+  pub tallied : TalliedFirst start before x → y.work.ghost_name ≡ x.work.ghost_name → y.variables ≡ x.variables → y.count ≡ x.count + 1 → length y.work.now ≡ length x.work.now
       → ((seen : List (List ℕ)) → Tallied x.variables seen x.work.now → Tallied x.variables (seen ++ (us ∷ [])) y.work.now)
-      → Counted start (before ++ (prop_clause_of us ∷ [])) y
+      → TalliedFirst start (before ++ (prop_clause_of us ∷ [])) y
   tallied a r v n k t =
       record {
         same_reference = r ∙ a.same_reference;
