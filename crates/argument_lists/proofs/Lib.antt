@@ -1,3 +1,4 @@
 pub mod Passes
 pub mod NotedLists
 pub mod ToldLists
+pub mod KeptSlices

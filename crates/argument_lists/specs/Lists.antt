@@ -3,6 +3,7 @@ use Rattle.std.specs.Prelude.{ℕ, suc, ◌+◌, ◌≤◌, ◌<◌, ◌≡◌, 
 use Rattle.tptp.specs.Tokens.{left_paren}
 use Rattle.tptp.specs.Written.{Item, lower, upper, sign}
 use Rattle.tptp.specs.Scanning.{same_token_kind, commas}
+use Rattle.argument_lists.specs.declared.pass.Lists.{Lists}
 
 -- how many lists are noted in one pass, and from which number on arguments are too many to be counted
 abbrev pub max_lists : ℕ
@@ -26,6 +27,13 @@ from_open us = suc (commas us 0) ∷ list_arities us
 pub record Room (counts links : List ℕ) : Type 0 where
   pub counts-long : length counts ≡ max_lists
   pub links-long : length links ≡ max_lists
+
+-- the two slices are those that were lent, each as long as it was
+pub record KeepsSlices (old new : Lists) : Type 0 where
+  pub counts_reference : new.counts.ghost_name ≡ old.counts.ghost_name
+  pub links_reference : new.links.ghost_name ≡ old.links.ghost_name
+  pub counts_length : length new.counts.now ≡ length old.counts.now
+  pub links_length : length new.links.now ≡ length old.links.now
 
 -- c arguments are counted of a list that has n, and m are still to come; many are at least so many
 pub record Counts (c m n : ℕ) : Type 0 where

@@ -2,7 +2,7 @@
 ghost use Rattle.std.specs.Prelude.{◌≡◌, cond, ◌≤◌, ◌<◌, length};
 ghost use Rattle.tptp.specs.Scanning.{arity_ahead};
 ghost use Rattle.scanning.specs.Ahead.{items_at};
-ghost use Rattle.argument_lists.specs.Lists.{Held, from_open};
+ghost use Rattle.argument_lists.specs.Lists.{Room, Held, from_open, KeepsSlices};
 ghost use Rattle.argument_lists.specs.Told.{none_told, told_after, ToldAt, ArityTold};
 
 use crate::noting::note_lists;
@@ -42,9 +42,10 @@ pub fn told_after(told: ToldPlaces, opens: bool) -> ToldPlaces
 
 // What is told of the list that is open at a place and of those that open from there on: not nothing.
 fn refreshed(text: &[u8], at: usize, lists: &mut Lists, told: ToldPlaces) -> ToldPlaces
-    requires { (at ≤ length text.now) × Held lists.old.counts told.start told.end (from_open (items_at text.now at)) }
+    requires { (at ≤ length text.now) × (Room lists.old.counts.now lists.old.links.now × Held lists.old.counts.now told.start told.end (from_open (items_at text.now at))) }
     ensures some { result.start < result.end }
-    ensures held { Held lists.new.counts result.start result.end (from_open (items_at text.now at)) }
+    ensures held { Held lists.new.counts.now result.start result.end (from_open (items_at text.now at)) }
+    ensures same_slices { KeepsSlices lists.old lists.new }
 {
     if !told.is_empty() {
         return told;
@@ -54,8 +55,9 @@ fn refreshed(text: &[u8], at: usize, lists: &mut Lists, told: ToldPlaces) -> Tol
 
 // How many arguments follow a symbol that ends at a place.
 pub fn arity_at(text: &[u8], at: usize, lists: &mut Lists, told: ToldPlaces) -> Arity
-    requires { (at ≤ length text.now) × ToldAt text.now at lists.old.counts told }
-    ensures { ArityTold text.now at lists.new.counts result }
+    requires { (at ≤ length text.now) × (Room lists.old.counts.now lists.old.links.now × ToldAt text.now at lists.old.counts.now told) }
+    ensures told { ArityTold text.now at lists.new.counts.now result }
+    ensures same_slices { KeepsSlices lists.old lists.new }
 {
     match next_token(text, at) {
         Some(token) if is(Kind::LeftParen, token.kind) => {

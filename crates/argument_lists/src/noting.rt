@@ -1,7 +1,7 @@
 // The lists from a place on noted in one pass: up to the end of the last noted list, or to the statement's full stop.
 ghost use Rattle.std.specs.Prelude.{◌≡◌, true, ◌≤◌, length};
 ghost use Rattle.scanning.specs.Ahead.{items_at};
-ghost use Rattle.argument_lists.specs.Lists.{Held, from_open};
+ghost use Rattle.argument_lists.specs.Lists.{Room, Held, from_open, KeepsSlices};
 
 use crate::pass::{LISTS, Lists, Pass};
 use statements::kinds::is;
@@ -17,9 +17,10 @@ fn is_over(kind: Kind, p: Pass) -> bool
 
 // Notes the list that is open at a place and those that open from there on; answers how many are noted.
 pub fn note_lists(text: &[u8], at: usize, lists: &mut Lists) -> usize
-    requires { at ≤ length text.now }
+    requires { (at ≤ length text.now) × Room lists.old.counts.now lists.old.links.now }
     ensures some { 1 ≤ result }
-    ensures held { Held lists.new.counts 0 result (from_open (items_at text.now at)) }
+    ensures held { Held lists.new.counts.now 0 result (from_open (items_at text.now at)) }
+    ensures same_slices { KeepsSlices lists.old lists.new }
 {
     let none = Pass {
         count: 0,

@@ -6,7 +6,7 @@ ghost use Rattle.tptp.specs.Written.{Item, item_of};
 ghost use Rattle.tptp.specs.Scanning.{same_token_kind};
 ghost use Rattle.tokens.specs.Pieces.{kind_in};
 ghost use Rattle.statements.specs.Dues.{max_open};
-ghost use Rattle.argument_lists.specs.Lists.{max_lists};
+ghost use Rattle.argument_lists.specs.Lists.{max_lists, KeepsSlices};
 ghost use Rattle.argument_lists.specs.Passing.{link_to, Telling, Tellable};
 
 use tokens::pieces::Kind;
@@ -17,11 +17,11 @@ pub const LISTS: usize = 16_384;
 // So many arguments are too many for any symbol: of more it is not counted how many.
 pub const MANY: u8 = 4;
 
-// The lists that are noted, by place: the arguments of each up to here, and the list around it by the number that links to it.
+// The lists that are noted, by place in two slices that are lent: the arguments of each up to here, and the list around it by the number that links to it.
 #[derive(Drop)]
-pub struct Lists {
-    pub counts: [u8; LISTS],
-    pub links: [u16; LISTS],
+pub struct Lists<'a> {
+    pub counts: &'a mut [u8],
+    pub links: &'a mut [u16],
 }
 
 // How many lists are noted; which of them is the innermost that is open; and how many lists that are not noted are open inside it.
@@ -47,12 +47,13 @@ fn linked(link: u16) -> Option<usize>
     usize::from(link).checked_sub(1)
 }
 
-impl Lists {
+impl Lists<'_> {
     // ( opens a list, which has one argument so far. It is noted while there is room.
     pub fn opened(&mut self, p: Pass) -> Pass
-        requires { Tellable self.old.counts self.old.links p × (p.beyond < max_open) }
-        ensures tells { (ns : List ℕ) (k : TokenKind) (w : Name) (us : List Item) → same_token_kind left_paren k ≡ true → Telling ns (item_of k w ∷ us) self.old.counts self.old.links p → Telling ns us self.new.counts self.new.links result }
+        requires { Tellable self.old.counts.now self.old.links.now p × (p.beyond < max_open) }
+        ensures tells { (ns : List ℕ) (k : TokenKind) (w : Name) (us : List Item) → same_token_kind left_paren k ≡ true → Telling ns (item_of k w ∷ us) self.old.counts.now self.old.links.now p → Telling ns us self.new.counts.now self.new.links.now result }
         ensures more { (p.count ≤ result.count) × ((result.beyond ≤ p.beyond + 1) × (p.count < max_lists → result.count ≡ p.count + 1)) }
+        ensures same_slices { KeepsSlices self.old self.new }
     {
         let n = p.count;
         if LISTS <= n {
@@ -72,8 +73,8 @@ impl Lists {
 
     // ) closes the innermost list that is open, unless that opened before the pass.
     fn closed(&self, p: Pass) -> Pass
-        requires { Tellable self.now.counts self.now.links p }
-        ensures tells { (ns : List ℕ) (k : TokenKind) (w : Name) (us : List Item) → same_token_kind right_paren k ≡ true → Telling ns (item_of k w ∷ us) self.now.counts self.now.links p → Telling ns us self.now.counts self.now.links result }
+        requires { Tellable self.now.counts.now self.now.links.now p }
+        ensures tells { (ns : List ℕ) (k : TokenKind) (w : Name) (us : List Item) → same_token_kind right_paren k ≡ true → Telling ns (item_of k w ∷ us) self.now.counts.now self.now.links.now p → Telling ns us self.now.counts.now self.now.links.now result }
         ensures more { (p.count ≤ result.count) × (result.beyond ≤ p.beyond) }
     {
         if p.beyond != 0 {
@@ -93,8 +94,9 @@ impl Lists {
 
     // A comma: the innermost list that is open has one argument more.
     fn next_argument(&mut self, p: Pass)
-        requires { Tellable self.old.counts self.old.links p }
-        ensures { (ns : List ℕ) (k : TokenKind) (w : Name) (us : List Item) → same_token_kind comma k ≡ true → Telling ns (item_of k w ∷ us) self.old.counts self.old.links p → Telling ns us self.new.counts self.new.links p }
+        requires { Tellable self.old.counts.now self.old.links.now p }
+        ensures tells { (ns : List ℕ) (k : TokenKind) (w : Name) (us : List Item) → same_token_kind comma k ≡ true → Telling ns (item_of k w ∷ us) self.old.counts.now self.old.links.now p → Telling ns us self.new.counts.now self.new.links.now p }
+        ensures same_slices { KeepsSlices self.old self.new }
     {
         if p.beyond != 0 {
             return;
@@ -109,9 +111,10 @@ impl Lists {
 
     // A token of any kind.
     pub fn after_token(&mut self, kind: Kind, p: Pass) -> Pass
-        requires { Tellable self.old.counts self.old.links p × (p.beyond < max_open) }
-        ensures tells { (ns : List ℕ) (w : Name) (us : List Item) → Telling ns (item_of (kind_in kind) w ∷ us) self.old.counts self.old.links p → Telling ns us self.new.counts self.new.links result }
+        requires { Tellable self.old.counts.now self.old.links.now p × (p.beyond < max_open) }
+        ensures tells { (ns : List ℕ) (w : Name) (us : List Item) → Telling ns (item_of (kind_in kind) w ∷ us) self.old.counts.now self.old.links.now p → Telling ns us self.new.counts.now self.new.links.now result }
         ensures more { (p.count ≤ result.count) × (result.beyond ≤ p.beyond + 1) }
+        ensures same_slices { KeepsSlices self.old self.new }
     {
         match kind {
             Kind::LeftParen => self.opened(p),

@@ -13,7 +13,8 @@ use syntax::limits::Problem;
 use syntax::signature::Signature;
 use syntax::size::DomainSize;
 
-// The sheet's problem, plain or with named terms.
+// The sheet's problem, plain or with named terms. It stands in each of its callers, so that a plain call holds nothing of the named mode and copies no problem for it.
+#[inline(always)]
 pub fn open_sheet(sheet: &[u8], named: bool) -> Result<Problem, Refusal>
     ensures { SheetOpened named sheet.now result }
 {

@@ -14,11 +14,13 @@ ghost use Rattle.syntax.specs.Faults.{number_of};
 ghost use Rattle.answers.specs.Answers.{refusal_in};
 ghost use Rattle.tptp.specs.Places.{refused_at};
 ghost use Rattle.importing.specs.Calls.{TptpCall};
+ghost use Rattle.importing.specs.Surveys.{Surveyed};
 
 use answers::{Refusal, WriteAnswer, at_place, needing};
 use argument_lists::pass::{LISTS, Lists};
+use faults::TextFault;
 use sheet::{put_sheet, sheet_length};
-use survey::survey_statements;
+use survey::{Survey, survey_statements};
 use syntax::faults::Fault;
 use syntax::limits::Problem;
 use tokens::places::place_of;
@@ -28,11 +30,7 @@ pub fn import_clauses(text: &[u8], output: &mut [u8]) -> WriteAnswer
     ensures { TptpCall text.now result output.old output.new }
 {
     let mut lines = [0u8; Problem::MAX_BYTES];
-    let mut lists = Lists {
-        counts: [0; LISTS],
-        links: [0; LISTS],
-    };
-    let surveyed = survey_statements(text, &mut lines, &mut lists);
+    let surveyed = survey_of(text, &mut lines);
     let survey = surveyed.map_err(|f| refused_at(text, f.fault, f.place))?;
     let length = sheet_length(survey);
     if Problem::MAX_BYTES < length {
@@ -43,6 +41,19 @@ pub fn import_clauses(text: &[u8], output: &mut [u8]) -> WriteAnswer
     }
     put_sheet(output, text, &lines, survey);
     Ok(length)
+}
+
+// The survey of a text, with room for the lists that it notes.
+fn survey_of(text: &[u8], lines: &mut [u8]) -> Result<Survey, TextFault>
+    ensures { Surveyed text.now lines.new result }
+{
+    let mut counts = [0u8; LISTS];
+    let mut links = [0u16; LISTS];
+    let mut lists = Lists {
+        counts: &mut counts,
+        links: &mut links,
+    };
+    survey_statements(text, lines, &mut lists)
 }
 
 // A refusal at the byte with n bytes before it.

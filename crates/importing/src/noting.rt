@@ -6,6 +6,7 @@ ghost use Rattle.declaring.specs.Letters.{Lettered, variable_occurrence};
 ghost use Rattle.statements.specs.Follows.{Inside};
 ghost use Rattle.scanning.specs.Entries.{occurrences_in};
 ghost use Rattle.scanning.specs.Taking.{name_in};
+ghost use Rattle.argument_lists.specs.Lists.{Room, KeepsSlices};
 ghost use Rattle.argument_lists.specs.Told.{ToldAt};
 ghost use Rattle.importing.specs.Noting.{NamedArity, occurrences_from, OccurrencesNoted, StatementNoted};
 
@@ -75,8 +76,9 @@ fn note_named(
 
 // How many arguments what a token names has, if it is a symbol.
 fn arity_of(text: &[u8], end: usize, named: Named, told: ToldPlaces, lists: &mut Lists) -> Arity
-    requires { (end ≤ length text.now) × ToldAt text.now end lists.old.counts told }
-    ensures { NamedArity text.now end named lists.new.counts result }
+    requires { (end ≤ length text.now) × (Room lists.old.counts.now lists.old.links.now × ToldAt text.now end lists.old.counts.now told) }
+    ensures told { NamedArity text.now end named lists.new.counts.now result }
+    ensures same_slices { KeepsSlices lists.old lists.new }
 {
     match named {
         Named::Symbol(_) => arity_at(text, end, lists, told),
@@ -91,8 +93,9 @@ pub fn note_statement(
     before: Symbols,
     lists: &mut Lists,
 ) -> Result<Symbols, TextFault>
-    requires { LimitedTable text.now before × Inside text.now opening at }
-    ensures { StatementNoted text.now before (occurrences_from text.now opening at) result }
+    requires { LimitedTable text.now before × (Inside text.now opening at × Room lists.old.counts.now lists.old.links.now) }
+    ensures noted { StatementNoted text.now before (occurrences_from text.now opening at) result }
+    ensures same_slices { KeepsSlices lists.old lists.new }
 {
     let mut noted = Noted {
         table: before,

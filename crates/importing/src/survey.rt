@@ -4,6 +4,7 @@ ghost use Rattle.text.specs.Put.{put};
 ghost use Rattle.syntax.specs.Signatures.{signature_in};
 ghost use Rattle.syntax.specs.Codes.{words_in};
 ghost use Rattle.sheet_text.specs.Parts.{ShortNames, Writable, clause_line};
+ghost use Rattle.argument_lists.specs.Lists.{Room, KeepsSlices};
 ghost use Rattle.importing.specs.Surveys.{StatementStands, StatementChecked, Surveyed};
 
 use crate::faults::TextFault;
@@ -43,8 +44,9 @@ fn check_statement(
     before: Symbols,
     lists: &mut Lists,
 ) -> Result<Checked, TextFault>
-    requires { StatementStands text.now start stop before }
-    ensures { StatementChecked text.now start stop count before result }
+    requires { StatementStands text.now start stop before × Room lists.old.counts.now lists.old.links.now }
+    ensures checked { StatementChecked text.now start stop count before result }
+    ensures same_slices { KeepsSlices lists.old lists.new }
 {
     if Problem::MAX_CLAUSES <= count {
         return Err(TextFault {
@@ -93,7 +95,9 @@ pub fn survey_statements(
     lines: &mut [u8],
     lists: &mut Lists,
 ) -> Result<Survey, TextFault>
-    ensures { Surveyed text.now lines.new result }
+    requires { Room lists.old.counts.now lists.old.links.now }
+    ensures surveyed { Surveyed text.now lines.new result }
+    ensures same_slices { KeepsSlices lists.old lists.new }
 {
     let mut table = none();
     let mut count: usize = 0;

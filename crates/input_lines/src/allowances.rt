@@ -42,5 +42,5 @@ fn allowance_of(value: &[u8]) -> Option<usize>
     if value == zero {
         return Some(0);
     }
-    number_within(value, MOST)
+    number_within(value, 0, MOST)
 }

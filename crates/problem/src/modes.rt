@@ -7,6 +7,8 @@ use crate::sections::SheetFault;
 use crate::sheet::{read_named, read_problem};
 use syntax::limits::Problem;
 
+// It stands in its callers, which mostly know the mode.
+#[inline(always)]
 pub fn read_in(sheet: &[u8], named: bool) -> Result<Problem, SheetFault>
     ensures read { reading_of sheet.now result ≡ read_in named sheet.now }
     ensures accepted { IfOk result (Accepted sheet.now) }

@@ -29,8 +29,10 @@ pub fn read_named(sheet: &[u8]) -> Result<Problem, SheetFault>
     ensures read { reading_of sheet.now result ≡ read_in true sheet.now }
     ensures accepted { IfOk result (Accepted sheet.now) }
 {
-    let p = read_lines(sheet, true)?;
-    with_names(sheet, p)
+    match read_lines(sheet, true) {
+        Ok(p) => with_names(sheet, p),
+        Err(fault) => Err(fault),
+    }
 }
 
 // The problem with a helper for each term that is named; 21 where there are more than Problem::MAX_HELPERS.

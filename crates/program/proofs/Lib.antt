@@ -2,3 +2,4 @@ pub mod RefusalLines
 pub mod Searching
 pub mod Inputs
 pub mod ShortAnswers
+pub mod Refusing

@@ -10,11 +10,12 @@ ghost use Rattle.printing.specs.Reports.{Responds};
 ghost use Rattle.syntax.specs.declared.faults.Fault.TheVariants as fault;
 ghost use Rattle.program.specs.Asked.{asked_in};
 
+use answers::at_line;
 use input_lines::allowances::allowance_line;
 use input_lines::digits::digit_line;
 use input_lines::switches::switch_line;
 use nesskettle::find;
-use printing::report::{OUTCOME, put_refusal, put_result};
+use printing::report::{OUTCOME, put_result};
 use syntax::faults::Fault;
 use syntax::limits::Problem;
 
@@ -47,7 +48,7 @@ pub fn respond(input: &[u8], out: &mut [u8; OUTPUT]) -> usize
 {
     match read_question(input) {
         Ok(q) => search_sheet(&input[q.sheet..], q, out),
-        Err(fault) => put_refusal(out, fault.number(), 0, 0),
+        Err(fault) => put_result(out, Err(at_line(fault, 0))),
     }
 }
 

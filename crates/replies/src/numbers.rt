@@ -1,28 +1,28 @@
 // A number of any length, given up at the digit that takes it above what is asked for.
-ghost use Rattle.std.specs.Prelude.{◌≡◌, ℕ, ◌^◌, ◌≤◌, ◌<◌, Some};
+ghost use Rattle.std.specs.Prelude.{◌≡◌, ℕ, ◌^◌, ◌≤◌, ◌<◌, Some, drop};
 ghost use Rattle.theory.specs.Options.{told};
 ghost use Rattle.replies.specs.Hearing.{read_within};
 
 use text::numbers::is_digit;
 
-// The number of at least 1 and at most `most` that the word is, if it is one.
-pub fn number_within(word: &[u8], most: usize) -> Option<usize>
+// The number of at least 1 and at most `most` that the word is from a place on, if it is one.
+pub fn number_within(word: &[u8], at: usize, most: usize) -> Option<usize>
     requires { most < 2 ^ 28 }
-    ensures number { told result ≡ read_within most word.now }
+    ensures number { told result ≡ read_within most (drop at word.now) }
     ensures bounds { (n : ℕ) → result ≡ Some n → (1 ≤ n) × (n ≤ most) }
 {
-    if word.is_empty() {
+    if word.len() <= at {
         return None;
     }
-    if word[0] == b'0' {
+    if word[at] == b'0' {
         return None;
     }
     let mut n = 0;
-    for b in word {
-        if !is_digit(*b) {
+    for i in at..word.len() {
+        if !is_digit(word[i]) {
             return None;
         }
-        n = n * 10 + (*b - b'0') as usize;
+        n = n * 10 + (word[i] - b'0') as usize;
         if most < n {
             return None;
         }

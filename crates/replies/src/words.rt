@@ -52,10 +52,10 @@ fn hear_number(word: &[u8], marks: &mut [u8]) -> Stage
         return Stage::Complete;
     }
     if starts_with(word, b"-") {
-        let n = number_within(&word[1..], marks.len());
+        let n = number_within(word, 1, marks.len());
         return hear_literal(n, false, marks);
     }
-    let n = number_within(word, marks.len());
+    let n = number_within(word, 0, marks.len());
     hear_literal(n, true, marks)
 }
 

@@ -1,26 +1,24 @@
 -- Laws of the bytes of cells: one byte, one cell, one table at a time.
 use Prim.Native.Nat.{ℕ, zero, suc, ◌+◌, ◌*◌, ◌≤◌, ◌<◌}
 use mathlib.Core.Path.{◌≡◌, refl, sym, ap, ◌∙◌}
-use mathlib.Core.Bool.{not, Bool, true, false, cond, ◌&&◌}
+use mathlib.Core.Bool.{Bool, true, false, cond, ◌&&◌}
 use mathlib.Core.List.{List, [], ◌∷◌, ◌++◌}
 use native.Mathlib.Nat.{suc-mul, zero-mul, mul-le-mul}
 use native.Mathlib.Omega.{arith}
 use borrow.Author.Tests.{eq-eqb, ne_eqb}
 use lib.Dec.{eqb, ltb}
-use Rattle.std.specs.Prelude.{Some, None, unwrap_or}
-use Rattle.std.specs.List.{count_by, position, position_or_len}
-use Rattle.std.proofs.lemmas.List.Sums.{prefix_len-le-length}
-use Rattle.std.proofs.lemmas.List.Recursion.{is_count_by, is_position_or_len}
+use Rattle.std.specs.List.{count_by}
+use Rattle.std.proofs.lemmas.List.Recursion.{is_count_by}
 use lib.ListN.{length, set, take, drop, replicate}
 use lib.Seq.{drop-drop, take-suc-set}
 use Rattle.theory.specs.Lists.{all, select}
 use Rattle.theory.specs.Syntax.{Kind, function, predicate, Signature}
 use Rattle.theory.specs.Propositional.{width, prop_count}
-use Rattle.theory.specs.Valuation.{is_valuation, has_value, first_one, value_of, all_have_values, values_of}
-use Rattle.theory.proofs.Tests.{ltb-false, eqb-sym, eqb-true, and_left, and_right}
+use Rattle.theory.specs.Valuation.{is_valuation, has_value, value_of, all_have_values, values_of}
+use Rattle.theory.proofs.Tests.{eqb-sym, eqb-true, and_left, and_right}
 use Rattle.valuations.specs.Cells.{bits_at, ones}
 
--- the theory's words are the library's: how many bytes are 1, and the place of the first
+-- the theory's words are the library's: how many bytes are 1
 pub ones-count_by : (bs : List ℕ) → ones bs ≡ count_by (λ b. eqb b 1) bs
 ones-count_by bs = is_count_by ones (λ b. eqb b 1) refl step bs
   where
@@ -30,19 +28,6 @@ ones-count_by bs = is_count_by ones (λ b. eqb b 1) refl step bs
 
     step : (x : ℕ) (xs : List ℕ) → ones (x ∷ xs) ≡ cond (eqb x 1) (1 + ones xs) (ones xs)
     step x xs = either (eqb 1 x) x (select (eqb 1) xs) ∙ ap (λ (b : Bool). cond b (1 + ones xs) (ones xs)) (eqb-sym 1 x)
-
-pub first_one-position : (bs : List ℕ) → first_one bs ≡ unwrap_or (position (λ b. eqb b 1) bs) (length bs)
-first_one-position bs = is_position_or_len first_one is_one refl (λ x xs. ap (λ (n : ℕ). cond (eqb x 1) 0 n) (omega arith)) bs ∙ found (ltb place (length bs)) refl
-  where
-    is_one : ℕ → Bool
-    is_one b = eqb b 1
-
-    place : ℕ
-    place = position_or_len is_one bs
-
-    found : (b : Bool) → ltb place (length bs) ≡ b → place ≡ unwrap_or (cond b (Some place) None) (length bs)
-    found true e = refl
-    found false e = omega (arith, prefix_len-le-length (λ b. not (is_one b)) bs, ltb-false place (length bs) e)
 
 -- a valuation: a byte for each variable, and every byte 0 or 1
 module _ (s : ℕ) (g : Signature) (σ : List ℕ) where

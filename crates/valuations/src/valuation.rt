@@ -74,16 +74,23 @@ fn all_have_results(setting: &[u8], from: PropVar, cells: usize, size: DomainSiz
 fn count_ones(cell: &[u8]) -> usize
     ensures { result ≡ count_by (λ b. eqb b 1) cell.now }
 {
-    cell.iter().filter(|b| **b == 1).count()
+    let mut count = 0;
+    for b in cell {
+        count += usize::from(*b == 1);
+    }
+    count
 }
 
-// The result of the cell with these bytes: the place of the first 1, or, where there is none, their number.
+// The result of the cell with these bytes: the place of the first 1, or, where there is none, their number. From the last byte to the first, since a loop that the bytes could end would be foreseen badly.
 fn first_one(cell: &[u8]) -> Element
     requires { length cell.now ≤ 8 }
     ensures { result.0 ≡ first_one cell.now }
 {
-    let place = cell.iter().position(|b| *b == 1);
-    Element(place.unwrap_or(cell.len()) as u8)
+    let mut place = 0;
+    for d in (0..cell.len()).rev() {
+        place = if cell[d] == 1 { 0 } else { place + 1 };
+    }
+    Element(place)
 }
 
 // The values of a symbol's cells, whose variables start with `from`.

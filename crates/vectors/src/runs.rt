@@ -2,7 +2,7 @@
 use std::io;
 use uniting::merge::WhichSheet;
 use vector_lines::answered::{bytes, counted, explained, judged, plain, search, solved, text};
-use vector_lines::inputs::{Input, input_at};
+use vector_lines::inputs::{Input, whole_input_at};
 use vector_lines::lending::{pattern_bytes, pattern_numbers};
 use vector_lines::lines::{heading, say};
 
@@ -257,7 +257,7 @@ pub fn answer_all(
     let mut at: usize = 0;
     let mut count: u64 = 0;
     while at < stored.len() {
-        let Some(x) = input_at(stored, at) else {
+        let Some(x) = whole_input_at(stored, at) else {
             return say(rt, b"broken\n");
         };
         let sheet = x.sheet;

@@ -2,6 +2,6 @@ use Rattle.replies.proofs.Digits.{Read}
 use Rattle.replies.proofs.numbers.number_within.Given as goal
 
 -- `number_within`: digit after digit, given up above what is asked for.
-abbrev pub invariant-loop-b : goal.invariant-loop-b
-invariant-loop-b l =
-    Read l.word 0 l.most l.n l.b-index
+abbrev pub invariant-loop-i : goal.invariant-loop-i
+invariant-loop-i l =
+    Read l.word l.at l.most l.n l.i

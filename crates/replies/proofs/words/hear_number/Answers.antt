@@ -1,12 +1,5 @@
 -- `hear_number`: the 0, or a number after its sign.
-use Prim.Native.Nat.{◌-◌}
-use mathlib.Core.Path.{sym, ap, ◌∙◌}
-use mathlib.Core.List.{List}
-use Prim.Native.Nat.{ℕ}
-use native.Mathlib.Omega.{arith}
-use lib.ListN.{length, drop, length-drop}
-use lib.Seq.{take_all}
-use Rattle.replies.specs.Hearing.{read_within}
+use mathlib.Core.Path.{sym, ◌∙◌}
 use Rattle.replies.proofs.NumbersHeard.{last-number, negative-number, positive-number}
 use Rattle.replies.proofs.words.hear_number.Goals as goal
 
@@ -18,9 +11,7 @@ hear_literal-requires c = (c.number_within-n.ensures.bounds, c.requires)
 
 pub returns-then-starts_with : goal.returns-then-starts_with
 returns-then-starts_with c = let a = c.args in
-    let digits = take_all (length a.word.now - 1) (drop 1 a.word.now) (omega (arith, length-drop 1 a.word.now)) in
-    negative-number a.marks.now a.word.now (sym c.eq.ensures ∙ c.if-eq.false) _ _ _ c.starts_with.ensures c.if-starts_with.true
-    (c.number_within-n.ensures.number ∙ ap (λ (w : List ℕ). read_within (length a.marks.now) w) digits) c.hear_literal.ensures
+    negative-number a.marks.now a.word.now (sym c.eq.ensures ∙ c.if-eq.false) _ _ _ c.starts_with.ensures c.if-starts_with.true c.number_within-n.ensures.number c.hear_literal.ensures
 
 pub hear_literal-requires-2 : goal.hear_literal-requires-2
 hear_literal-requires-2 c = (c.number_within-n-2.ensures.bounds, c.requires)

@@ -13,7 +13,7 @@ pub offset_bounds-self-k : goal.offset_bounds-self-k
 offset_bounds-self-k c = omega (arith, (innermost-placed _ _ _ _ c.requires c.in-Some.is).few)
 
 pub bounds-self-k : goal.bounds-self-k
-bounds-self-k c = (innermost-placed _ _ _ _ c.requires c.in-Some.is).few
+bounds-self-k c = (innermost-placed _ _ _ _ c.requires c.in-Some.is).in_links
 
 pub returns-clause-tells : goal.returns-clause-tells
 returns-clause-tells c = λ ns k w us r t. rw c.if-p-ne0.false (closed-noted ns k w us _ _ _ t r c.if-p-ne0.false _ c.in-Some.is _ c.linked.ensures)
