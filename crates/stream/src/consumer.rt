@@ -18,7 +18,7 @@ pub trait ClauseConsumer {
 }
 
 // The place after the lines so far, and the number of clauses so far.
-#[derive(Drop)]
+#[derive(Clone, Copy)]
 pub struct Measuring {
     pub at: usize,
     pub count: usize,

@@ -81,7 +81,7 @@ fn count_ones(cell: &[u8]) -> usize
     count
 }
 
-// The result of the cell with these bytes: the place of the first 1, or, where there is none, their number. From the last byte to the first, since a loop that the bytes could end would be foreseen badly.
+// The result of the cell with these bytes: the place of the first 1, or, where there is none, their number. From the last byte to the first, so that no byte decides where the loop ends: the processor would foresee that badly.
 fn first_one(cell: &[u8]) -> Element
     requires { length cell.now ≤ 8 }
     ensures { result.0 ≡ first_one cell.now }
