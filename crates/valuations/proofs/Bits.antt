@@ -7,18 +7,20 @@ use native.Mathlib.Nat.{suc-mul, zero-mul, mul-le-mul}
 use native.Mathlib.Omega.{arith}
 use borrow.Author.Tests.{eq-eqb, ne_eqb}
 use lib.Dec.{eqb, ltb}
-use Rattle.std.specs.List.{count_by}
-use Rattle.std.proofs.lemmas.List.Recursion.{is_count_by}
+use Rattle.std.specs.Prelude.{unwrap_or}
+use Rattle.std.specs.List.{count_by, position}
+use Rattle.std.proofs.lemmas.List.Recursion.{is_count_by, is_position_or_len}
 use lib.ListN.{length, set, take, drop, replicate}
 use lib.Seq.{drop-drop, take-suc-set}
 use Rattle.theory.specs.Lists.{all, select}
 use Rattle.theory.specs.Syntax.{Kind, function, predicate, Signature}
 use Rattle.theory.specs.Propositional.{width, prop_count}
-use Rattle.theory.specs.Valuation.{is_valuation, has_value, value_of, all_have_values, values_of}
+use Rattle.theory.specs.Valuation.{is_valuation, has_value, first_one, value_of, all_have_values, values_of}
 use Rattle.theory.proofs.Tests.{eqb-sym, eqb-true, and_left, and_right}
+use Rattle.text.proofs.Ends.{place-or-length}
 use Rattle.valuations.specs.Cells.{bits_at, ones}
 
--- the theory's words are the library's: how many bytes are 1
+-- the theory's words are the library's: how many bytes are 1, and the place of the first
 pub ones-count_by : (bs : List ℕ) → ones bs ≡ count_by (λ b. eqb b 1) bs
 ones-count_by bs = is_count_by ones (λ b. eqb b 1) refl step bs
   where
@@ -28,6 +30,10 @@ ones-count_by bs = is_count_by ones (λ b. eqb b 1) refl step bs
 
     step : (x : ℕ) (xs : List ℕ) → ones (x ∷ xs) ≡ cond (eqb x 1) (1 + ones xs) (ones xs)
     step x xs = either (eqb 1 x) x (select (eqb 1) xs) ∙ ap (λ (b : Bool). cond b (1 + ones xs) (ones xs)) (eqb-sym 1 x)
+
+pub first_one-position : (bs : List ℕ) → first_one bs ≡ unwrap_or (position (λ b. eqb b 1) bs) (length bs)
+first_one-position bs =
+    is_position_or_len first_one (λ b. eqb b 1) refl (λ x xs. ap (λ (n : ℕ). cond (eqb x 1) 0 n) (omega arith)) bs ∙ sym (place-or-length (λ b. eqb b 1) bs)
 
 -- a valuation: a byte for each variable, and every byte 0 or 1
 module _ (s : ℕ) (g : Signature) (σ : List ℕ) where
